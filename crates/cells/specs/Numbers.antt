@@ -1,5 +1,5 @@
 -- The numbers of a dtype, and the words that stand for them.
-use Rattle.std.specs.Prelude.{◌≡◌, ℕ, ◌<◌, ◌^◌, ◌-◌, ℤ, pos, neg_ℤ, ◌+ℤ◌, ◌-ℤ◌, ◌*ℤ◌, ◌≤ℤ◌, Bool, true, false, if◌then◌else◌}
+use Rattle.std.specs.Prelude.{◌≡◌, ℕ, ◌<◌, ◌^◌, ◌-◌, ◌%◌, ℤ, pos, neg_ℤ, ◌+ℤ◌, ◌-ℤ◌, ◌*ℤ◌, ◌≤ℤ◌, Bool, true, false, if◌then◌else◌}
 use Rattle.std.specs.Int.{w64, cast_signed, cast_unsigned, int_rem_euclid}
 use Rattle.cells.specs.declared.dtype.Dtype.{Dtype}
 use Rattle.cells.specs.declared.dtype.Dtype.TheVariants.{I8, U8, I16, U16, I32, U32, I64, U64}
@@ -51,6 +51,10 @@ number_of dtype word = if is_signed dtype then cast_signed w64 word else pos wor
 pub record IsWord (dtype : Dtype) (word : ℕ) : Type 0 where
   pub in_64_bits : word < 2 ^ 64
   pub held : Holds dtype (number_of dtype word)
+
+-- the low bits of a word, as many as the dtype has
+abbrev pub low_bits : Dtype → ℕ → ℕ
+low_bits dtype word = word % 2 ^ bits_of dtype
 
 -- two numbers differ by a multiple of the modulus
 pub record IsCongruent (modulus : ℕ) (one other : ℤ) : Type 0 where

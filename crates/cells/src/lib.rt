@@ -5,6 +5,8 @@
 #![tactic(auto)]
 
 mod boxed;
+mod bytes;
+mod convert;
 mod dtype;
 mod list;
 mod name;
@@ -12,6 +14,8 @@ mod order;
 mod words;
 
 pub use boxed::Boxed;
+pub use bytes::{put_word, take_word};
+pub use convert::conv;
 pub use dtype::Dtype;
 pub use list::List;
 pub use name::Name;
