@@ -1,2 +1,4 @@
 pub mod ByteLaws
 pub mod NumberLaws
+pub mod PlaceLaws
+pub mod PlaceSteps

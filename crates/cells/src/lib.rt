@@ -11,6 +11,7 @@ mod dtype;
 mod list;
 mod name;
 mod order;
+mod places;
 mod words;
 
 pub use boxed::Boxed;
@@ -20,4 +21,5 @@ pub use dtype::Dtype;
 pub use list::List;
 pub use name::Name;
 pub use order::Order;
+pub use places::{count_cells, index_of, place};
 pub use words::{Index, Sizes, Words};
