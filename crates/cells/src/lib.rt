@@ -1,0 +1,29 @@
+//! Numbers and words of the eight dtypes, and the lists that public types hold.
+//!
+//! Other crates rest on three things: a list type equals the list of its values in every contract, `Boxed` equals the
+//! value inside, and a word stands for the number that `number_of` says.
+#![tactic(auto)]
+
+mod boxed;
+mod bytes;
+mod convert;
+mod dense;
+mod dtype;
+mod list;
+mod name;
+mod order;
+mod places;
+mod run;
+mod words;
+
+pub use boxed::Boxed;
+pub use bytes::{put_word, take_word};
+pub use convert::conv;
+pub use dense::Dense;
+pub use dtype::Dtype;
+pub use list::List;
+pub use name::Name;
+pub use order::Order;
+pub use places::{count_cells, index_of, place};
+pub use run::Run;
+pub use words::{Index, Sizes, Words};
