@@ -1,6 +1,6 @@
 ghost use Rattle.std.specs.Prelude.{◌≡◌, ◌≢◌, ℤ, pos, ◌≤ℤ◌, ◌<ℤ◌, ◌+ℤ◌, ◌*ℤ◌, ◌↔◌, unsigned_abs, IsTrue, IsOk, IfOk};
 ghost use Rattle.std.specs.Int.{int_min};
-ghost use Rattle.index_intervals.specs.Bounds.{Bounds, AreBounds, IsIndex, minus_infinity, plus_infinity};
+ghost use Rattle.index_intervals.specs.Bounds.{Bounds, AreBounds, IsIndex, is_index, minus_infinity, plus_infinity};
 ghost use Rattle.index_intervals.specs.Members.{IsMember, IsEffectiveMember, IsWithin, effective_lo, effective_hi, effective_bounds};
 ghost use Rattle.index_intervals.specs.Meet.{met, lower, upper, greater_bound, lesser_bound, IsTieFlag};
 ghost use Rattle.index_intervals.specs.Shift.{moved, shifted, CanShift};
@@ -14,7 +14,8 @@ pub const INFINITY: i64 = 4_611_686_018_427_387_903;
 
 /// Whether a number is a finite index, which lies within 2^62 - 2 of 0.
 pub fn is_index(x: i128) -> bool
-    ensures { IsTrue result ↔ IsIndex x }
+    ensures meaning { IsTrue result ↔ IsIndex x }
+    ensures value { result ≡ is_index x }
 {
     let limit = i128::from(INFINITY);
     -limit < x && x < limit
