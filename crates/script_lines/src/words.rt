@@ -1,5 +1,6 @@
-ghost use Rattle.std.specs.Prelude.{◌≡◌, IfOk, option_map};
+ghost use Rattle.std.specs.Prelude.{◌≡◌, All, IfOk, IfSome, option_map};
 ghost use Rattle.serde_json.specs.View.{view};
+ghost use Rattle.cells.specs.Numbers.{IsWord};
 ghost use Rattle.script_lines.specs.ListedWords.{word_of_value, words_of};
 
 use cells::Dtype;
@@ -12,7 +13,8 @@ use std::alloc::{AllocError, Global};
 /// # Errors
 /// An allocation failed.
 pub fn words_of_values(alloc: Global, values: &Value) -> Result<Option<Vec<u64>>, AllocError>
-    ensures { IfOk result (λ words. option_map (λ v. v.items) words ≡ words_of (view values.now)) }
+    ensures value { IfOk result (λ words. option_map (λ v. v.items) words ≡ words_of (view values.now)) }
+    ensures words { IfOk result (λ words. IfSome words (λ v. All (IsWord Dtype.I32) v.items)) }
 {
     let Some(items) = list_items(values) else {
         return Ok(None);
@@ -28,7 +30,8 @@ pub fn words_of_values(alloc: Global, values: &Value) -> Result<Option<Vec<u64>>
 }
 
 fn word_of_value(value: &Value) -> Option<u64>
-    ensures { result ≡ word_of_value (view value.now) }
+    ensures value { result ≡ word_of_value (view value.now) }
+    ensures word { IfSome result (IsWord Dtype.I32) }
 {
     let number = whole_number(value)?;
     if Dtype::I32.holds(number) {
