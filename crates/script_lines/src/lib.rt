@@ -12,6 +12,8 @@ mod cutting;
 mod error;
 mod form;
 mod rendering;
+#[cfg(test)]
+mod tests;
 mod texts;
 mod words;
 
