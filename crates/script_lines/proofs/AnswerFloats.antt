@@ -1,5 +1,5 @@
 -- No answer has a float, so that each may be written.
-use Rattle.std.proofs.Common.{◌≡◌, ℕ, List, [], ◌∷◌, false, Some, None, codes, refl}
+use Rattle.std.proofs.Common.{◌≡◌, ℕ, List, ◌∷◌, false, Some, None, codes, refl}
 use Rattle.std.specs.List.{AllByRecursion}
 use Rattle.serde_json.specs.Written.{has_float}
 use Rattle.cells.specs.Numbers.{number_of}

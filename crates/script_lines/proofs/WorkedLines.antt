@@ -1,5 +1,5 @@
 -- Lines and answers that are known from outside, computed.
-use Rattle.std.proofs.Common.{◌≡◌, ℕ, List, [], ◌∷◌, ◌++◌, codes, Some, None, refl}
+use Rattle.std.proofs.Common.{◌≡◌, List, [], ◌∷◌, ◌++◌, codes, Some, None, refl}
 use Rattle.std.specs.Fmt.{digits}
 use Rattle.std.specs.Str.{is_utf8, chars}
 use Rattle.serde_json.proofs.OnLiterals.{serde_json_on_literals}
@@ -12,7 +12,7 @@ use Rattle.script_lines.specs.ListedWords.{words_of}
 use Rattle.script_lines.specs.AnswerText.{text_of}
 use Rattle.script_lines.specs.Status.{status_of}
 use Rattle.script_lines.specs.declared.answer.Answer.{Answer}
-use Rattle.script_lines.specs.declared.answer.Body.TheVariants.{Opened, Written, Values, BadLine, UnknownName, StoreFailed, NotBuilt, Memory}
+use Rattle.script_lines.specs.declared.answer.Body.TheVariants.{Opened, Written, Values, BadLine, UnknownName, StoreFailed, NotBuilt}
 
 -- an array of 3 cells in chunks of 2 is opened, written and read
 pub opens : command_of_line (codes "{\"open\":\"a\",\"spec\":{\"driver\":\"zarr\",\"kvstore\":{\"driver\":\"memory\",\"path\":\"a\"},\"metadata\":{\"chunks\":[2],\"dtype\":\"<i4\",\"shape\":[3]},\"create\":true}}") ≡ opening (codes "a") (record { path = codes "a"; size = 3; chunk = 2 })

@@ -24,7 +24,7 @@ numbers ns = list_of (map natural ns)
 abbrev pub values_of : List ℕ → Data
 values_of words = list_of (map (λ word. integer (number_of I32 word)) words)
 
--- from 0 to a size that may be passed
+-- the indices from 0, explicit, to a size that may grow
 abbrev pub domain_of : ℕ → Data
 domain_of size = object_of ((codes "exclusive_max", list_of (numbers (size ∷ []) ∷ [])) ∷ (codes "inclusive_min", numbers (0 ∷ [])) ∷ [])
 
@@ -32,6 +32,7 @@ domain_of size = object_of ((codes "exclusive_max", list_of (numbers (size ∷ [
 abbrev pub failure_of : ℕ → List ℕ → Data
 failure_of event done = object_of ((codes "done", numbers done) ∷ (codes "event", natural event) ∷ [])
 
+-- the events that a refused open added
 abbrev pub events_part : Option (List ℕ) → Parts
 events_part None = []
 events_part (Some events) = (codes "events", numbers events) ∷ []
@@ -47,6 +48,7 @@ parts_of (StoreFailed event done events) = (codes "store_failed", failure_of eve
 parts_of NotBuilt = (codes "not_built", boolean true) ∷ []
 parts_of Memory = (codes "memory", boolean true) ∷ []
 
+-- the object of an answer
 abbrev pub answer_data : Answer → Data
 answer_data answer = object_of ((codes "line", natural answer.line) ∷ parts_of answer.body)
 

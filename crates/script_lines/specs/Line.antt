@@ -17,6 +17,7 @@ pub data Line : Type 0 where
   reading : List ℕ → Line
   not_built : Line
 
+-- what f gives of the value, where there is one
 infixl 10 ◌>>=◌
 abbrev pub ◌>>=◌ : {A B : Type 0} → Option A → (A → Option B) → Option B
 o >>= f = option_and_then f o
@@ -95,9 +96,11 @@ first_form [] = not_built
 first_form (None ∷ forms) = first_form forms
 first_form (Some line ∷ forms) = line
 
+-- what the JSON of a line asks for
 abbrev pub line_of_data : Data → Line
 line_of_data d = first_form (open_form d ∷ write_form d ∷ read_form d ∷ [])
 
+-- the same, where there may be no JSON
 abbrev pub line_of_found : Option Data → Line
 line_of_found None = not_json
 line_of_found (Some d) = line_of_data d

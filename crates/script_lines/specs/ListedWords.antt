@@ -11,6 +11,7 @@ use Rattle.json_forms.specs.Lists.{list_items, all_of}
 abbrev pub is_held : Dtype → ℤ → Bool
 is_held dtype number = int_le (least_of dtype) number && int_le number (greatest_of dtype)
 
+-- the word of a number in int32's range
 abbrev pub word_of_number : ℤ → Option ℕ
 word_of_number number = if is_held I32 number then Some (word_of number) else None
 

@@ -1,5 +1,5 @@
 -- The line that a command is.
-use Rattle.std.specs.Prelude.{Option, Some, None, option_map, unwrap_or}
+use Rattle.std.specs.Prelude.{Option, Some, None, option_map}
 use Rattle.serde_json.specs.View.{view}
 use Rattle.script_lines.specs.Line.{Line, opening, writing, reading, not_built}
 use Rattle.script_lines.specs.declared.command.Command.{Command}

@@ -5,6 +5,7 @@ use Rattle.script_lines.specs.declared.answer.Answer.{Answer}
 use Rattle.script_lines.specs.declared.answer.Body.{Body}
 use Rattle.script_lines.specs.declared.answer.Body.TheVariants.{Opened, Written, Values, BadLine, UnknownName, StoreFailed, NotBuilt, Memory}
 
+-- the bodies of lines that did what they ask for
 abbrev pub is_ok_body : Body → Bool
 is_ok_body (Opened name size event) = true
 is_ok_body (Written cells event) = true

@@ -1,4 +1,3 @@
-use Rattle.std.proofs.Common.{ℕ}
 use Rattle.std.specs.Prelude.{All}
 use Rattle.cells.specs.Numbers.{IsWord}
 use Rattle.cells.specs.declared.dtype.Dtype.TheVariants.{I32}
