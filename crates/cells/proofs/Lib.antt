@@ -1,2 +1,5 @@
 pub mod ByteLaws
+pub mod IndexVectors
 pub mod NumberLaws
+pub mod PlaceLaws
+pub mod PlaceSteps

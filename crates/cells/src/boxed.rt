@@ -1,4 +1,5 @@
 ghost use Rattle.std.specs.Prelude.{◌≡◌, IfOk};
+ghost use Rattle.std.specs.Borrow.{Lends, sem};
 
 use std::alloc::{AllocError, Global};
 use std::marker::Model;
@@ -33,11 +34,21 @@ impl<T: Drop> Boxed<T> {
 }
 
 impl<T> Boxed<T> {
+    ghost use Rattle.cells.specs.contracts.boxed.Boxed.{the_row};
+
     /// The value inside.
     pub fn get(&self) -> &T
         ensures { result.now ≡ self.now }
     {
         &self.inner
+    }
+
+    /// The value inside, to be changed.
+    pub fn get_mut(&mut self) -> &mut T
+        ensures* writes_back { sem 𝓛 (Lends (the_row T.row) T.row self.entry result (λ value. value)) }
+        ensures value { result.now ≡ self.old }
+    {
+        &mut self.inner
     }
 
     /// Takes the value out; its memory is given back.

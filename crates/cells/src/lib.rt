@@ -7,17 +7,23 @@
 mod boxed;
 mod bytes;
 mod convert;
+mod dense;
 mod dtype;
 mod list;
 mod name;
 mod order;
+mod places;
+mod run;
 mod words;
 
 pub use boxed::Boxed;
 pub use bytes::{put_word, take_word};
 pub use convert::conv;
+pub use dense::Dense;
 pub use dtype::Dtype;
 pub use list::List;
 pub use name::Name;
 pub use order::Order;
+pub use places::{count_cells, index_of, place};
+pub use run::Run;
 pub use words::{Index, Sizes, Words};

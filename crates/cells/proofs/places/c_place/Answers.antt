@@ -1,0 +1,21 @@
+use Rattle.std.proofs.Common.{arith, add-one}
+use Rattle.cells.proofs.PlaceLaws.{IsInside-length}
+use Rattle.cells.proofs.PlaceSteps.{c_place-step, c_place-bound}
+use Rattle.cells.proofs.places.c_place.Goals as goal
+
+pub overflow_mul-place : goal.overflow_mul-place
+overflow_mul-place c =
+    let bound = c_place-bound c.args.shape.now c.args.index.now c.loop-k.k c.loop-k.place c.requires.inside c.loop-k-test.true c.loop-k.invariant in
+    omega arith
+
+pub bounds-index-k : goal.bounds-index-k
+bounds-index-k c = omega (arith, IsInside-length c.args.shape.now c.args.index.now c.requires.inside)
+
+pub overflow_add-place : goal.overflow_add-place
+overflow_add-place c =
+    let bound = c_place-bound c.args.shape.now c.args.index.now c.loop-k.k c.loop-k.place c.requires.inside c.loop-k-test.true c.loop-k.invariant in
+    omega arith
+
+pub loop-k-preserved : goal.loop-k-preserved
+loop-k-preserved c =
+    rw (add-one c.loop-k.k) (c_place-step c.args.shape.now c.args.index.now c.loop-k.k c.loop-k.place c.requires.inside c.loop-k-test.true c.loop-k.invariant)
