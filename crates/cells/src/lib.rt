@@ -14,6 +14,8 @@ mod name;
 mod order;
 mod places;
 mod run;
+#[cfg(test)]
+mod tests;
 mod words;
 
 pub use boxed::Boxed;
