@@ -123,6 +123,15 @@ IsInside-below (size ∷ shape) [] k inside within = absurd inside
 IsInside-below (size ∷ shape) (i ∷ index) zero inside within = inside.0
 IsInside-below (size ∷ shape) (i ∷ index) (suc k) inside within = IsInside-below shape index k inside.1 (omega arith)
 
+-- and that is all
+pub IsInside-from_below : (shape index : List ℕ) → length index ≡ length shape → ((k : ℕ) → k < length shape → slice_index index k < slice_index shape k)
+    → IsInside shape index
+IsInside-from_below [] [] same below = tt
+IsInside-from_below [] (i ∷ index) same below = absurd (omega (arith, same))
+IsInside-from_below (size ∷ shape) [] same below = absurd (omega (arith, same))
+IsInside-from_below (size ∷ shape) (i ∷ index) same below =
+    (below 0 (omega arith), IsInside-from_below shape index (omega (arith, same)) (λ k within. below (suc k) (omega arith)))
+
 -- the indices from k on lie inside the sizes from k on
 pub IsInside-drop : (k : ℕ) (shape index : List ℕ) → IsInside shape index → IsInside (drop k shape) (drop k index)
 IsInside-drop zero shape index inside = inside

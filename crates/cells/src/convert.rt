@@ -8,7 +8,6 @@ use crate::dtype::Dtype;
 ///
 /// TensorStore, driver `cast`, conversion of integers.
 pub fn conv(from: Dtype, word: u64, to: Dtype) -> u64
-    requires { IsWord from word }
     ensures value { result ≡ conv_word from word to }
     ensures word { IsWord to result }
     ensures congruent { IsConverted to (number_of from word) (number_of to result) }
