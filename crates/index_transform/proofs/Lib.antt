@@ -1,0 +1,4 @@
+pub mod MapLemmas
+pub mod EntryLemmas
+pub mod ListLemmas
+pub mod InsideLemmas

@@ -1,0 +1,42 @@
+ghost use Rattle.std.specs.Prelude.{◌≡◌};
+ghost use Rattle.index_transform.specs.declared.error.AtError.TheVariants.{Memory};
+
+use std::alloc::AllocError;
+use thiserror::Error;
+
+/// Why a domain and maps make no transform.
+#[derive(Clone, Copy, Debug, PartialEq, Eq, Error)]
+pub enum TransformError {
+    /// There are more than 32 dimensions or outputs, or not one label per dimension.
+    #[error("a rank is over 32, or labels and dimensions differ in number")]
+    BadRank,
+    /// A label comes twice or has more than 64 bytes.
+    #[error("a label comes twice or is too long")]
+    BadLabel,
+    /// The map of this output doesn't go from the dimensions.
+    #[error("the map of output {output} doesn't fit the domain")]
+    BadMap { output: u32 },
+    #[error("out of memory")]
+    Memory,
+}
+
+/// Why a transform has no value at an index vector.
+#[derive(Clone, Copy, Debug, PartialEq, Eq, Error)]
+pub enum AtError {
+    /// The index lies outside the effective interval of this dimension.
+    #[error("the index leaves dimension {dim}")]
+    OutOfRange { dim: u32 },
+    /// The number of this output is no finite index.
+    #[error("the number of output {output} is no index")]
+    Overflow { output: u32 },
+    #[error("out of memory")]
+    Memory,
+}
+
+impl From<AllocError> for AtError {
+    ghost from_gives = { λ _ e. e ≡ Memory };
+
+    fn from(_: AllocError) -> AtError {
+        AtError::Memory
+    }
+}
