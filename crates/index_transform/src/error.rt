@@ -33,6 +33,17 @@ pub enum AtError {
     Memory,
 }
 
+/// Why the cells of a domain are not counted.
+#[derive(Clone, Copy, Debug, PartialEq, Eq, Error)]
+pub enum CountError {
+    /// The interval of this dimension is infinite.
+    #[error("dimension {dim} is infinite")]
+    Unbounded { dim: u32 },
+    /// The sizes up to this dimension have a product over 2^22.
+    #[error("the cells up to dimension {dim} are too many")]
+    TooMany { dim: u32 },
+}
+
 impl From<AllocError> for AtError {
     ghost from_gives = { λ _ e. e ≡ Memory };
 

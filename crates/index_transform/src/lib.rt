@@ -5,13 +5,16 @@
 //! each call gives.
 #![tactic(auto)]
 
+mod count;
 mod domain;
 mod error;
 mod map;
 mod transform;
 mod value;
+mod walk;
 
 pub use domain::Domain;
-pub use error::{AtError, TransformError};
+pub use error::{AtError, CountError, TransformError};
 pub use map::OutMap;
 pub use transform::Transform;
+pub use walk::Walk;
