@@ -1,16 +1,15 @@
 -- One cell after another.
-use Rattle.std.proofs.Common.{◌≡◌, ◌∙◌, zero, suc, ℕ, ◌+◌, ◌<◌, ◌≤◌, ◌==◌, Bool, true, false, cond, not, ◌&&◌, ◌||◌, List, [], ◌∷◌, ◌++◌, length, map, drop, take, get_or, refl, sym, ap, subst, arith, ℤ, pos, ◌+ℤ◌, ◌-ℤ◌, ◌≤ℤ◌, ◌<ℤ◌, Option, Some, None, unsigned_abs, append_assoc}
+use Rattle.std.proofs.Common.{◌≡◌, ◌∙◌, zero, suc, ℕ, ◌+◌, ◌<◌, ◌≤◌, ◌==◌, Bool, true, false, cond, not, List, [], ◌∷◌, ◌++◌, length, map, drop, take, get_or, refl, sym, ap, subst, arith, ℤ, pos, ◌+ℤ◌, ◌-ℤ◌, ◌≤ℤ◌, ◌<ℤ◌, Option, Some, None, unsigned_abs, append_assoc}
 use Rattle.std.specs.Bool.{OnFalse, MatchBool}
 use Rattle.std.proofs.Math.ListN.{set}
 use Rattle.std.proofs.Math.Seq.{drop-cons, take-suc, take-append_seam}
 use Rattle.std.proofs.lemmas.List.{length-take-le}
-use Rattle.std.proofs.lemmas.Int.{ints, by_lt_z}
-use Rattle.std.proofs.lemmas.Bool.Decides.{nat_tests}
+use Rattle.std.proofs.lemmas.Int.{ints}
 use Rattle.std.specs.List.{flat_map, list_any}
 use Rattle.std.specs.Int.RustNames.{int_lt}
 use Rattle.index_intervals.specs.Bounds.{Bounds}
 use Rattle.index_transform.specs.Maps.{size_of}
-use Rattle.index_transform.specs.Cells.{counting, members_of, cells_of}
+use Rattle.index_transform.specs.Cells.{counting, cells_of}
 use Rattle.index_transform.specs.Walks.{CellsLeft, IsNonEmpty, IsWalk, cells_from, lows, left_of, IsCell, after_some, next_cell}
 use Rattle.index_transform.proofs.CellLemmas.{length-cells_of, cell_count-empty}
 use Rattle.std.proofs.lemmas.List.{nil_from_length, length-map}

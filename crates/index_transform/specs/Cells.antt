@@ -1,6 +1,6 @@
 -- The index vectors of a finite domain in C order, and how many there are.
-use Rattle.std.specs.Prelude.{◌≡◌, ℕ, zero, suc, ◌+◌, ◌*◌, ◌<◌, nat_le, ◌==◌, ℤ, pos, ◌+ℤ◌, ◌-ℤ◌, int_lt, unsigned_abs, Bool, not, ◌&&◌, if◌then◌else◌, List, [], ◌∷◌, ◌++◌, length, map, Option, Some, None, Result, Ok, Err}
-use Rattle.std.specs.List.{flat_map, list_all, list_any, position_from}
+use Rattle.std.specs.Prelude.{ℕ, zero, suc, ◌+◌, ◌*◌, nat_le, ◌==◌, ℤ, pos, ◌+ℤ◌, Bool, not, ◌&&◌, if◌then◌else◌, List, [], ◌∷◌, map, Option, Some, None, Result, Ok, Err}
+use Rattle.std.specs.List.{flat_map, list_any, position_from}
 use Rattle.index_intervals.specs.Bounds.{Bounds, is_index}
 use Rattle.index_transform.specs.Maps.{size_of}
 use Rattle.index_transform.specs.declared.error.CountError.{CountError}

@@ -18,3 +18,6 @@ pub use error::{AtError, CountError, TransformError};
 pub use map::OutMap;
 pub use transform::Transform;
 pub use walk::Walk;
+
+#[cfg(test)]
+mod tests;
