@@ -4,3 +4,6 @@ pub mod ListLemmas
 pub mod InsideLemmas
 pub mod CellLemmas
 pub mod WalkLemmas
+pub mod EdgeLemmas
+pub mod TightLemmas
+pub mod FitLemmas

@@ -7,14 +7,16 @@
 
 mod count;
 mod domain;
+mod edge;
 mod error;
 mod map;
+mod tighten;
 mod transform;
 mod value;
 mod walk;
 
 pub use domain::Domain;
-pub use error::{AtError, CountError, TransformError};
+pub use error::{AtError, ComposeError, CountError, TransformError};
 pub use map::OutMap;
 pub use transform::Transform;
 pub use walk::Walk;

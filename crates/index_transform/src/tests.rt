@@ -238,3 +238,80 @@ fn an_empty_domain_has_no_cell(rt: HostRuntime) -> Result<(), Fail> {
     assert!(rt; matches!(t.at(alloc, &[0, 0]), Err(AtError::OutOfRange { dim: 0 })));
     Ok(())
 }
+
+fn first_dim(t: &Transform) -> Option<(i64, i64, bool, bool)> {
+    let dim = t.domain().dims.items().first()?;
+    Some((dim.lo, dim.hi, dim.lo_implicit, dim.hi_implicit))
+}
+
+#[test]
+fn open_bounds_are_tightened(rt: HostRuntime) -> Result<(), Fail> {
+    let alloc = rt.alloc();
+    let rows = [
+        (
+            (0, INFINITY, true),
+            1,
+            2,
+            (0, 8, false),
+            (0, 3, false, false),
+        ),
+        (
+            (-INFINITY, 3, true),
+            1,
+            -2,
+            (-6, 10, true),
+            (-4, 3, true, false),
+        ),
+        ((0, 9, true), 0, 1, (-3, 4, true), (0, 4, false, true)),
+        ((5, 9, true), 0, 1, (0, 2, false), (5, 4, false, false)),
+        (
+            (-INFINITY, INFINITY, true),
+            0,
+            2,
+            (1, 1, false),
+            (1, 0, false, false),
+        ),
+        ((1, 2, false), 0, -3, (-6, 0, false), (1, 2, false, false)),
+    ];
+    for (inner, offset, stride, outer, after) in rows {
+        let map = OutMap::Strided {
+            offset,
+            stride,
+            dim: 0,
+        };
+        let mut t = transform(alloc, &[inner], map)??;
+        t.tighten(alloc, &domain(alloc, &[(7, 7, false), outer])?)?;
+        assert_eq!(rt; first_dim(&t), Some(after));
+    }
+    Ok(())
+}
+
+#[test]
+fn a_refusal_leaves_the_domain(rt: HostRuntime) -> Result<(), Fail> {
+    let alloc = rt.alloc();
+    let rows = [
+        ((0, 9, false), 1, 8, ComposeError::Outside { output: 1 }),
+        (
+            (-INFINITY, 9, true),
+            INFINITY - 1,
+            8,
+            ComposeError::Overflow { output: 1 },
+        ),
+        ((0, 9, true), -9, -1, ComposeError::Outside { output: 0 }),
+    ];
+    for ((lo, hi, implicit), offset, bound, error) in rows {
+        let map = OutMap::Strided {
+            offset,
+            stride: 1,
+            dim: 0,
+        };
+        let mut t = transform(alloc, &[(lo, hi, implicit)], map)??;
+        let first = if bound < 0 { 6 } else { 7 };
+        let outer = domain(alloc, &[(0, first, false), (1 - INFINITY, bound, false)])?;
+        assert_eq!(rt; t.tighten(alloc, &outer).err(), Some(error));
+        assert_eq!(rt; first_dim(&t), Some((lo, hi, false, implicit)));
+        let narrow = domain(alloc, &[(0, 9, false)])?;
+        assert_eq!(rt; t.tighten(alloc, &narrow).err(), Some(ComposeError::Rank));
+    }
+    Ok(())
+}

@@ -1,10 +1,13 @@
-ghost use Rattle.std.specs.Prelude.{◌≡◌, map};
-ghost use Rattle.index_transform.specs.Maps.{plain_map};
+ghost use Rattle.std.specs.Prelude.{◌≡◌, IsTrue, length, map};
+ghost use Rattle.std.specs.List.{list_all};
+ghost use Rattle.index_transform.specs.Maps.{is_map, plain_map};
+ghost use Rattle.index_transform.specs.Tightening.{on_dims};
 
 use crate::domain::{Domain, are_labels};
 use crate::error::TransformError;
 use crate::map::{OutMap, first_bad_map, ranks_fit};
 use cells::List;
+use index_intervals::Interval;
 use std::marker::Model;
 use std::mem;
 
@@ -74,6 +77,15 @@ impl Transform {
         ensures well_formed { IsTransform self.now }
     {
         self.maps.items()
+    }
+
+    // Puts other dimensions in place of the domain's.
+    pub(crate) fn set_dims(&mut self, dims: Vec<Interval>)
+        requires rank { length dims.items ≡ length self.old.domain.dims }
+        requires fit { IsTrue (list_all (is_map dims.items) self.old.maps) }
+        ensures { self.new ≡ on_dims self.old dims.items }
+    {
+        self.domain.dims = List::wrap(dims);
     }
 }
 

@@ -98,13 +98,13 @@ fn first_outside(dims: &[Interval], index: &[i64]) -> Option<usize>
 }
 
 // Whether the index is an effective member of the interval.
-fn is_effective(dim: &Interval, x: i64) -> bool
+pub(crate) fn is_effective(dim: &Interval, x: i64) -> bool
     ensures { result ≡ is_effective dim.now x }
 {
     is_index(x.into()) && (dim.lo_implicit || dim.lo <= x) && (dim.hi_implicit || x <= dim.hi)
 }
 
-fn scaled(offset: i64, stride: i64, x: i64) -> i128
+pub(crate) fn scaled(offset: i64, stride: i64, x: i64) -> i128
     ensures { result ≡ offset +ℤ stride *ℤ x }
 {
     i128::from(offset) + i128::from(stride) * i128::from(x)
