@@ -3,3 +3,4 @@ pub mod Turning
 pub mod Dealing
 pub mod Closing
 pub mod Crossing
+pub mod Histories
