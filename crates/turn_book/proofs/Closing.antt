@@ -2,21 +2,22 @@
 use Rattle.std.proofs.Common.{◌≡◌, ◌≢◌, ℕ, ◌<◌, true, false, List, [], ◌∷◌, ◌++◌, map, get_or, set, refl, ap, sym, subst, ◌∙◌, inl, inr, ⊎_elim, Option, Some, None, All}
 use Rattle.std.specs.Option.{option_to_list}
 use Rattle.std.specs.List.{AllByRecursion}
-use Rattle.std.proofs.lemmas.List.Elements.{All-from_recursion}
+use Rattle.std.proofs.lemmas.List.Elements.{All-from_recursion, recursion_from_All}
 use mathlib.Core.Logic.{dite}
 use mathlib.Core.Option.{some, some-injective}
 use native.Mathlib.Decide.{ℕ_discrete}
 use lib.ListN.{get_elem?}
 use Rattle.atomic_table.specs.Table.{State, Joins, Final, Seen}
+use Rattle.atomic_table.specs.Seated.{TableId}
 use Rattle.atomic_table.proofs.Lists.{set_else}
 use Rattle.turn_book.specs.declared.view.Claim.{Claim}
 use Rattle.turn_book.specs.declared.view.SeatView.{SeatView}
-use Rattle.turn_book.specs.Passes.{BookView, PassView, HasNumber, pass_at}
+use Rattle.turn_book.specs.Passes.{BookView, PassView, IsIdle, HasNumber, pass_at}
 use Rattle.turn_book.specs.Views.{claim, spent, claims_in, claims_of, united}
 use Rattle.turn_book.specs.Seats.{Among, HasAll, claim_of, with_claims}
 use Rattle.turn_book.specs.Rule.{Fits, Knows, KeepsTurn}
 use Rattle.turn_book.specs.Steps.{Sitting, Ends}
-use Rattle.turn_book.proofs.Lists.{each_map, each_append, views_stay, set_at, among_at}
+use Rattle.turn_book.proofs.Lists.{each_map, each_append, each_last, views_stay, set_at, among_at}
 use Rattle.turn_book.proofs.Turning.{own_claim}
 use Rattle.turn_book.proofs.Dealing.{moved, moved_here, moved_else}
 
@@ -145,8 +146,8 @@ module _ {E F : Type 0} where
       ∙ ap (λ (k : Sitting _ E F). (record k.0 { further = w.own ∷ k.0.further }, k.1)) e)
 
   -- a pass's seat has the claim of the pass
-  pub own_claim_is : (book : BookView F) (n : ℕ) (v : SeatView E F) (p : PassView E F) → pass_at book n v ≡ p → v.own.number ≡ n → v.own ≡ claim_of p
-  own_claim_is book n v p is number = ap (λ k. claim k v.own.seen v.own.mine) number ∙ ap claim_of is
+  pub own_claim_is : (id : TableId) (n : ℕ) (v : SeatView E F) (p : PassView E F) → pass_at id n v ≡ p → v.own.number ≡ n → v.own ≡ claim_of p
+  own_claim_is id n v p is number = ap (λ k. claim k v.own.seen v.own.mine) number ∙ ap claim_of is
 
   mapped : (k : ℕ) (ps : List (PassView E F)) (cs : List (Claim E)) → Among (λ p. p.number ≡ k) ps → Among (λ c. c.number ≡ k) (map claim_of ps ++ cs)
   mapped k [] cs a = absurd a
@@ -169,23 +170,26 @@ module _ {E F : Type 0} where
 pub popped : {A : Type 0} (all rest : List A) (o : Option A) (x : A) → all ≡ rest ++ option_to_list o → o ≡ Some x → all ≡ rest ++ x ∷ []
 popped all rest o x e is = e ∙ ap (λ p. rest ++ option_to_list p) is
 
+pub last_idle : {E F : Type 0} (book : BookView F) (all rest : List (PassView E F)) (last : PassView E F) → All (IsIdle book) all → all ≡ rest ++ last ∷ [] → IsIdle book last
+last_idle book all rest last idle whole = each_last (IsIdle book) rest last (subst (AllByRecursion (IsIdle book)) whole (recursion_from_All (IsIdle book) all idle))
+
 -- the seat of the last pass has taken in the claims of the rest
-module _ {S E F : Type 0} (all rest : List (PassView E F)) (last : PassView E F) (book : BookView F) (n : ℕ) (f : F) (m after : Sitting S E F) where
-  closing_claims : pass_at book n m.0 ≡ last → m.0.own.number ≡ n → m.0.fixed ≡ Some f → after ≡ with_claims m (map claim_of rest)
+module _ {S E F : Type 0} (all rest : List (PassView E F)) (last : PassView E F) (id : TableId) (n : ℕ) (f : F) (m after : Sitting S E F) where
+  closing_claims : pass_at id n m.0 ≡ last → m.0.own.number ≡ n → m.0.fixed ≡ Some f → after ≡ with_claims m (map claim_of rest)
       → claims_of after.0 ≡ claim_of last ∷ (map claim_of rest ++ m.0.further)
   closing_claims is number live now =
       ap (λ (k : Sitting S E F). claims_of k.0) now
       ∙ (live_claims m.0.fixed f m.0.own (map claim_of rest ++ m.0.further) live
-      ∙ ap (λ c. c ∷ (map claim_of rest ++ m.0.further)) (own_claim_is book n m.0 last is number))
+      ∙ ap (λ c. c ∷ (map claim_of rest ++ m.0.further)) (own_claim_is id n m.0 last is number))
 
-  pub has_all : (count : ℕ) → all ≡ rest ++ last ∷ [] → pass_at book n m.0 ≡ last → m.0.own.number ≡ n → m.0.fixed ≡ Some f → after ≡ with_claims m (map claim_of rest)
+  pub has_all : (count : ℕ) → all ≡ rest ++ last ∷ [] → pass_at id n m.0 ≡ last → m.0.own.number ≡ n → m.0.fixed ≡ Some f → after ≡ with_claims m (map claim_of rest)
       → ((k : ℕ) → k < count → HasNumber all k) → HasAll count after.0
   has_all count whole is number live now each k below =
       let t = each k below in
       subst (Among (λ c. c.number ≡ k)) (sym (closing_claims is number live now))
       (among_claims k rest last m.0.further (subst (Among (λ p. p.number ≡ k)) whole (among_at (λ p. p.number ≡ k) all t.0 t.1 t.2)))
 
-  pub all_fit : (owner : E → ℕ) (history : List E) (count : ℕ) → all ≡ rest ++ last ∷ [] → pass_at book n m.0 ≡ last → m.0.own.number ≡ n → m.0.fixed ≡ Some f → after ≡ with_claims m (map claim_of rest)
+  pub all_fit : (owner : E → ℕ) (history : List E) (count : ℕ) → all ≡ rest ++ last ∷ [] → pass_at id n m.0 ≡ last → m.0.own.number ≡ n → m.0.fixed ≡ Some f → after ≡ with_claims m (map claim_of rest)
       → AllByRecursion (Fits owner history count) (claims_of after.0) → All (λ p. Fits owner history count (claim_of p)) all
   all_fit owner history count whole is number live now fit =
       All-from_recursion (λ p. Fits owner history count (claim_of p)) all

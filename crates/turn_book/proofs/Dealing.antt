@@ -8,6 +8,8 @@ use Rattle.atomic_table.specs.Table.{State, Splits, opening}
 use Rattle.atomic_table.proofs.Lists.{set_else, at_longer}
 use Rattle.turn_book.specs.declared.view.Claim.{Claim}
 use Rattle.turn_book.specs.declared.view.SeatView.{SeatView}
+use Rattle.atomic_table.specs.Seated.{TableId}
+use Rattle.turn_book.specs.Passes.{BookView, pass_at, new_pass}
 use Rattle.turn_book.specs.Views.{new_claims, new_view, first_view, without_own, own_alone, claims_of}
 use Rattle.turn_book.specs.Rule.{Knows, KeepsTurn}
 use Rattle.turn_book.specs.Steps.{Sitting}
@@ -138,3 +140,7 @@ pub begins_at : {S E F : Type 0} (owner : E → ℕ) (history : S → List E) (a
 begins_at owner history agrees first count y z xs same is some_pass none_past agreed =
     subst (λ k. KeepsTurn owner history agrees count (first k) (opening (0 ∷ []) xs (first_view (first k) count))) (sym same)
     (subst (λ l. KeepsTurn owner history agrees count (first y) (opening (0 ∷ []) l (first_view (first y) count))) (sym is) (begins owner history agrees count (first y) y some_pass none_past agreed))
+
+-- the pass of a seat that has one number and has seen nothing
+pub dealt_last : {S E F : Type 0} (book : BookView F) (id : TableId) (last n : ℕ) (m : Sitting S E F) → id ≡ book.id → last ≡ n → m ≡ (new_view book.fixed n [], []) → pass_at id last m.0 ≡ new_pass book n
+dealt_last book id last n m same number is = ap (λ i. pass_at i last m.0) same ∙ (ap (λ k. pass_at book.id k m.0) number ∙ ap (λ (k : Sitting _ _ _). pass_at book.id n k.0) is)

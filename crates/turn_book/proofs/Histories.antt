@@ -19,6 +19,10 @@ module _ {E : Type 0} (owner : E → ℕ) (number : ℕ) where
         (each_append (λ e. owner e ≡ number) first.0 second.0 (recursion_from_All (λ e. owner e ≡ number) first.0 first.2) (recursion_from_All (λ e. owner e ≡ number) second.0 second.2)),
   )
 
+  -- one entry more
+  pub continues_by : (history : List E) (e : E) → owner e ≡ number → Continues owner number history (history ++ e ∷ [])
+  continues_by history e own = (e ∷ [], refl, All-from_recursion (λ x. owner x ≡ number) (e ∷ []) (own, tt))
+
   own_entries : (es : List E) → AllByRecursion (λ e. owner e ≡ number) es → entries_of owner number es ≡ es
   own_entries [] own = refl
   own_entries (e ∷ es) own = rw (eq-eqb (owner e) number own.0) (ap (λ l. e ∷ l) (own_entries es own.1))

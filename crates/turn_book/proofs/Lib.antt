@@ -2,5 +2,4 @@ pub mod Lists
 pub mod Turning
 pub mod Dealing
 pub mod Closing
-pub mod Crossing
 pub mod Histories

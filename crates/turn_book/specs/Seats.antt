@@ -12,12 +12,11 @@ abbrev pub in_hand : {S : Type 0} → Bool → List (ℕ × Option S)
 in_hand true = (0, None) ∷ []
 in_hand false = []
 
--- the seat of a pass: it has one number and this fixed value, and the slot exactly in its turn
-pub record IsSeated {S E F : Type 0} (number : ℕ) (fixed : F) (me : Me (Option S) (SeatView E F)) : Type 0 where
+-- the seat of a pass: it has one number, and the slot exactly in its turn
+pub record IsSeated {S E F : Type 0} (number : ℕ) (me : Me (Option S) (SeatView E F)) : Type 0 where
   pub own_number : me.0.own.number ≡ number
   pub alone : me.0.further ≡ []
   pub hand : me.1 ≡ in_hand me.0.holds
-  pub knows : me.0.fixed ≡ Some fixed
 
 module _ {S E F : Type 0} where
   -- a seat at this book's table, which knows its fixed value

@@ -2,30 +2,27 @@
 ghost use Rattle.std.specs.Prelude.{◌≡◌};
 
 use crate::book::Book;
-use crate::rule::Origin;
 use crate::view::SeatView;
 use atomic_table::Seat;
 use std::marker::Model;
-use std::snapshot::Snapshot;
 
 /// One worker's right to take the turn. A contract sees its book, its number, what it has seen of the history, its own
 /// entries there, and whether it holds the turn.
 #[derive(Drop)]
 pub struct Pass<S: Book> {
     pub(crate) number: u32,
-    pub(crate) origin: Snapshot<Origin<S>>,
     pub(crate) seat: Seat<Option<S>, SeatView<S::Entry, S::Fixed>>,
 }
 
 impl<S: Book> Model for Pass<S> {
-    ghost use Rattle.turn_book.specs.Passes.{PassView, book_at, pass_at};
+    ghost use Rattle.turn_book.specs.Passes.{PassView, pass_at};
     ghost use Rattle.turn_book.specs.Seats.{IsSeated};
 
     ghost Value = { PassView S.Entry S.Fixed };
 
-    ghost view = { λ p. pass_at (book_at p.seat.table_id p.origin.value.passes (S.opening p.origin.value.start.value)) p.number p.seat.me.0 };
+    ghost view = { λ p. pass_at p.seat.table_id p.number p.seat.me.0 };
 
-    ghost invariant = { λ p. IsSeated p.number (S.opening p.origin.value.start.value) p.seat.me };
+    ghost invariant = { λ p. IsSeated p.number p.seat.me };
 }
 
 impl<S: Book> Pass<S> {

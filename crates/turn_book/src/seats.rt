@@ -3,7 +3,7 @@
 //! The word is 0 while the turn is free, 1 while it is held, and 2 while it is held and others may wait for it.
 ghost use Rattle.std.specs.Prelude.{◌≡◌, ℕ, suc, map, All, ◌∷◌, ◌<◌, ◌≤◌, length, vec_len, vec_capacity, [], true, false};
 ghost use Rattle.turn_book.specs.History.{Continues};
-ghost use Rattle.turn_book.specs.Passes.{AreNew, IsIdle, new_pass, book_at};
+ghost use Rattle.turn_book.specs.Passes.{AreNew, IsIdle, new_pass, book_at, pass_at};
 ghost use Rattle.turn_book.specs.Views.{new_view, new_claims, first_view, resting};
 ghost use Rattle.turn_book.specs.Seats.{IsAt, HasAll, with_claims, claim_of, in_hand};
 ghost use Rattle.turn_book.specs.Steps.{TakesTurn, Ends};
@@ -14,7 +14,6 @@ use crate::rule::{Deals, Gives, Origin, Takes, Turns};
 use crate::view::SeatView;
 use atomic_table::{Seat, Shared, Table};
 use std::alloc::Global;
-use std::snapshot::Snapshot;
 use std::sync::Wait;
 
 // Waits until the turn is this seat's.
@@ -65,57 +64,46 @@ pub(crate) fn put<S: Book>(
 // The seat whose own number is `number` gives it to a pass, and keeps the further ones.
 fn deal_one<S: Book>(
     shared: &Shared<Option<S>, SeatView<S::Entry, S::Fixed>, Origin<S>, Turns<S>>,
-    origin: &Origin<S>,
     seat: &mut Seat<Option<S>, SeatView<S::Entry, S::Fixed>>,
     number: u32,
 ) -> Pass<S>
     requires at { (seat.old.table_id ≡ shared.now.table_id) × (shared.now.table_id.words ≡ 1) }
-    requires origin { origin.now ≡ shared.now.key }
     requires more { (k : ℕ) × (seat.old.me ≡ (new_view (S.opening shared.now.key.start.value) number (new_claims (suc number) (suc k)), [])) }
     ensures table { seat.new.table_id ≡ seat.old.table_id }
     ensures left { (k : ℕ) → seat.old.me ≡ (new_view (S.opening shared.now.key.start.value) number (new_claims (suc number) (suc k)), []) → seat.new.me ≡ (new_view (S.opening shared.now.key.start.value) (suc number) (new_claims (suc (suc number)) k), []) }
     ensures pass { result ≡ new_pass (book_at shared.now.table_id shared.now.key.passes (S.opening shared.now.key.start.value)) number }
 {
     let other = shared.split_seat::<Deals>(seat);
-    pass_of(origin, other, number)
+    pass_of(other, number)
 }
 
 // The seat with one number is that number's pass.
-fn pass_of<S: Book>(
-    origin: &Origin<S>,
-    seat: Seat<Option<S>, SeatView<S::Entry, S::Fixed>>,
-    number: u32,
-) -> Pass<S>
-    requires { seat.me ≡ (new_view (S.opening origin.now.start.value) number [], []) }
-    ensures { result ≡ new_pass (book_at seat.table_id origin.now.passes (S.opening origin.now.start.value)) number }
+fn pass_of<S: Book>(seat: Seat<Option<S>, SeatView<S::Entry, S::Fixed>>, number: u32) -> Pass<S>
+    requires { (fixed : S.Fixed) × (seat.me ≡ (new_view fixed number [], [])) }
+    ensures { result ≡ pass_at seat.table_id number seat.me.0 }
 {
-    Pass {
-        number,
-        origin: Snapshot::of(origin),
-        seat,
-    }
+    Pass { number, seat }
 }
 
 // Deals the numbers below `passes`, which all are the seat's, to as many passes.
 pub(crate) fn deal<S: Book>(
     shared: &Shared<Option<S>, SeatView<S::Entry, S::Fixed>, Origin<S>, Turns<S>>,
-    origin: &Origin<S>,
     mut seat: Seat<Option<S>, SeatView<S::Entry, S::Fixed>>,
     mut row: Vec<Pass<S>>,
+    passes: u32,
 ) -> Vec<Pass<S>>
     requires at { (seat.table_id ≡ shared.now.table_id) × (shared.now.table_id.words ≡ 1) }
-    requires origin { origin.now ≡ shared.now.key }
-    requires first { seat.me ≡ (first_view (S.opening shared.now.key.start.value) origin.now.passes, []) }
-    requires some_pass { 0 < origin.now.passes }
-    requires room { (row.items ≡ []) × (origin.now.passes ≤ vec_capacity row) }
-    ensures count { vec_len result ≡ origin.now.passes }
+    requires first { seat.me ≡ (first_view (S.opening shared.now.key.start.value) passes, []) }
+    requires some_pass { (0 < passes) × (passes ≡ shared.now.key.passes) }
+    requires room { (row.items ≡ []) × (passes ≤ vec_capacity row) }
+    ensures count { vec_len result ≡ passes }
     ensures passes { AreNew (book_at shared.now.table_id shared.now.key.passes (S.opening shared.now.key.start.value)) result.items }
 {
-    let last = origin.passes - 1;
+    let last = passes - 1;
     for number in 0..last {
-        row.push_reserved(deal_one(shared, origin, &mut seat, number));
+        row.push_reserved(deal_one(shared, &mut seat, number));
     }
-    row.push_reserved(pass_of(origin, seat, last));
+    row.push_reserved(pass_of(seat, last));
     row
 }
 
@@ -134,7 +122,6 @@ pub(crate) fn unite<S: Book>(
     while let Some(pass) = passes.pop() {
         let Pass {
             number: _,
-            origin: _,
             seat: other,
         } = pass;
         shared.join_seat::<Deals>(seat, other);

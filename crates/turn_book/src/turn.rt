@@ -2,7 +2,7 @@
 ghost use Rattle.std.specs.Prelude.{◌≡◌, ℕ, [], ◌<◌, true, All, vec_len, IfOk, IfErr};
 ghost use mathlib.Core.List.{IsPrefix};
 ghost use Rattle.turn_book.specs.History.{entries_of, Continues};
-ghost use Rattle.turn_book.specs.Passes.{AreNew, HasNumber, IsIdle, with_turn, without_turn};
+ghost use Rattle.turn_book.specs.Passes.{AreNew, HasNumber, IsOf, IsIdle, with_turn, without_turn};
 
 use crate::book::Book;
 use crate::held::Held;
@@ -71,7 +71,7 @@ impl<S: Book> TurnBook<S> {
         slots.push_reserved(Some(state));
         match Table::new(alloc, &[0], slots, &origin) {
             Ok((table, seat)) => {
-                let row = deal(&table.shared, &origin, seat, row);
+                let row = deal(&table.shared, seat, row, passes);
                 Ok((TurnBook { table }, row))
             }
             Err(refused) => {
@@ -98,7 +98,7 @@ impl<S: Book> TurnBook<S> {
 
     /// Gives the turn back. The pass may have added entries of its own to the history, and nothing else.
     pub fn give(&self, pass: &mut Pass<S>, held: Held<S>)
-        requires book { pass.old.book ≡ self.now }
+        requires book { IsOf self.now pass.old }
         requires holds { pass.old.holds ≡ true }
         requires agrees { S.agrees held self.now.fixed }
         requires added { Continues S.owner pass.old.number pass.old.seen (S.history held) }
@@ -120,7 +120,6 @@ impl<S: Book> TurnBook<S> {
         let TurnBook { table } = self;
         let Pass {
             number: _,
-            origin: _,
             mut seat,
         } = passes.pop().unwrap();
         unite(&table.shared, &mut seat, passes);

@@ -1,8 +1,8 @@
-use Rattle.std.proofs.Common.{◌≡◌, arith, ◌∙◌, ◌+◌, ◌-◌, suc, [], sym, ap, add-one, length, length-append, ◌∷◌}
+use Rattle.std.proofs.Common.{ℕ, ◌≡◌, arith, ◌∙◌, ◌+◌, ◌-◌, suc, [], sym, subst, ap, add-one, length, length-append, ◌∷◌}
 use Rattle.turn_book.specs.Passes.{new_pass, book_at}
 use Rattle.turn_book.specs.Views.{new_view, new_claims}
 use Rattle.turn_book.proofs.Lists.{each_at_push, each_place_first}
-use Rattle.turn_book.proofs.Dealing.{one_more}
+use Rattle.turn_book.proofs.Dealing.{one_more, dealt_last}
 use Rattle.turn_book.proofs.seats.deal.Goals as goal
 
 pub deal_one-requires-clause-more : goal.deal_one-requires-clause-more
@@ -25,16 +25,25 @@ loop-number-preserved g c =
           c.loop-number.invariant.long c.loop-number.invariant.passes c.deal_one.ensures.pass c.push_reserved.ensures.items;
     }
 
+pub pass_of-requires : goal.pass_of-requires
+pass_of-requires g c =
+    let left = c.loop-number.invariant.left in
+    let none_left : left.0 ≡ 0 = (let e = left.1 in let a = c.loop-number-test.false in omega arith) in
+    let last : c.loop-number.number ≡ c.args.passes - 1 = (let e = left.1 in omega arith) in
+    let f = g.S.Book.opening c.args.shared.now.key.start.value in
+    (f, rw (← last) (subst (λ (k : ℕ). c.loop-number.seat.me ≡ (new_view f c.loop-number.number (new_claims (suc c.loop-number.number) k), [])) none_left left.2))
+
 pub returns-clause-passes : goal.returns-clause-passes
 returns-clause-passes g c =
     let left = c.loop-number.invariant.left in
     let none_left : left.0 ≡ 0 = (let e = left.1 in let a = c.loop-number-test.false in omega arith) in
-    let last : c.loop-number.number ≡ c.args.origin.now.passes - 1 = (let e = left.1 in omega arith) in
-    let book = book_at c.args.shared.now.table_id c.args.shared.now.key.passes (g.S.Book.opening c.args.shared.now.key.start.value) in
-    let is = c.pass_of.ensures ∙ (ap (λ id. new_pass (book_at id c.args.origin.now.passes (g.S.Book.opening c.args.origin.now.start.value)) (c.args.origin.now.passes - 1)) (c.loop-number.invariant.table ∙ c.requires.at.0)
-    ∙ (ap (λ o. new_pass (book_at c.args.shared.now.table_id o.passes (g.S.Book.opening o.start.value)) (c.args.origin.now.passes - 1)) c.requires.origin ∙ ap (new_pass book) (sym last))) in
+    let last : c.loop-number.number ≡ c.args.passes - 1 = (let e = left.1 in omega arith) in
+    let f = g.S.Book.opening c.args.shared.now.key.start.value in
+    let book = book_at c.args.shared.now.table_id c.args.shared.now.key.passes f in
+    let me = subst (λ (k : ℕ). c.loop-number.seat.me ≡ (new_view f c.loop-number.number (new_claims (suc c.loop-number.number) k), [])) none_left left.2 in
+    let is = c.pass_of.ensures ∙ dealt_last book c.loop-number.seat.table_id (c.args.passes - 1) c.loop-number.number c.loop-number.seat.me (c.loop-number.invariant.table ∙ c.requires.at.0) (sym last) me in
     let all = each_at_push (λ k p. p ≡ new_pass book k) c.loop-number.row.items c.push_reserved-2.new.self.items c.pass_of.result c.loop-number.number
     c.loop-number.invariant.long c.loop-number.invariant.passes is c.push_reserved-2.ensures.items in
     λ k p below. each_place_first (λ k p. p ≡ new_pass book k) c.push_reserved-2.new.self.items all k p
-    (let one = ap (λ o. o.passes) c.requires.origin in let long = c.loop-number.invariant.long in let e = left.1 in
+    (let one = c.requires.some_pass.1 in let long = c.loop-number.invariant.long in let e = left.1 in
     let a : length c.push_reserved-2.new.self.items ≡ length c.loop-number.row.items + 1 = ap length c.push_reserved-2.ensures.items ∙ length-append c.loop-number.row.items (c.pass_of.result ∷ []) in omega arith)
