@@ -1,21 +1,20 @@
 -- Keys of different chunks differ, in one array and in two.
-use Rattle.std.proofs.Common.{◌≡◌, ◌≢◌, ℕ, zero, suc, ◌+◌, ◌*◌, ◌<◌, ◌≤◌, ◌^◌, List, [], ◌∷◌, ◌++◌, length, Bool, true, false, cond, Option, Some, None, ◌⊎◌, inl, inr, refl, sym, ap, subst, ◌∙◌, arith, eqb-true, eq-eqb, codes}
+use Rattle.std.proofs.Common.{◌≡◌, ◌≢◌, ℕ, zero, suc, ◌*◌, ◌<◌, ◌≤◌, ◌^◌, List, [], ◌∷◌, ◌++◌, length, true, Option, Some, None, inl, inr, refl, sym, ap, subst, ◌∙◌, arith, codes}
 use Rattle.shared_state.proofs.Tests.{equal_or_not}
-use Rattle.std.specs.Prelude.{◌==◌, slice_index}
+use Rattle.std.specs.Prelude.{slice_index}
 use Rattle.std.specs.List.{AllByRecursion}
 use Rattle.std.proofs.Math.Nat.{mul-le-mul_left}
 use Rattle.kv_face.specs.Store.{Contents}
 use Rattle.cells.specs.Places.{IsInside}
-use Rattle.cells.proofs.PlaceLaws.{IsInside-length}
-use Rattle.zarr_chunks.specs.Metadata.{Metadata, IsMetadata}
+use Rattle.zarr_chunks.specs.Metadata.{Metadata}
 use Rattle.zarr_chunks.specs.Key as zarr
 use Rattle.shared_state.specs.declared.array.Home.{Home}
 use Rattle.shared_state.specs.declared.array.Home.TheVariants.{Zarr}
 use Rattle.shared_state.specs.History.{History}
 use Rattle.shared_state.specs.Arrays.{Known, known_after, chunk_shape, is_inside, Cell}
-use Rattle.shared_state.specs.Chunks.{Chunk, chunk_of, chunk_in, chunk_index, home_text, chunk_name, chunk_key, metadata_key, key_of, key_in}
+use Rattle.shared_state.specs.Chunks.{Chunk, chunk_in, chunk_index, home_text, chunk_name, chunk_key, metadata_key}
 use Rattle.shared_state.specs.Grid.{grid_of, IsGrid}
-use Rattle.shared_state.specs.Legal.{IsLegal, IsAsMetadata, IsAsStored, is_present, is_present_in}
+use Rattle.shared_state.specs.Legal.{IsLegal, IsAsMetadata, IsAsStored, is_present_in}
 use Rattle.shared_state.specs.Store.{IsChanged}
 use Rattle.shared_state.proofs.Geometry.{inside-from, in_grid, zeros, inside_zeros, cell_below, grid_of_metadata, grid_rank}
 use Rattle.shared_state.proofs.Keys.{AreSmall, name_injective, name_apart, behind}

@@ -1,5 +1,5 @@
 -- Index vectors, chunk indices, and the grid of chunks.
-use Rattle.std.proofs.Common.{◌≡◌, ℕ, zero, suc, ◌+◌, ◌*◌, ◌/◌, ◌%◌, ◌<◌, ◌≤◌, List, [], ◌∷◌, length, map, Bool, true, false, cond, refl, sym, ap, subst, ◌∙◌, arith, min, nat_lt, mul_comm, ◌++◌, take, get_or, take_all, ◌^◌}
+use Rattle.std.proofs.Common.{◌≡◌, ℕ, zero, suc, ◌+◌, ◌*◌, ◌/◌, ◌%◌, ◌<◌, ◌≤◌, List, [], ◌∷◌, length, true, false, refl, sym, ap, subst, ◌∙◌, arith, nat_lt, mul_comm, ◌++◌, take, get_or, take_all, ◌^◌}
 use Rattle.std.specs.Prelude.{◌&&◌, slice_index}
 use Rattle.std.specs.List.{AllByRecursion}
 use Rattle.std.specs.Int.{div_ceil}
@@ -9,8 +9,8 @@ use Rattle.std.proofs.Math.ListN.{set}
 use Rattle.std.proofs.lemmas.List.{take_more, take_more_set}
 use Rattle.std.proofs.lemmas.Grind.{div_ceil_times}
 use Rattle.std.proofs.lemmas.Bool.Decides.{nat_tests}
-use Rattle.cells.specs.Places.{cell_count, IsInside, c_index}
-use Rattle.cells.proofs.PlaceLaws.{IsInside-c_index, IsInside-length}
+use Rattle.cells.specs.Places.{cell_count, IsInside}
+use Rattle.cells.proofs.PlaceLaws.{IsInside-length}
 use Rattle.shared_state.specs.Arrays.{is_inside}
 use Rattle.shared_state.specs.Chunks.{chunk_index, within_chunk, in_array}
 use Rattle.shared_state.specs.Grid.{grid_of, IsGrid}

@@ -1,11 +1,11 @@
 -- A history and one event more.
-use Rattle.std.proofs.Common.{◌≡◌, ℕ, ◌+◌, List, [], ◌∷◌, ◌++◌, length, reverse, refl, sym, ap, subst, ◌∙◌, Option, None}
+use Rattle.std.proofs.Common.{◌≡◌, ℕ, ◌+◌, List, [], ◌∷◌, ◌++◌, length, reverse, sym, ap, subst, ◌∙◌, None}
 use Rattle.std.specs.Prelude.{if◌then◌else◌}
 use Rattle.std.proofs.lemmas.List.{reverse-append, reverse-reverse}
 use Rattle.kv_face.specs.Store.{Contents}
 use Rattle.shared_state.specs.declared.event.Event.{Event}
 use Rattle.shared_state.specs.History.{History, along, after}
-use Rattle.shared_state.specs.Arrays.{Known, known_after, known_step, Cell}
+use Rattle.shared_state.specs.Arrays.{known_after, known_step, Cell}
 use Rattle.shared_state.specs.Chunks.{Chunk, chunk_of}
 use Rattle.shared_state.specs.Touch.{touches, generation_of}
 use Rattle.shared_state.specs.Content.{content_after, word_by}

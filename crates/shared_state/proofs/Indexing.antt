@@ -1,5 +1,5 @@
 -- The places of openings after one event more.
-use Rattle.std.proofs.Common.{◌≡◌, ◌≢◌, ℕ, zero, suc, ◌+◌, ◌<◌, ◌≤◌, List, [], ◌∷◌, ◌++◌, length, Bool, true, false, cond, Option, Some, None, ◌⊎◌, inl, inr, refl, sym, ap, subst, ◌∙◌, arith, eq-eqb, eqb-true, length-append}
+use Rattle.std.proofs.Common.{◌≡◌, ◌≢◌, ℕ, zero, suc, ◌+◌, ◌<◌, ◌≤◌, List, [], ◌∷◌, ◌++◌, length, false, cond, Option, Some, None, inl, inr, refl, sym, ap, subst, ◌∙◌, arith, eq-eqb, eqb-true, length-append}
 use Rattle.std.specs.Prelude.{◌==◌, count_by}
 use Rattle.std.specs.List.{slice_get, AllByRecursion}
 use Rattle.shared_state.specs.declared.array.ArrayInfo.{ArrayInfo}
@@ -11,7 +11,7 @@ use Rattle.shared_state.specs.Legal.{is_opening, IsAsStored}
 use Rattle.shared_state.specs.Index.{IsIndexed, opened_at, opened_at_event}
 use Rattle.shared_state.proofs.Histories.{known_after-more}
 use Rattle.shared_state.proofs.Tests.{true_or_false, equal_or_not, less_or_not}
-use Rattle.shared_state.proofs.Known.{known_split, length-more, some_inj}
+use Rattle.shared_state.proofs.Known.{known_split, length-more}
 use Rattle.shared_state.proofs.Openings.{count_more}
 
 get_front : {A : Type 0} (xs ys : List A) (k : ℕ) → k < length xs → slice_get (xs ++ ys) k ≡ slice_get xs k

@@ -1,13 +1,12 @@
 -- The store represents the history after each event.
-use Rattle.std.proofs.Common.{◌≡◌, ◌≢◌, ℕ, zero, suc, ◌+◌, ◌<◌, ◌≤◌, List, [], ◌∷◌, ◌++◌, length, map, Bool, true, false, cond, Option, Some, None, ◌⊎◌, inl, inr, refl, sym, ap, subst, ◌∙◌, arith, eq-eqb, bytes_eq, eqb-true}
-use Rattle.std.specs.Prelude.{◌==◌, ◌&&◌, ◌||◌, count_by}
+use Rattle.std.proofs.Common.{◌≡◌, ℕ, ◌+◌, ◌<◌, ◌≤◌, List, [], ◌∷◌, ◌++◌, length, map, Bool, true, false, Option, Some, None, ◌⊎◌, inl, inr, refl, sym, ap, subst, ◌∙◌, arith, eqb-true}
+use Rattle.std.specs.Prelude.{◌||◌}
 use Rattle.std.specs.List.{list_any, zip, AllByRecursion}
 use Rattle.std.specs.FinMap as finmap
 use Rattle.cells.specs.Places.{cell_count, IsInside, c_index, c_place, index_vectors}
 use Rattle.cells.proofs.PlaceLaws.{IsInside-c_index, c_place-lt, c_index-c_place}
 use Rattle.kv_face.specs.declared.change.Change.{Change}
-use Rattle.kv_face.specs.Store.{Contents, after, changed}
-use Rattle.kv_face.proofs.Changes.{get-put_bytes}
+use Rattle.kv_face.specs.Store.{Contents, after}
 use Rattle.zarr_chunks.specs.Metadata.{Metadata, IsMetadata}
 use Rattle.zarr_chunks.specs.Key as zarr
 use Rattle.zarr_chunks.specs.Chunk.{SpellsChunk}
@@ -17,26 +16,24 @@ use Rattle.shared_state.specs.declared.array.Home.{Home}
 use Rattle.shared_state.specs.declared.array.Home.TheVariants.{Zarr}
 use Rattle.shared_state.specs.declared.event.Mode.{Mode}
 use Rattle.shared_state.specs.declared.event.Op.TheVariants.{Write}
-use Rattle.shared_state.specs.declared.event.Kind.{Kind}
 use Rattle.shared_state.specs.declared.event.Kind.TheVariants.{Opened, Done, Fault}
 use Rattle.shared_state.specs.declared.event.Event.{Event}
 use Rattle.shared_state.specs.History.{History}
-use Rattle.shared_state.specs.Arrays.{Known, known_after, known_step, chunk_shape, ref_of, is_inside, Cell, targets_of}
+use Rattle.shared_state.specs.Arrays.{Known, known_after, chunk_shape, ref_of, is_inside, Cell, targets_of}
 use Rattle.shared_state.specs.Chunks.{Chunk, is_chunk, chunk_of, chunk_in, in_array, cell_at, chunk_key, chunk_name, home_text, metadata_key, key_of, key_in}
 use Rattle.shared_state.specs.Grid.{grid_of}
-use Rattle.shared_state.specs.Writes.{Put, puts_of}
-use Rattle.shared_state.specs.Touch.{touches, touches_by, writes_chunk, generation_of}
+use Rattle.shared_state.specs.Writes.{Put}
+use Rattle.shared_state.specs.Touch.{touches, writes_chunk, generation_of}
 use Rattle.shared_state.specs.Content.{content_after}
 use Rattle.shared_state.specs.Changes.{AreChanges, StoresWords, chunk_word, word_or_fill}
-use Rattle.shared_state.specs.Legal.{IsLegal, IsLegalKind, IsLegalOpening, is_opening}
-use Rattle.shared_state.specs.Store.{IsChanged, RepresentsHistory, IsChunkKept, IsAllFill, SpellsContent, Spells, metadata_bytes, metadata_text}
-use Rattle.shared_state.proofs.Histories.{each_history, known_after-more}
+use Rattle.shared_state.specs.Legal.{IsLegal, IsLegalKind}
+use Rattle.shared_state.specs.Store.{IsChanged, RepresentsHistory, IsChunkKept, Spells}
+use Rattle.shared_state.proofs.Histories.{known_after-more}
 use Rattle.shared_state.proofs.Tests.{true_or_false, and_true, equal_or_not}
 use Rattle.shared_state.proofs.Geometry.{inside-from, inside-to, chunk_index-in_array}
-use Rattle.shared_state.proofs.Puts.{differ, alike}
-use Rattle.shared_state.proofs.Known.{IsGood, known_good, known_split, legal_step, length-more, opened_le, some_inj}
-use Rattle.shared_state.proofs.Untouched.{HasWritten, content_untouched, generation_touched, generation_untouched, touched_by}
-use Rattle.shared_state.proofs.Apart.{IsIndexOf, index_of_grid, changed_in_grid, in_its_grid, one_chunk, no_metadata, one_metadata, meta_of, shape_of, as_metadata, good_grid}
+use Rattle.shared_state.proofs.Known.{IsGood, known_good, opened_le, some_inj}
+use Rattle.shared_state.proofs.Untouched.{content_untouched, generation_touched, generation_untouched, touched_by}
+use Rattle.shared_state.proofs.Apart.{IsIndexOf, index_of_grid, changed_in_grid, in_its_grid, one_chunk, no_metadata, meta_of, shape_of, as_metadata}
 use Rattle.shared_state.proofs.Stored.{IsOther, after_other, after_at, key_at}
 use Rattle.shared_state.specs.Calls.{done_write}
 use Rattle.shared_state.proofs.Writing.{writes_grid, content_of_write}

@@ -1,9 +1,8 @@
 -- The arrays of a history.
-use Rattle.std.proofs.Common.{◌≡◌, ◌≢◌, ℕ, suc, ◌+◌, ◌<◌, ◌≤◌, List, [], ◌∷◌, ◌++◌, length, Bool, true, false, cond, Option, Some, None, ◌⊎◌, inl, inr, refl, sym, ap, subst, ◌∙◌, arith, length-append, eqb-true, eq-eqb, append_assoc}
-use Rattle.std.specs.Prelude.{◌==◌, ◌&&◌, count_by}
+use Rattle.std.proofs.Common.{◌≡◌, ◌≢◌, ℕ, ◌+◌, ◌≤◌, List, [], ◌∷◌, ◌++◌, length, Bool, true, false, cond, Option, Some, ◌⊎◌, inl, inr, refl, sym, ap, subst, ◌∙◌, arith, length-append, eqb-true, eq-eqb}
+use Rattle.std.specs.Prelude.{◌==◌, ◌&&◌}
 use Rattle.kv_face.specs.Store.{Contents}
 use Rattle.shared_state.specs.declared.array.ArrayInfo.{ArrayInfo}
-use Rattle.shared_state.specs.declared.array.Home.{Home}
 use Rattle.shared_state.specs.declared.event.Kind.{Kind}
 use Rattle.shared_state.specs.declared.event.Kind.TheVariants.{Opened, Done, Fault}
 use Rattle.shared_state.specs.declared.event.Event.{Event}

@@ -1,37 +1,34 @@
 -- The store represents the history after an array was opened, and which openings and writes are legal.
-use Rattle.std.proofs.Common.{◌≡◌, ◌≢◌, ℕ, zero, suc, ◌+◌, ◌<◌, ◌≤◌, List, [], ◌∷◌, ◌++◌, length, map, Bool, true, false, cond, Option, Some, None, ◌⊎◌, inl, inr, refl, sym, ap, subst, ◌∙◌, arith, eq-eqb, bytes_eq, eqb-true}
-use Rattle.std.specs.Prelude.{◌==◌, count_by, All, slice_index_or, IsTrue}
-use Rattle.std.specs.List.{AllByRecursion, zip}
+use Rattle.std.proofs.Common.{◌≡◌, ◌≢◌, ℕ, zero, suc, ◌+◌, ◌<◌, ◌≤◌, List, [], ◌∷◌, ◌++◌, length, map, Bool, true, false, cond, Some, None, inl, inr, refl, sym, ap, subst, ◌∙◌, arith, eq-eqb, bytes_eq, eqb-true}
+use Rattle.std.specs.Prelude.{◌==◌, count_by, All, IsTrue}
+use Rattle.std.specs.List.{AllByRecursion}
 use Rattle.std.specs.FinMap as finmap
 use Rattle.std.proofs.lemmas.List.Sums.{fold-append}
 use Rattle.cells.specs.Numbers.{IsWord}
-use Rattle.cells.specs.Places.{cell_count, IsInside, c_index, index_vectors}
+use Rattle.cells.specs.Places.{cell_count, c_index, index_vectors}
 use Rattle.cells.proofs.PlaceLaws.{IsInside-c_index}
 use Rattle.cells.proofs.IndexVectors.{index_vectors-places, length-index_vectors}
 use Rattle.std.specs.List.{range_with_len}
 use Rattle.kv_face.specs.declared.change.Change.{Change}
-use Rattle.kv_face.specs.Store.{Contents, after, changed}
+use Rattle.kv_face.specs.Store.{Contents, after}
 use Rattle.kv_face.proofs.Changes.{get-put_bytes}
 use Rattle.shared_state.specs.declared.array.ArrayInfo.{ArrayInfo}
 use Rattle.shared_state.specs.declared.event.Mode.{Mode}
-use Rattle.shared_state.specs.declared.event.Op.TheVariants.{Write}
-use Rattle.shared_state.specs.declared.event.Kind.{Kind}
-use Rattle.shared_state.specs.declared.event.Kind.TheVariants.{Opened, Done, Fault}
+use Rattle.shared_state.specs.declared.event.Kind.TheVariants.{Opened}
 use Rattle.shared_state.specs.declared.event.Event.{Event}
 use Rattle.shared_state.specs.History.{History}
-use Rattle.shared_state.specs.Arrays.{Known, known_after, known_step, chunk_shape, ref_of, is_inside, Cell, targets_of}
-use Rattle.shared_state.specs.Chunks.{Chunk, chunk_of, chunk_in, cell_at, chunk_key, metadata_key, key_of, key_in}
-use Rattle.shared_state.specs.Touch.{touches, generation_of}
-use Rattle.shared_state.specs.Content.{content_after}
-use Rattle.shared_state.specs.Legal.{IsLegal, IsLegalKind, IsLegalOpening, IsLegalDone, IsLegalOp, is_opening, is_present, is_present_in}
+use Rattle.shared_state.specs.Arrays.{Known, known_after, ref_of, is_inside, Cell, targets_of}
+use Rattle.shared_state.specs.Chunks.{Chunk, cell_at, metadata_key, key_of, key_in}
+use Rattle.shared_state.specs.Touch.{touches}
+use Rattle.shared_state.specs.Legal.{IsLegal, IsLegalKind, IsLegalOpening, is_opening, is_present, is_present_in}
 use Rattle.shared_state.specs.Store.{IsChanged, RepresentsHistory, IsChunkKept, metadata_bytes, metadata_text}
 use Rattle.shared_state.proofs.Histories.{each_history, known_after-more}
-use Rattle.shared_state.proofs.Tests.{true_or_false, equal_or_not}
+use Rattle.shared_state.proofs.Tests.{true_or_false}
 use Rattle.shared_state.proofs.Geometry.{inside-to}
 use Rattle.shared_state.proofs.Puts.{differ, alike}
-use Rattle.shared_state.proofs.Known.{IsGood, known_good, known_split, legal_step, legal_more, length-more, opened_le, some_inj}
+use Rattle.shared_state.proofs.Known.{IsGood, known_good, known_split, legal_step, legal_more}
 use Rattle.shared_state.proofs.Untouched.{content_untouched, generation_touched, generation_untouched}
-use Rattle.shared_state.proofs.Apart.{IsIndexOf, index_of_grid, changed_in_grid, no_metadata, one_metadata}
+use Rattle.shared_state.proofs.Apart.{index_of_grid, changed_in_grid, no_metadata, one_metadata}
 use Rattle.shared_state.proofs.Keeping.{kept_same, key_is, chunk_of_cell}
 use Rattle.shared_state.specs.Calls.{done_write}
 

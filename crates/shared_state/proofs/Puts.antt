@@ -1,11 +1,11 @@
 -- What a write of a whole array leaves at each of its cells.
-use Rattle.std.proofs.Common.{◌≡◌, ◌≢◌, ℕ, zero, suc, ◌+◌, ◌-◌, ◌<◌, ◌≤◌, List, [], ◌∷◌, ◌++◌, length, map, Bool, true, false, cond, Option, Some, refl, sym, ap, subst, ◌∙◌, arith, append-nil, eq-eqb}
-use Rattle.std.specs.Prelude.{◌&&◌, ◌==◌, fold, slice_index}
+use Rattle.std.proofs.Common.{◌≡◌, ◌≢◌, ℕ, zero, suc, ◌+◌, ◌<◌, ◌≤◌, List, [], ◌∷◌, length, map, Bool, true, false, cond, Some, refl, sym, ap, subst, ◌∙◌, arith, append-nil, eq-eqb}
+use Rattle.std.specs.Prelude.{◌&&◌, fold, slice_index}
 use Rattle.std.specs.List.{zip, range_with_len}
 use Rattle.std.specs.Str.{bytes_eq}
 use Rattle.std.proofs.lemmas.Slice.Eq.{bytes_eq-Decides}
 use Rattle.std.proofs.lemmas.Simd.{map-map}
-use Rattle.cells.specs.Places.{cell_count, IsInside, index_vectors, c_place, c_index}
+use Rattle.cells.specs.Places.{cell_count, IsInside, c_place, c_index}
 use Rattle.cells.proofs.PlaceLaws.{c_place-lt, c_index-c_place, c_place-c_index}
 use Rattle.cells.proofs.IndexVectors.{index_vectors-places}
 use Rattle.shared_state.specs.declared.array.ArrayRef.{ArrayRef}

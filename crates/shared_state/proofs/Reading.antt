@@ -1,12 +1,11 @@
 -- A chunk that is read from the store has the words of the arrays.
-use Rattle.std.proofs.Common.{◌≡◌, ◌≢◌, ℕ, zero, suc, ◌+◌, ◌*◌, ◌<◌, ◌≤◌, List, [], ◌∷◌, ◌++◌, length, Bool, true, false, cond, Option, Some, None, ◌⊎◌, inl, inr, refl, sym, ap, subst, ◌∙◌, arith, eq-eqb, nat_lt}
+use Rattle.std.proofs.Common.{◌≡◌, ℕ, ◌*◌, ◌<◌, ◌≤◌, List, length, cond, Option, Some, None, inl, inr, refl, sym, ap, subst, ◌∙◌, arith, eq-eqb}
 use Rattle.shared_state.proofs.Tests.{less_or_not}
-use Rattle.std.specs.Prelude.{◌==◌, replicate, slice_index}
+use Rattle.std.specs.Prelude.{replicate}
 use Rattle.std.specs.FinMap as finmap
 use Rattle.std.proofs.lemmas.List.{get_or-replicate}
 use Rattle.kv_face.specs.Store.{Contents}
-use Rattle.cells.specs.Bytes.{byte_count, word_bytes, word_of_bytes}
-use Rattle.cells.specs.Numbers.{IsWord}
+use Rattle.cells.specs.Bytes.{byte_count, word_of_bytes}
 use Rattle.cells.specs.Places.{cell_count, IsInside, place_of, c_place}
 use Rattle.cells.proofs.ByteLaws.{word_of_bytes-word_bytes}
 use Rattle.zarr_chunks.specs.Metadata.{Metadata}
@@ -17,16 +16,16 @@ use Rattle.cells.proofs.PlaceLaws.{c_place-lt}
 use Rattle.shared_state.specs.declared.array.Home.{Home}
 use Rattle.shared_state.specs.declared.array.Home.TheVariants.{Zarr}
 use Rattle.shared_state.specs.History.{History}
-use Rattle.shared_state.specs.Arrays.{Known, known_after, chunk_shape, Cell}
-use Rattle.shared_state.specs.Chunks.{Chunk, chunk_in, chunk_index, within_chunk, in_array, cell_at, chunk_key, metadata_key, key_of, key_in}
+use Rattle.shared_state.specs.Arrays.{Known, known_after, chunk_shape}
+use Rattle.shared_state.specs.Chunks.{Chunk, chunk_in, chunk_index, within_chunk, cell_at, chunk_key, key_of, key_in}
 use Rattle.shared_state.specs.Touch.{generation_of}
-use Rattle.shared_state.specs.Start.{stored_word, word_in, opening_word}
+use Rattle.shared_state.specs.Start.{stored_word, word_in}
 use Rattle.shared_state.specs.Content.{content_after}
 use Rattle.shared_state.specs.Legal.{IsLegal}
-use Rattle.shared_state.specs.Store.{IsChanged, IsChunkKept, IsAllFill, Spells, SpellsContent, RepresentsHistory}
+use Rattle.shared_state.specs.Store.{IsChunkKept, Spells, RepresentsHistory}
 use Rattle.shared_state.specs.Reads.{IsRead, IsReadAs}
 use Rattle.shared_state.proofs.Geometry.{chunk_index-in_array, within_chunk-in_array}
-use Rattle.shared_state.proofs.Known.{IsGood, known_good, some_inj}
+use Rattle.shared_state.proofs.Known.{known_good, some_inj}
 use Rattle.shared_state.proofs.Untouched.{content_of_opening}
 use Rattle.shared_state.proofs.Apart.{IsIndexOf, index_of_grid, changed_in_grid, one_chunk, no_metadata, meta_of, shape_of}
 

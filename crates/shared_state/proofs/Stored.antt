@@ -1,16 +1,16 @@
 -- The store after the changes of a whole array.
-use Rattle.std.proofs.Common.{◌≡◌, ◌≢◌, ℕ, zero, suc, ◌+◌, ◌<◌, ◌≤◌, List, [], ◌∷◌, ◌++◌, length, Bool, true, false, cond, Option, Some, None, refl, sym, ap, subst, ◌∙◌, arith, bytes_eq}
+use Rattle.std.proofs.Common.{◌≡◌, ◌≢◌, ℕ, zero, suc, ◌+◌, ◌<◌, ◌≤◌, List, [], ◌∷◌, ◌++◌, length, false, cond, refl, sym, ap, subst, ◌∙◌, arith, bytes_eq}
 use Rattle.std.specs.List.{AllByRecursion, IsDistinct}
 use Rattle.std.specs.FinMap as finmap
-use Rattle.cells.specs.Places.{cell_count, IsInside, c_index, c_place}
+use Rattle.cells.specs.Places.{cell_count, c_index, c_place}
 use Rattle.cells.proofs.PlaceLaws.{IsInside-c_index, c_place-c_index}
 use Rattle.kv_face.specs.declared.change.Change.{Change}
 use Rattle.kv_face.specs.Store.{Contents, changed, after, keys_of}
 use Rattle.kv_face.proofs.Changes.{get-put_bytes}
 use Rattle.zarr_chunks.specs.Metadata.{Metadata, IsMetadata}
 use Rattle.zarr_chunks.specs.Key as zarr
-use Rattle.shared_state.specs.Grid.{grid_of, IsGrid}
-use Rattle.shared_state.specs.Changes.{AreChangesFrom, AreChanges, StoresWords, chunk_word}
+use Rattle.shared_state.specs.Grid.{grid_of}
+use Rattle.shared_state.specs.Changes.{AreChangesFrom, StoresWords, chunk_word}
 use Rattle.shared_state.proofs.Geometry.{grid_of_metadata, grid_rank}
 use Rattle.shared_state.proofs.Keys.{name_injective, behind}
 use Rattle.shared_state.proofs.Apart.{small_of_grid}

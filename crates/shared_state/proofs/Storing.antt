@@ -1,5 +1,5 @@
 -- What is stored of a chunk.
-use Rattle.std.proofs.Common.{◌≡◌, ℕ, zero, suc, ◌+◌, ◌<◌, ◌≤◌, List, [], ◌∷◌, ◌++◌, length, take, get_or, Bool, true, false, cond, Option, Some, None, refl, sym, ap, subst, ◌∙◌, arith, take_all, add-one, ◌^◌, eqb-true, eq-eqb}
+use Rattle.std.proofs.Common.{◌≡◌, ℕ, zero, suc, ◌+◌, ◌<◌, ◌≤◌, List, [], ◌∷◌, ◌++◌, length, take, get_or, true, false, Option, Some, None, refl, sym, ap, subst, ◌∙◌, arith, take_all, ◌^◌, eqb-true, eq-eqb}
 use Rattle.shared_state.proofs.Tests.{and_true}
 use Rattle.std.specs.Prelude.{◌==◌, ◌&&◌, slice_index}
 use Rattle.std.specs.List.{list_all}
@@ -11,7 +11,7 @@ use Rattle.cells.specs.Dense.{DenseCells, IsDense}
 use Rattle.cells.specs.Places.{cell_count, IsInside, c_place, c_index}
 use Rattle.cells.proofs.PlaceLaws.{c_place-lt, IsInside-c_index, c_place-c_index}
 use Rattle.zarr_chunks.specs.Metadata.{Metadata, IsMetadata}
-use Rattle.zarr_chunks.specs.Chunk.{SpellsChunk, word_at}
+use Rattle.zarr_chunks.specs.Chunk.{word_at}
 use Rattle.shared_state.specs.Grid.{grid_of, IsGrid}
 use Rattle.shared_state.specs.Changes.{StoresWords, AreFill, chunk_word, IsCut, IsChangeOf, AreChangesFrom}
 use Rattle.kv_face.specs.declared.change.Change.{Change}

@@ -1,29 +1,28 @@
 -- A chunk that nothing touches, and one that something does.
-use Rattle.std.proofs.Common.{◌≡◌, ◌≢◌, ℕ, suc, ◌+◌, ◌<◌, ◌≤◌, List, [], ◌∷◌, ◌++◌, length, Bool, true, false, cond, Option, Some, None, ◌⊎◌, inl, inr, refl, sym, ap, subst, ◌∙◌, arith, eqb-true, eq-eqb}
+use Rattle.std.proofs.Common.{◌≡◌, ℕ, ◌+◌, ◌≤◌, List, [], ◌∷◌, ◌++◌, length, Bool, true, false, cond, Option, Some, None, ◌⊎◌, inl, inr, refl, sym, ap, ◌∙◌, arith, eqb-true, eq-eqb}
 use Rattle.shared_state.proofs.Tests.{true_or_false, and_true}
-use Rattle.std.specs.Prelude.{◌==◌, ◌&&◌, ◌||◌, IsTrue}
-use Rattle.std.specs.List.{list_any, AllByRecursion, zip, flat_map}
+use Rattle.std.specs.Prelude.{◌==◌, ◌||◌, IsTrue}
+use Rattle.std.specs.List.{list_any, AllByRecursion, zip}
 use Rattle.std.specs.Str.{bytes_eq}
 use Rattle.std.proofs.lemmas.Slice.Eq.{bytes_eq-Decides}
 use Rattle.kv_face.specs.Store.{Contents}
 use Rattle.shared_state.specs.declared.array.ArrayInfo.{ArrayInfo}
-use Rattle.shared_state.specs.declared.array.ArrayRef.{ArrayRef}
 use Rattle.shared_state.specs.declared.event.Op.{Op}
 use Rattle.shared_state.specs.declared.event.Op.TheVariants.{Write, Read}
 use Rattle.shared_state.specs.declared.event.Kind.{Kind}
 use Rattle.shared_state.specs.declared.event.Kind.TheVariants.{Opened, Done, Fault}
 use Rattle.shared_state.specs.declared.event.Event.{Event}
 use Rattle.shared_state.specs.History.{History}
-use Rattle.shared_state.specs.Arrays.{Known, known_after, known_step, Cell, targets_of, is_inside}
+use Rattle.shared_state.specs.Arrays.{Known, known_after, known_step, Cell, targets_of}
 use Rattle.shared_state.specs.Chunks.{Chunk, is_chunk, chunk_of, chunk_in, key_of}
 use Rattle.shared_state.specs.Writes.{Put, puts_of, puts_of_op}
 use Rattle.shared_state.specs.Touch.{touches, touches_by, generation_of, writes_chunk, is_key}
 use Rattle.shared_state.specs.Start.{opening_word}
 use Rattle.shared_state.specs.Content.{content_after, word_by}
-use Rattle.shared_state.specs.Legal.{IsLegal, IsLegalKind, IsLegalDone, IsLegalOp, is_present, is_present_in, viewed}
+use Rattle.shared_state.specs.Legal.{IsLegal, IsLegalKind, IsLegalOp, is_present, is_present_in}
 use Rattle.shared_state.specs.Store.{IsChanged}
-use Rattle.shared_state.proofs.Histories.{each_history, known_after-more, content_after-more, generation_of-more, IsLegal-more}
-use Rattle.shared_state.proofs.Known.{known_split, legal_step, length-more, opened_le, some_inj}
+use Rattle.shared_state.proofs.Histories.{each_history, known_after-more, content_after-more, generation_of-more}
+use Rattle.shared_state.proofs.Known.{known_split, legal_step, opened_le, some_inj}
 
 -- the same array is known after an event that opens another, or none
 pub known_kept : (h : History) (e : Event) (a : ℕ) (k : Known) → known_after h a ≡ Some k → ((info : ArrayInfo) → e.kind ≡ Opened info → (info.number == a) ≡ false) → known_after (h ++ e ∷ []) a ≡ Some k

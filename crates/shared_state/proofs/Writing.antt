@@ -1,39 +1,27 @@
 -- What a write of a whole array leaves in the arrays and in the store.
-use Rattle.std.proofs.Common.{◌≡◌, ◌≢◌, ℕ, zero, suc, ◌+◌, ◌<◌, ◌≤◌, List, [], ◌∷◌, ◌++◌, length, map, Bool, true, false, cond, Option, Some, None, ◌⊎◌, inl, inr, refl, sym, ap, subst, ◌∙◌, arith, eq-eqb, append-nil}
-use Rattle.std.specs.Prelude.{◌==◌, ◌&&◌, ◌||◌, slice_index}
-use Rattle.std.specs.List.{list_any, zip, range_with_len, AllByRecursion}
+use Rattle.std.proofs.Common.{◌≡◌, ℕ, zero, suc, ◌+◌, ◌<◌, List, [], ◌∷◌, ◌++◌, length, map, Bool, true, false, cond, Option, Some, refl, sym, ap, subst, ◌∙◌, arith, eq-eqb, append-nil}
+use Rattle.std.specs.Prelude.{◌&&◌, ◌||◌, slice_index}
+use Rattle.std.specs.List.{list_any, zip, range_with_len}
 use Rattle.std.specs.Str.{bytes_eq}
-use Rattle.std.specs.FinMap as finmap
 use Rattle.cells.specs.Places.{cell_count, IsInside, c_index, c_place}
-use Rattle.cells.proofs.PlaceLaws.{c_place-lt, c_index-c_place, IsInside-length}
-use Rattle.kv_face.specs.declared.change.Change.{Change}
-use Rattle.kv_face.specs.Store.{Contents, after}
-use Rattle.zarr_chunks.specs.Metadata.{Metadata, IsMetadata}
-use Rattle.shared_state.specs.declared.array.ArrayInfo.{ArrayInfo}
-use Rattle.shared_state.specs.declared.array.ArrayRef.{ArrayRef}
-use Rattle.shared_state.specs.declared.array.Home.{Home}
-use Rattle.shared_state.specs.declared.array.Home.TheVariants.{Zarr}
+use Rattle.cells.proofs.PlaceLaws.{c_place-lt, c_index-c_place}
+use Rattle.kv_face.specs.Store.{Contents}
 use Rattle.shared_state.specs.declared.event.Mode.{Mode}
-use Rattle.shared_state.specs.declared.event.Op.{Op}
 use Rattle.shared_state.specs.declared.event.Op.TheVariants.{Write}
-use Rattle.shared_state.specs.declared.event.Kind.TheVariants.{Opened, Done, Fault}
-use Rattle.shared_state.specs.declared.event.Event.{Event}
 use Rattle.shared_state.specs.History.{History}
 use Rattle.shared_state.specs.Arrays.{Known, known_after, chunk_shape, ref_of, is_inside, Cell, targets_of}
-use Rattle.shared_state.specs.Chunks.{Chunk, is_chunk, chunk_of, chunk_in, chunk_index, in_array, cell_at, chunk_key, home_text, chunk_name, metadata_key, key_of, key_in}
+use Rattle.shared_state.specs.Chunks.{Chunk, is_chunk, chunk_of, chunk_in, in_array, cell_at}
 use Rattle.shared_state.specs.Calls.{done_write}
-use Rattle.shared_state.specs.Grid.{grid_of, IsGrid}
-use Rattle.shared_state.specs.Writes.{Put, puts_of, written, Content}
-use Rattle.shared_state.specs.Touch.{touches, touches_by, writes_chunk, generation_of}
-use Rattle.shared_state.specs.Content.{content_after, word_by, cut_to_shape}
-use Rattle.shared_state.specs.Changes.{word_or_fill, chunk_word}
-use Rattle.shared_state.specs.Legal.{IsLegal, IsAsMetadata}
-use Rattle.shared_state.specs.Store.{IsChanged, RepresentsHistory, IsChunkKept, IsAllFill, SpellsContent, Spells}
-use Rattle.shared_state.proofs.Geometry.{inside-from, inside-to, chunk_index-in_array, zeros, inside_zeros, first_inside, grid_rank}
+use Rattle.shared_state.specs.Grid.{grid_of}
+use Rattle.shared_state.specs.Writes.{Put, puts_of, written}
+use Rattle.shared_state.specs.Touch.{touches, writes_chunk}
+use Rattle.shared_state.specs.Content.{content_after, cut_to_shape}
+use Rattle.shared_state.specs.Changes.{word_or_fill}
+use Rattle.shared_state.proofs.Geometry.{inside-from, chunk_index-in_array, zeros, inside_zeros, first_inside, grid_rank}
 use Rattle.shared_state.proofs.Puts.{alike, targets-places, written-inside}
-use Rattle.shared_state.proofs.Known.{IsGood, known_good, some_inj}
-use Rattle.shared_state.proofs.Untouched.{content_touched, content_untouched, generation_touched, generation_untouched, known_kept}
-use Rattle.shared_state.proofs.Apart.{meta_of, shape_of, as_metadata, good_grid}
+use Rattle.shared_state.proofs.Known.{IsGood}
+use Rattle.shared_state.proofs.Untouched.{content_touched}
+use Rattle.shared_state.proofs.Apart.{good_grid}
 
 any_at : (f : Put → Bool) (g : ℕ → Cell) (from k : ℕ) (ws : List ℕ) → k < length ws → ((w : ℕ) → f (g (from + k), w) ≡ true) → list_any f (zip (map g (range_with_len from (length ws))) ws) ≡ true
 any_at f g from k [] lt h = absurd (omega arith)

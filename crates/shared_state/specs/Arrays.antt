@@ -4,11 +4,9 @@ use Rattle.std.specs.Str.{bytes_eq}
 use Rattle.cells.specs.Places.{index_vectors}
 use Rattle.shared_state.specs.declared.array.ArrayInfo.{ArrayInfo}
 use Rattle.shared_state.specs.declared.array.ArrayRef.{ArrayRef}
-use Rattle.shared_state.specs.declared.array.Home.{Home}
 use Rattle.shared_state.specs.declared.array.Home.TheVariants.{Zarr}
 use Rattle.shared_state.specs.declared.event.Kind.{Kind}
 use Rattle.shared_state.specs.declared.event.Kind.TheVariants.{Opened, Done, Fault}
-use Rattle.shared_state.specs.declared.event.Event.{Event}
 use Rattle.shared_state.specs.History.{History, after}
 
 -- an array of the run: as it was opened, the number of the event that opened it, and its present shape

@@ -1,5 +1,5 @@
 -- The events that calls of the state add.
-use Rattle.std.specs.Prelude.{◌≡◌, ℕ, List, [], ◌∷◌, ◌++◌, length, Bool, false, Option, Some, None, unwrap_or}
+use Rattle.std.specs.Prelude.{◌≡◌, ℕ, List, [], ◌∷◌, ◌++◌, length, false, None, unwrap_or}
 use Rattle.zarr_chunks.specs.Metadata.{Metadata}
 use Rattle.shared_state.specs.declared.array.ArrayInfo.{ArrayInfo}
 use Rattle.shared_state.specs.declared.array.Home.{Home}

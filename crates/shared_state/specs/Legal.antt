@@ -1,5 +1,5 @@
 -- Histories in which each event may follow those before it.
-use Rattle.std.specs.Prelude.{◌≡◌, ℕ, ◌+◌, List, [], ◌∷◌, ◌++◌, length, map, Bool, true, false, ◌&&◌, ◌==◌, Option, Some, None, IsTrue, count_by, unwrap_or}
+use Rattle.std.specs.Prelude.{◌≡◌, ℕ, List, [], ◌∷◌, ◌++◌, length, map, Bool, true, false, ◌&&◌, ◌==◌, Option, Some, None, IsTrue, count_by, unwrap_or}
 use Rattle.std.specs.List.{AllByRecursion}
 use Rattle.cells.specs.Numbers.{IsWord}
 use Rattle.kv_face.specs.Store.{Contents}

@@ -1,5 +1,4 @@
 -- What a contract sees of the state.
-use Rattle.std.specs.Prelude.{List}
 use Rattle.shared_state.specs.History.{History}
 
 -- the store, and the events so far

@@ -1,4 +1,4 @@
-use Rattle.std.proofs.Common.{sym, ◌∙◌, arith, ap, ◌≡◌, ◌≤◌, length}
+use Rattle.std.proofs.Common.{arith}
 use Rattle.shared_state.proofs.Geometry.{in_array-more, in_array-whole}
 use Rattle.shared_state.proofs.cut.in_array.Goals as goal
 

@@ -1,4 +1,4 @@
-use Rattle.std.proofs.Common.{◌≡◌, take, drop, ◌++◌}
+use Rattle.std.proofs.Common.{◌≡◌, take}
 use Rattle.shared_state.specs.Chunks.{in_array}
 use Rattle.shared_state.proofs.cut.in_array.Given as goal
 

@@ -1,4 +1,3 @@
-use Rattle.std.proofs.Common.{◌≡◌, sym, ap, subst, ◌∙◌}
 use Rattle.shared_state.proofs.Geometry.{grid_rank, fits_of_grid}
 use Rattle.shared_state.proofs.cut.word_at.Goals as goal
 

@@ -1,4 +1,4 @@
-use Rattle.std.proofs.Common.{◌≡◌, sym, ◌∙◌, ap}
+use Rattle.std.proofs.Common.{◌∙◌}
 use Rattle.shared_state.proofs.Storing.{stores_cut}
 use Rattle.shared_state.proofs.store.change.Goals as goal
 

@@ -1,4 +1,4 @@
-use Rattle.std.proofs.Common.{◌≡◌, ap, arith, length, length-append, ◌∙◌}
+use Rattle.std.proofs.Common.{ap, arith, length, length-append, ◌∙◌}
 use Rattle.shared_state.proofs.Storing.{next_change}
 use Rattle.shared_state.proofs.store.changes_of.Goals as goal
 

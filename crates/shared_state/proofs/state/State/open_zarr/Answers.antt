@@ -1,7 +1,6 @@
-use Rattle.std.proofs.Common.{◌≡◌, ◌++◌, ◌∷◌, [], sym, ap, subst, ◌∙◌, refl, Some, length, arith, rules}
+use Rattle.std.proofs.Common.{◌≡◌, ◌++◌, ◌∷◌, [], sym, ap, subst, ◌∙◌, refl, Some, length, rules}
 use Rattle.std.specs.FinMap as finmap
 use Rattle.shared_state.specs.Chunks.{metadata_key}
-use Rattle.kv_face.specs.Store.{after}
 use Rattle.shared_state.specs.Index.{IsIndexed}
 use Rattle.shared_state.specs.Calls.{fault, opened}
 use Rattle.shared_state.specs.State.{StateOf}

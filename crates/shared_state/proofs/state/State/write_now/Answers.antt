@@ -1,4 +1,4 @@
-use Rattle.std.proofs.Common.{◌≡◌, List, ◌++◌, ◌∷◌, [], sym, ap, subst, ◌∙◌, refl, Some, length, arith, true, bytes_eq}
+use Rattle.std.proofs.Common.{◌≡◌, List, ◌++◌, ◌∷◌, [], sym, ap, subst, ◌∙◌, refl, Some, bytes_eq}
 use Rattle.std.specs.List.{IsDistinct}
 use Rattle.std.specs.Option.{option_copied}
 use Rattle.kv_face.specs.declared.change.Change.{Change}
@@ -11,7 +11,7 @@ use Rattle.shared_state.specs.Calls.{fault, done_write, plain}
 use Rattle.shared_state.specs.State.{StateOf}
 use Rattle.shared_state.proofs.Histories.{known_after-more}
 use Rattle.shared_state.proofs.Indexing.{indexed_same}
-use Rattle.shared_state.proofs.Fetching.{found, writable, changes_distinct, write_of, consistent_write, consistent_fault, info_same}
+use Rattle.shared_state.proofs.Fetching.{found, writable, changes_distinct, write_of, consistent_write, consistent_fault}
 use Rattle.shared_state.proofs.state.State.write_now.Goals as goal
 
 pub changes_for-requires : goal.changes_for-requires
