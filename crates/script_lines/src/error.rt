@@ -1,6 +1,6 @@
 ghost use Rattle.std.specs.Prelude.{◌≡◌};
 
-use std::alloc::{AllocError, AllocFailed};
+use std::alloc::AllocError;
 use thiserror::Error;
 
 /// Why bytes gave no line.
@@ -19,16 +19,6 @@ impl From<AllocError> for LineError {
     ghost from_gives = { λ _ e. e ≡ line.Memory };
 
     fn from(_: AllocError) -> Self {
-        LineError::Memory
-    }
-}
-
-impl<T: Drop> From<AllocFailed<T>> for LineError {
-    ghost use Rattle.script_lines.specs.declared.error.LineError.TheVariants as line;
-
-    ghost from_gives = { λ _ e. e ≡ line.Memory };
-
-    fn from(_: AllocFailed<T>) -> Self {
         LineError::Memory
     }
 }

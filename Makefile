@@ -1,0 +1,4 @@
+# The merge gate: every proof, test and must-fail edit.
+.PHONY: test
+test:
+	rt ci

@@ -1,0 +1,10 @@
+pub mod MemberLemmas
+pub mod MeetLemmas
+pub mod ShiftLemmas
+pub mod QuotientLemmas
+pub mod StrideLemmas
+pub mod SlicingLemmas
+pub mod SlicedLemmas
+pub mod RangeLemmas
+pub mod KeepingLemmas
+pub mod SliceLemmas

@@ -1,0 +1,6 @@
+pub mod Bounds
+pub mod Members
+pub mod Meet
+pub mod Shift
+pub mod Stride
+pub mod Slice
