@@ -1,7 +1,7 @@
 # `make` builds the proved program, `make run SCRIPT=..` runs a script, `make test` is the merge gate.
 SCRIPT ?= examples/first.jsonl
 
-.PHONY: all run test
+.PHONY: all run test bench
 all: bin/tensor_run
 
 bin/tensor_run: crates.txt $(wildcard crates/*/src/*.rt crates/*/specs/*.antt crates/*/proofs/*.antt)
@@ -11,6 +11,9 @@ bin/tensor_run: crates.txt $(wildcard crates/*/src/*.rt crates/*/specs/*.antt cr
 
 run: bin/tensor_run
 	@bin/tensor_run "$(SCRIPT)"
+
+bench: bin/tensor_run
+	bench/run.sh bin/tensor_run
 
 test:
 	rt ci
