@@ -1,13 +1,13 @@
 -- The steps of the loops over a shape's dimensions.
-use Rattle.std.proofs.Common.{◌≡◌, ℕ, zero, suc, true, false, nat_eq, append_assoc, add-one, ◌+◌, ◌*◌, ◌/◌, ◌%◌, ◌<◌, ◌≤◌, List, [], ◌∷◌, ◌++◌, length, slice_index, take, drop, refl, sym, ◌∙◌, ap, subst, arith}
+use Rattle.std.proofs.Common.{◌≡◌, ℕ, zero, suc, true, false, nat_eq, add-one, ◌+◌, ◌*◌, ◌/◌, ◌%◌, ◌<◌, ◌≤◌, List, [], ◌∷◌, length, slice_index, drop, refl, sym, ◌∙◌, ap, subst, arith}
 use Rattle.std.proofs.Math.Nat.{mul_comm, mul_assoc, mul-pos, le-mul_of_pos_right, div-div-eq-div-mul, add-mul, suc-mul, add-mul-div_right, add-mul-mod_self_right, mod-eq_of_lt}
-use Rattle.std.proofs.Math.Seq.{drop-cons, take-suc-set}
+use Rattle.std.proofs.Math.Seq.{drop-cons}
 use Rattle.std.proofs.lemmas.Bool.Decides.{nat_tests}
 use Rattle.std.proofs.lemmas.List.{drop-set}
 use Rattle.std.specs.List.{list_any}
 use Rattle.std.proofs.lemmas.Nat.{div-add-mod', mod_below, div_below}
 use Rattle.std.specs.Prelude.{slice_set}
-use Rattle.cells.specs.Places.{cell_count, IsInside, c_place, f_place, c_index, f_index}
+use Rattle.cells.specs.Places.{cell_count, IsInside, c_place, f_place, c_index}
 use Rattle.cells.proofs.PlaceLaws.{IsInside-length, IsInside-drop, c_place-lt, f_place-lt}
 
 factor-pos : (m n : ℕ) → 0 < m * n → 0 < n
@@ -148,17 +148,6 @@ pub c_index-whole : (shape out : List ℕ) (k place : ℕ) → k ≤ 0 → place
     → drop k out ≡ c_index (drop k shape) (place % cell_count (drop k shape)) → out ≡ c_index shape place
 c_index-whole shape out zero place end below done = done ∙ ap (c_index shape) (mod-eq_of_lt below)
 c_index-whole shape out (suc k) place end below done = absurd (omega arith)
-
--- one step of the index vector in F order
-pub f_index-step : (shape out : List ℕ) (k place rest : ℕ) → k < length shape → length out ≡ length shape
-    → f_index shape place ≡ take k out ++ f_index (drop k shape) rest
-    → f_index shape place ≡ take (suc k) (slice_set out k (rest % slice_index shape k)) ++ f_index (drop (suc k) shape) (rest / slice_index shape k)
-f_index-step shape out k place rest within same so_far =
-    let size = slice_index shape k in
-    let tail = f_index (drop (suc k) shape) (rest / size) in
-    so_far ∙ ap (λ sh. take k out ++ f_index sh rest) (drop-cons shape k 0 within)
-    ∙ sym (append_assoc (take k out) (rest % size ∷ []) tail)
-    ∙ ap (λ xs. xs ++ tail) (sym (take-suc-set out k (rest % size) (rw same within)))
 
 -- the count of cells, where it is 0
 pub cell_count-zero : (shape : List ℕ) → list_any (λ size. nat_eq size 0) shape ≡ true → cell_count shape ≡ 0

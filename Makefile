@@ -1,0 +1,19 @@
+# `make` builds the proved program, `make run SCRIPT=..` runs a script, `make test` is the merge gate.
+SCRIPT ?= examples/first.jsonl
+
+.PHONY: all run test bench
+all: bin/tensor_run
+
+bin/tensor_run: crates.txt $(wildcard crates/*/src/*.rt crates/*/specs/*.antt crates/*/proofs/*.antt)
+	cd crates/tensor_run && rt run -- "$(abspath examples/first.jsonl)" > /dev/null
+	mkdir -p bin
+	cp crates/tensor_run/out/tensor_run bin/tensor_run
+
+run: bin/tensor_run
+	@bin/tensor_run "$(SCRIPT)"
+
+bench: bin/tensor_run
+	bench/run.sh bin/tensor_run
+
+test:
+	rt ci

@@ -1,0 +1,5 @@
+pub mod NoData
+pub mod Collecting
+pub mod ItemLists
+pub mod OrderedNames
+pub mod NoFloats

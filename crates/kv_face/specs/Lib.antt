@@ -1,0 +1,4 @@
+pub mod Store
+pub mod Slots
+pub mod Memory
+pub mod Standing

@@ -1,0 +1,68 @@
+// Calls of one kind: how many there were, and which are to fail.
+ghost use Rattle.std.specs.Prelude.{◌≡◌, ◌++◌, ◌∷◌, [], OnOk, OnErr};
+ghost use Rattle.kv_face.specs.Memory.{fails, called};
+
+use std::alloc::{AllocError, Global};
+use std::marker::Model;
+
+#[derive(Drop)]
+pub(crate) struct Calls {
+    made: u64,
+    faults: u64,
+    named: Vec<u64>,
+}
+
+impl Model for Calls {
+    ghost use Rattle.std.specs.Prelude.{◌≤◌};
+    ghost use Rattle.kv_face.specs.Memory.{Calls as CallsOf};
+
+    ghost Value = { CallsOf };
+
+    ghost view = { λ c. record { calls = c.made; named = c.named.items; faults = c.faults } };
+
+    ghost invariant = { λ c. c.faults ≤ c.made };
+}
+
+impl Calls {
+    pub(crate) fn new(alloc: Global) -> Self
+        ensures { result ≡ record { calls = 0; named = []; faults = 0 } }
+    {
+        Calls {
+            made: 0,
+            faults: 0,
+            named: Vec::new(alloc),
+        }
+    }
+
+    /// Names a call that is to fail, counted from 1.
+    pub(crate) fn name(&mut self, nth: u64) -> Result<(), AllocError>
+        ensures ok { OnOk result (self.new ≡ record self.old { named = self.old.named ++ nth ∷ [] }) }
+        ensures err { OnErr result (self.new ≡ self.old) }
+    {
+        self.named.push(nth)?;
+        Ok(())
+    }
+
+    /// The number of calls.
+    pub(crate) fn made(&self) -> u64
+        ensures { result ≡ self.now.calls }
+    {
+        self.made
+    }
+
+    /// Counts a call, and says whether it fails.
+    pub(crate) fn call(&mut self) -> bool
+        ensures failed { result ≡ fails self.old }
+        ensures counted { self.new ≡ called self.old }
+    {
+        if self.made == u64::MAX {
+            return false;
+        }
+        self.made += 1;
+        if self.named.contains(&self.made) {
+            self.faults += 1;
+            return true;
+        }
+        false
+    }
+}

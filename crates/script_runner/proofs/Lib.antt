@@ -1,0 +1,3 @@
+pub mod Gathering
+pub mod Sessions
+pub mod Lines

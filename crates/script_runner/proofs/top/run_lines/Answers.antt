@@ -1,0 +1,50 @@
+use Rattle.std.proofs.Common.{◌≡◌, ◌+◌, ◌<◌, ◌^◌, length, sym, subst, ◌∙◌, refl, arith}
+use Rattle.std.specs.Option.{option_copied}
+use Rattle.std.specs.Prelude.{MatchOption}
+use Rattle.script_runner.specs.Progress.{IsUnderWay}
+use Rattle.script_runner.proofs.Lines.{past_blank, past_line, at_start, short_more}
+use Rattle.script_runner.proofs.top.run_lines.Goals as goal
+
+pub loop-rest-init : goal.loop-rest-init
+loop-rest-init g c = record {
+  solo = λ same. at_start c.args.script.now _ _ _ c.requires.answers c.requires.events c.requires.bound;
+  ready = c.requires.ready;
+  later = omega arith;
+  names = c.requires.names;
+  prefixes = refl;
+  short = omega (arith, c.requires.short);
+}
+
+pub loop-rest-preserved-in_ok-push-2 : goal.loop-rest-preserved-in_ok-push-2
+loop-rest-preserved-in_ok-push-2 g c =
+    let old = c.loop-rest.progress.session in
+    let new = c.step-body.new.session in
+    record {
+      solo = λ same.
+          let mid : g.K.KvStore.faults old.state.store ≡ g.K.KvStore.faults c.args.progress.now.session.state.store = omega (arith, c.step-body.ensures.faults, c.loop-rest.invariant.later, same) in
+          let end : g.K.KvStore.faults new.state.store ≡ g.K.KvStore.faults old.state.store = same ∙ sym mid in
+          let s = subst (λ r. IsUnderWay c.args.script.now (option_copied r) c.loop-rest.progress.answers.items c.loop-rest.line old.state.events old.bound) c.in-Some.is (c.loop-rest.invariant.solo mid) in
+          let turn = c.step-body.ensures.turn c.in_default-body.not-Memory end in
+          let next = past_line c.args.script.now c.in-Some.bytes.now c.cut.result.0.now (option_copied c.cut.result.1) c.loop-rest.progress.answers.items c.loop-rest.line old.state.events old.bound
+          c.step-body.result new.state.events new.bound s c.cut.ensures.lines (sym c.is_blank.ensures ∙ c.if-not-is_blank.true) turn in
+          subst (λ a. IsUnderWay c.args.script.now (option_copied c.cut.result.1) a (c.loop-rest.line + 1) new.state.events new.bound) (sym c.in_ok-push-2.ensures.items) next;
+      ready = c.step-body.ensures.ready;
+      later = omega (arith, c.step-body.ensures.faults, c.loop-rest.invariant.later);
+      names = c.step-body.ensures.names ∙ c.loop-rest.invariant.names;
+      prefixes = c.step-body.ensures.prefixes ∙ c.loop-rest.invariant.prefixes;
+      short = short_more c.loop-rest.line (length c.in-Some.bytes.now) c.cut.result.1 (subst (λ r. MatchOption r (c.loop-rest.line < 2 ^ 63) (λ b. c.loop-rest.line + length b.now < 2 ^ 62)) c.in-Some.is c.loop-rest.invariant.short) c.cut.ensures.shorter;
+    }
+
+pub loop-rest-preserved : goal.loop-rest-preserved
+loop-rest-preserved g c =
+    let old = c.loop-rest.progress.session in
+    record {
+      solo = λ same.
+          let s = subst (λ r. IsUnderWay c.args.script.now (option_copied r) c.loop-rest.progress.answers.items c.loop-rest.line old.state.events old.bound) c.in-Some.is (c.loop-rest.invariant.solo same) in
+          past_blank c.args.script.now c.in-Some.bytes.now c.cut.result.0.now (option_copied c.cut.result.1) c.loop-rest.progress.answers.items c.loop-rest.line old.state.events old.bound s c.cut.ensures.lines (sym c.is_blank.ensures ∙ c.if-not-is_blank.false);
+      ready = c.loop-rest.invariant.ready;
+      later = c.loop-rest.invariant.later;
+      names = c.loop-rest.invariant.names;
+      prefixes = c.loop-rest.invariant.prefixes;
+      short = short_more c.loop-rest.line (length c.in-Some.bytes.now) c.cut.result.1 (subst (λ r. MatchOption r (c.loop-rest.line < 2 ^ 63) (λ b. c.loop-rest.line + length b.now < 2 ^ 62)) c.in-Some.is c.loop-rest.invariant.short) c.cut.ensures.shorter;
+    }

@@ -1,0 +1,235 @@
+// The top call.
+ghost use Rattle.std.specs.Prelude.{◌≡◌, ◌≢◌, ◌<◌, ◌≤◌, ◌^◌, ◌++◌, ◌⊎◌, ◌↔◌, ◌==◌, if◌then◌else◌, ℕ, List, [], length, None, Some, true, OnOk, IfOk, option_map, string_bytes};
+ghost use Rattle.std.specs.List.{IsDistinct, list_all};
+ghost use Rattle.std.specs.Str.{bytes_eq};
+ghost use Rattle.std.specs.FinMap as finmap;
+ghost use Rattle.kv_face.specs.Store.{are_together, keys_of};
+ghost use Rattle.kv_face.specs.declared.change.Change.{Change as ChangeOf};
+ghost use Rattle.script_lines.specs.AnswerText.{text_of};
+ghost use Rattle.script_lines.specs.Status.{status_of, is_ok_answer};
+ghost use Rattle.script_runner.specs.Solo.{single_session};
+ghost use Rattle.script_runner.specs.Kept.{IsReady, IsOverEmpty};
+ghost use Rattle.script_runner.specs.Outside.{WhereTold, Rises, HasRisen};
+ghost use Rattle.script_runner.specs.Top.{name_of, named_script, HasAnswers, IsSoloRun};
+
+use crate::outside::{Scripts, Sink, write_all};
+use crate::reading::{ReadError, read_script};
+use crate::session::Session;
+use crate::step::step;
+use cells::List;
+use kv_face::KvStore;
+use script_lines::{Answer, Body, cut, is_blank, is_ok, render};
+use shared_state::{Event, State};
+use std::alloc::{AllocError, Global};
+
+/// How a run ended.
+#[derive(Drop)]
+pub struct Outcome {
+    /// 0 where each line did what it asks for, 1 where one didn't, 2 where the words name no script, 3 where the script
+    /// was not read, 4 where the answers were not written, 5 for want of memory.
+    pub status: u8,
+    /// The place of the script that was not read, where there is one.
+    pub script: Option<u32>,
+    /// What happened, the first event with the number 1.
+    pub history: List<Event>,
+    /// The answers of each session.
+    pub logs: List<List<Answer>>,
+}
+
+struct Progress<K: KvStore> {
+    session: Session<K>,
+    answers: Vec<Answer>,
+}
+
+fn run_lines<K: KvStore>(
+    alloc: Global,
+    progress: &mut Progress<K>,
+    script: &[u8],
+) -> Result<(), AllocError>
+    requires short { length script.now < 2 ^ 62 }
+    requires names { K.names progress.old.session.state.store ≡ None }
+    requires together { (cs : List ChangeOf) → IsDistinct bytes_eq (keys_of cs) → are_together (K.prefixes progress.old.session.state.store) cs 0 ≡ true }
+    requires ready { IsReady (K.contents progress.old.session.state.store) progress.old.session.state.events progress.old.session.bound }
+    requires answers { progress.old.answers.items ≡ [] }
+    requires bound { progress.old.session.bound ≡ None }
+    requires events { progress.old.session.state.events ≡ [] }
+    ensures answers { OnOk result (K.faults progress.new.session.state.store ≡ K.faults progress.old.session.state.store
+        → progress.new.answers.items ≡ (single_session script.now).answers) }
+    ensures events { OnOk result (K.faults progress.new.session.state.store ≡ K.faults progress.old.session.state.store
+        → progress.new.session.state.events ≡ (single_session script.now).session.events) }
+    ensures ready { IsReady (K.contents progress.new.session.state.store) progress.new.session.state.events progress.new.session.bound }
+    ensures faults { K.faults progress.old.session.state.store ≤ K.faults progress.new.session.state.store }
+{
+    let mut line = 0u64;
+    let mut rest = Some(script);
+    while let Some(bytes) = rest {
+        let (first, after) = cut(bytes);
+        line += 1;
+        if !is_blank(first) {
+            let body = step(alloc, &mut progress.session, line, first);
+            if let Body::Memory = body {
+                progress.answers.push(Answer { line, body })?;
+                return Err(AllocError);
+            }
+            progress.answers.push(Answer { line, body })?;
+        }
+        rest = after;
+    }
+    Ok(())
+}
+
+fn text_of(alloc: Global, answers: &[Answer]) -> Result<Vec<u8>, AllocError>
+    ensures { IfOk result (λ v. v.items ≡ text_of answers.now) }
+{
+    let mut text = Vec::new(alloc);
+    for answer in answers {
+        text.extend_from_slice(&render(alloc, answer)?)?;
+    }
+    Ok(text)
+}
+
+fn name_of(word: &str) -> Option<&str>
+    ensures { option_map (λ s. s.now) result ≡ name_of word.now }
+{
+    let first = *word.as_bytes().first()?;
+    if first == b'-' { None } else { Some(word) }
+}
+
+fn named_script(words: &[String]) -> Option<&str>
+    ensures { option_map (λ s. s.now) result ≡ named_script words.now }
+{
+    match words {
+        [word] => name_of(word.as_str()),
+        _ => None,
+    }
+}
+
+fn all_ok(answers: &[Answer]) -> bool
+    ensures { result ≡ list_all is_ok_answer answers.now }
+{
+    answers.iter().all(|answer| is_ok(answer))
+}
+
+fn finish<O: Sink>(alloc: Global, sink: &mut O, answers: &[Answer]) -> u8
+    ensures written { HasAnswers result → WhereTold (O.content sink.old) (λ before. O.content sink.new ≡ Some (before ++ text_of answers.now)) }
+    ensures status { HasAnswers result → result ≡ status_of answers.now }
+    ensures unwritten { Rises (O.faults sink.old) (O.faults sink.new) (result ≡ 4) }
+    ensures other { (result ≢ 2) × (result ≢ 3) }
+{
+    let Ok(text) = text_of(alloc, answers) else {
+        return 5;
+    };
+    if write_all(sink, &text).is_err() {
+        return 4;
+    }
+    if all_ok(answers) { 0 } else { 1 }
+}
+
+/// Runs a script that was read, and writes its answers.
+fn run_session<O: Sink, K: KvStore>(
+    alloc: Global,
+    sink: &mut O,
+    store: K,
+    script: &[u8],
+) -> (Outcome, K)
+    requires short { length script.now < 2 ^ 62 }
+    requires names { K.names store ≡ None }
+    requires together { (cs : List ChangeOf) → IsDistinct bytes_eq (keys_of cs) → are_together (K.prefixes store) cs 0 ≡ true }
+    requires empty { K.contents store ≡ Some finmap.empty }
+    ensures solo { HasAnswers result.0.status → K.faults result.1 ≡ K.faults store
+        → WhereTold (O.content sink.old) (λ before. IsSoloRun script.now result.0 before (O.content sink.new)) }
+    ensures store { IsOverEmpty (K.contents result.1) result.0.history }
+    ensures unwritten { Rises (O.faults sink.old) (O.faults sink.new) (result.0.status ≡ 4) }
+    ensures other { (result.0.status ≢ 2) × (result.0.status ≢ 3) }
+    ensures place { result.0.script ≡ None }
+{
+    let mut progress = Progress {
+        session: Session {
+            state: State::new(alloc, store),
+            bound: None,
+        },
+        answers: Vec::new(alloc),
+    };
+    let ended = run_lines(alloc, &mut progress, script);
+    let status = match ended {
+        Ok(()) => finish(alloc, sink, &progress.answers),
+        Err(_) => 5,
+    };
+    let Progress { session, answers } = progress;
+    let Session { state, bound: _ } = session;
+    let (store, events) = state.into_parts();
+    let history = List::wrap(events);
+    let mut logs = Vec::new(alloc);
+    match logs.push(List::wrap(answers)) {
+        Ok(()) => (
+            Outcome {
+                status,
+                script: None,
+                history,
+                logs: List::wrap(logs),
+            },
+            store,
+        ),
+        Err(_) => (
+            Outcome {
+                status: 5,
+                script: None,
+                history,
+                logs: List::wrap(Vec::new(alloc)),
+            },
+            store,
+        ),
+    }
+}
+
+fn no_session(alloc: Global, status: u8, script: Option<u32>) -> Outcome
+    ensures { result ≡ record { status = status; script = script; history = []; logs = [] } }
+{
+    Outcome {
+        status,
+        script,
+        history: List::wrap(Vec::new(alloc)),
+        logs: List::wrap(Vec::new(alloc)),
+    }
+}
+
+/// Runs the script that the words name as one session over a store, and writes its answers to the sink.
+///
+/// The words are accepted where there is one that isn't empty and doesn't begin with `-`. A script has at most 2^26
+/// bytes. The store gets what the script's writes say; the sink gets a line for each line that isn't blank.
+pub fn run<S: Scripts, O: Sink, K: KvStore>(
+    alloc: Global,
+    words: &[String],
+    scripts: &mut S,
+    sink: &mut O,
+    store: K,
+) -> (Outcome, K)
+    // The store takes every key and makes all changes together; it tells that it is empty.
+    requires names { K.names store ≡ None }
+    requires together { (cs : List ChangeOf) → IsDistinct bytes_eq (keys_of cs) → are_together (K.prefixes store) cs 0 ≡ true }
+    requires empty { K.contents store ≡ Some finmap.empty }
+    // The words are refused exactly where they name no script.
+    ensures refused { result.0.status ≡ 2 ↔ named_script words.now ≡ None }
+    // Without a fault of the store, what was written and what happened is what one session on plain arrays gives.
+    ensures solo { (name : List ℕ) → named_script words.now ≡ Some name → HasAnswers result.0.status → K.faults result.1 ≡ K.faults store
+        → WhereTold (S.content scripts.old name) (λ script. WhereTold (O.content sink.old) (λ before. IsSoloRun script result.0 before (O.content sink.new))) }
+    // In every outcome the store holds what the history says.
+    ensures store { IsOverEmpty (K.contents result.1) result.0.history }
+    // A script is not read only where the scripts failed or it is too long; nothing was run or written then.
+    ensures unread { result.0.status ≡ 3 → (name : List ℕ) → named_script words.now ≡ Some name
+        → HasRisen (S.faults scripts.old) (S.faults scripts.new) ⊎ WhereTold (S.content scripts.old name) (λ script. 67108864 < length script) }
+    ensures nothing { (result.0.status ≡ 2) ⊎ (result.0.status ≡ 3) → (result.0.history ≡ []) × (O.content sink.new ≡ O.content sink.old) × (result.1 ≡ store) }
+    ensures place { result.0.script ≡ (if result.0.status == 3 then Some 0 else None) }
+    // Answers are not written only where the sink failed.
+    ensures unwritten { Rises (O.faults sink.old) (O.faults sink.new) (result.0.status ≡ 4) }
+{
+    let Some(name) = named_script(words) else {
+        return (no_session(alloc, 2, None), store);
+    };
+    match read_script(alloc, scripts, name) {
+        Ok(script) => run_session(alloc, sink, store, &script),
+        Err(ReadError::Memory) => (no_session(alloc, 5, None), store),
+        Err(ReadError::Failed) => (no_session(alloc, 3, Some(0)), store),
+        Err(ReadError::TooLong) => (no_session(alloc, 3, Some(0)), store),
+    }
+}

@@ -1,0 +1,17 @@
+pub mod Tests
+pub mod Histories
+pub mod Geometry
+pub mod Puts
+pub mod Keys
+pub mod Stored
+pub mod Cutting
+pub mod Storing
+pub mod Known
+pub mod Untouched
+pub mod Apart
+pub mod Reading
+pub mod Writing
+pub mod Keeping
+pub mod Openings
+pub mod Indexing
+pub mod Fetching

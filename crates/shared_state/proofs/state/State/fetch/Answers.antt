@@ -1,0 +1,45 @@
+use Rattle.std.proofs.Common.{◌≡◌, ◌++◌, ◌∷◌, [], sym, ap, subst, ◌∙◌, refl, Some, length, arith}
+use Rattle.std.specs.Option.{option_copied}
+use Rattle.shared_state.specs.declared.array.ArrayInfo.{ArrayInfo}
+use Rattle.shared_state.specs.Arrays.{known_after}
+use Rattle.shared_state.specs.Index.{IsIndexed}
+use Rattle.shared_state.specs.Known.{info_of}
+use Rattle.shared_state.specs.Calls.{fault}
+use Rattle.shared_state.specs.State.{StateOf}
+use Rattle.shared_state.specs.Damage.{IsDamage}
+use Rattle.shared_state.proofs.Histories.{known_after-more}
+use Rattle.shared_state.proofs.Indexing.{indexed_same}
+use Rattle.shared_state.proofs.Fetching.{known_info, info_same, fetched, damage}
+use Rattle.shared_state.proofs.state.State.fetch.Goals as goal
+
+pub read_chunk-requires-clause-rank : goal.read_chunk-requires-clause-rank
+read_chunk-requires-clause-rank g c =
+    let found : Some c.in-Some.info.now ≡ info_of (known_after c.args.self.now.events c.args.array) =
+    sym (ap option_copied c.in-Some.is) ∙ c.array_at.ensures ∙ ap (λ es. info_of (known_after es c.args.array)) (c.deref.ensures.value ∙ ap (λ (s : StateOf g.row.K.Denot). s.events) c.self.view_is) in
+    let k = known_info (known_after c.args.self.now.events c.args.array) c.in-Some.info.now found in
+    c.requires.rank k.0 k.1 ∙ ap (λ (i : ArrayInfo). length i.shape) k.2
+
+pub invariant_of-self-in-Err-Failed : goal.invariant_of-self-in-Err-Failed
+invariant_of-self-in-Err-Failed g c =
+    let grown = c.add-event.ensures.items ∙ ap (λ es. es ++ fault c.args.owner c.in_ok-mount-in-Err-Failed.mount ∷ []) c.in_ok-reserve-in-Err-Failed.ensures.items in
+    let e = fault c.args.owner c.in_ok-mount-in-Err-Failed.mount in
+    subst (λ es. IsIndexed es c.self.inside.places.items) (sym grown) (indexed_same c.self.inside.events.items c.self.inside.places.items e c.self.invariant (λ a. known_after-more c.self.inside.events.items e a) refl)
+
+pub returns-in-Ok-clause-cells : goal.returns-in-Ok-clause-cells
+returns-in-Ok-clause-cells g c = λ start consistent k known.
+    let found : Some c.in-Some.info.now ≡ info_of (known_after c.args.self.now.events c.args.array) =
+    sym (ap option_copied c.in-Some.is) ∙ c.array_at.ensures ∙ ap (λ es. info_of (known_after es c.args.array)) (c.deref.ensures.value ∙ ap (λ (s : StateOf g.row.K.Denot). s.events) c.self.view_is) in
+    let told : g.K.KvStore.contents c.self.inside.store ≡ Some consistent.store = ap (λ (s : StateOf g.row.K.Denot). g.K.KvStore.contents s.store) c.self.view_is ∙ consistent.told in
+    fetched start consistent.store c.args.self.now.events c.args.array k c.in-Some.info.now c.args.chunk.now c.in-Ok.cells consistent.legal consistent.represents known (info_same c.args.self.now.events c.args.array c.in-Some.info.now k found known)
+    (c.requires.rank k known) (λ n. let fits = c.type_inv.chunk n in omega (arith, fits)) c.in-Ok.ensures.dtype c.in-Ok.ensures.shape (c.in-Ok.ensures.words consistent.store told)
+
+pub returns-in-Err-Damaged-clause-damaged : goal.returns-in-Err-Damaged-clause-damaged
+returns-in-Err-Damaged-clause-damaged g c = λ is.
+    let found : Some c.in-Some.info.now ≡ info_of (known_after c.args.self.now.events c.args.array) =
+    sym (ap option_copied c.in-Some.is) ∙ c.array_at.ensures ∙ ap (λ es. info_of (known_after es c.args.array)) (c.deref.ensures.value ∙ ap (λ (s : StateOf g.row.K.Denot). s.events) c.self.view_is) in (
+      ap (λ (s : StateOf g.row.K.Denot). s.events) c.self.view_is,
+      λ start consistent k known.
+          let told : g.K.KvStore.contents c.self.inside.store ≡ Some consistent.store = ap (λ (s : StateOf g.row.K.Denot). g.K.KvStore.contents s.store) c.self.view_is ∙ consistent.told in
+          damage start consistent.store c.args.self.now.events c.args.array k c.in-Some.info.now c.args.chunk.now consistent.legal consistent.represents known (info_same c.args.self.now.events c.args.array c.in-Some.info.now k found known)
+          (c.requires.rank k known) (λ n. let fits = c.type_inv.chunk n in omega (arith, fits)) (c.in-Err-Damaged.ensures.damaged (subst IsDamage (sym c.in-Err-Damaged.field-0-is) tt) consistent.store told),
+    )

@@ -1,0 +1,42 @@
+-- What a chunk's bytes are read as.
+use Rattle.std.specs.Prelude.{◌≡◌, ◌≢◌, ◌≤◌, ℕ, List, length, Option, Some, None}
+use Rattle.std.specs.FinMap as finmap
+use Rattle.cells.specs.Dense.{DenseCells}
+use Rattle.cells.specs.Places.{IsInside}
+use Rattle.kv_face.specs.Store.{Contents}
+use Rattle.zarr_chunks.specs.Metadata.{Metadata}
+use Rattle.zarr_chunks.specs.Chunk.{SpellsChunk, word_at, chunk_len}
+use Rattle.shared_state.specs.declared.array.Home.{Home}
+use Rattle.shared_state.specs.declared.array.Home.TheVariants.{Zarr}
+use Rattle.shared_state.specs.History.{History}
+use Rattle.shared_state.specs.Arrays.{Known, chunk_shape}
+use Rattle.shared_state.specs.Chunks.{Chunk, cell_at, chunk_key}
+use Rattle.shared_state.specs.Touch.{generation_of}
+use Rattle.shared_state.specs.Content.{content_after}
+
+-- the words of a stored chunk: those that its bytes spell, or the fill where it has none
+abbrev pub IsReadAs : Metadata → ℕ → Option (List ℕ) → (List ℕ → ℕ) → Type 0
+IsReadAs m fill None word = (index : List ℕ) → IsInside m.chunks index → word index ≡ fill
+IsReadAs m fill (Some bytes) word = SpellsChunk m bytes word
+
+abbrev pub IsRead : Home → ℕ → Option (List ℕ) → (List ℕ → ℕ) → Type 0
+IsRead (Zarr mount path meta) fill bytes word = IsReadAs meta fill bytes word
+
+-- the cells have the words of the chunk after a history
+pub record HasContent (start : Contents) (events : History) (k : Known) (c : Chunk) (cells : DenseCells) : Type 0 where
+  pub dtype : cells.dtype ≡ k.info.dtype
+  pub shape : cells.shape ≡ chunk_shape k.info
+  pub words : (index : List ℕ) → IsInside (chunk_shape k.info) index → content_after start events (cell_at k c index) ≡ Some (word_at cells index)
+
+-- bytes that are no chunk
+abbrev pub IsNoChunkOf : Metadata → Option (List ℕ) → Type 0
+IsNoChunkOf m None = ⊥
+IsNoChunkOf m (Some bytes) = length bytes ≢ chunk_len m
+
+abbrev pub IsNoChunk : Home → Option (List ℕ) → Type 0
+IsNoChunk (Zarr mount path meta) bytes = IsNoChunkOf meta bytes
+
+-- the chunk is as it was at the start, and is damaged
+pub record IsDamaged (start : Contents) (events : History) (k : Known) (c : Chunk) : Type 0 where
+  pub untouched : generation_of events c ≤ k.opened
+  pub bytes : IsNoChunk k.info.home (finmap.get start (chunk_key k.info.home c.index))

@@ -1,0 +1,72 @@
+ghost use Rattle.std.specs.Prelude.{◌≡◌};
+
+use cells::Name;
+use std::alloc::{AllocError, AllocFailed};
+use thiserror::Error;
+use zarr_chunks::ChunkError;
+
+/// Why stored bytes are no chunk.
+#[derive(Clone, Copy, Debug, PartialEq, Eq)]
+pub enum Damage {
+    Zarr { cause: ChunkError },
+}
+
+/// Why an array was not opened.
+#[derive(Clone, Copy, Debug, PartialEq, Eq, Error)]
+pub enum OpenError {
+    /// The store failed, which event `event` says.
+    #[error("the store failed: event {event}")]
+    StoreFailed { event: u64 },
+    #[error("out of memory")]
+    Memory,
+}
+
+/// Why a chunk was not read.
+#[derive(Debug, Drop)]
+pub enum FetchError {
+    /// The store failed, which event `event` says.
+    StoreFailed { event: u64 },
+    /// The bytes under the key are no chunk of the array.
+    Damaged { key: Name, cause: Damage },
+    Memory,
+}
+
+/// Why an array was not written.
+#[derive(Clone, Copy, Debug, PartialEq, Eq, Error)]
+pub enum WriteNowError {
+    /// The store failed, which event `event` says.
+    #[error("the store failed: event {event}")]
+    StoreFailed { event: u64 },
+    #[error("out of memory")]
+    Memory,
+}
+
+impl From<AllocError> for OpenError {
+    ghost use Rattle.shared_state.specs.declared.error.OpenError.TheVariants as opening;
+
+    ghost from_gives = { λ _ e. e ≡ opening.Memory };
+
+    fn from(_: AllocError) -> Self {
+        OpenError::Memory
+    }
+}
+
+impl From<AllocError> for FetchError {
+    ghost use Rattle.shared_state.specs.declared.error.FetchError.TheVariants as fetch;
+
+    ghost from_gives = { λ _ e. e ≡ fetch.Memory };
+
+    fn from(_: AllocError) -> Self {
+        FetchError::Memory
+    }
+}
+
+impl From<AllocError> for WriteNowError {
+    ghost use Rattle.shared_state.specs.declared.error.WriteNowError.TheVariants as write;
+
+    ghost from_gives = { λ _ e. e ≡ write.Memory };
+
+    fn from(_: AllocError) -> Self {
+        WriteNowError::Memory
+    }
+}

@@ -1,0 +1,23 @@
+//! The state that sessions share: the events of the run, and the store that holds what they say.
+//!
+//! Crates above rest on the history alone. `content_after` is the word at each cell after events, on plain arrays that
+//! know nothing of chunks, keys or bytes, and `IsConsistent` says that a history is legal and that the store holds
+//! exactly what it says; each call of `State` keeps that, and says which events it adds.
+#![tactic(auto)]
+
+mod array;
+mod cut;
+mod error;
+mod event;
+mod events;
+mod index;
+mod ops;
+mod read;
+mod state;
+mod store;
+
+pub use array::{ArrayInfo, ArrayRef, Home};
+pub use error::{Damage, FetchError, OpenError, WriteNowError};
+pub use event::{Event, Kind, Mode, Op};
+pub use ops::Ops;
+pub use state::{Opening, State};

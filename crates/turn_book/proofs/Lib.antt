@@ -1,0 +1,5 @@
+pub mod Lists
+pub mod Turning
+pub mod Dealing
+pub mod Closing
+pub mod Histories

@@ -1,0 +1,6 @@
+pub mod Elements
+pub mod Gathering
+pub mod Backwards
+pub mod GatheredPlaces
+pub mod ChunkLaws
+pub mod MetadataLaws

@@ -1,0 +1,38 @@
+-- What a chunk's bytes spell.
+use Rattle.std.specs.Prelude.{◌≡◌, ℕ, ◌*◌, ◌<◌, Bool, List, length, take, drop, slice_index}
+use Rattle.cells.specs.Numbers.{IsWord}
+use Rattle.cells.specs.Bytes.{byte_count, word_bytes, word_of_bytes}
+use Rattle.cells.specs.Dense.{DenseCells}
+use Rattle.cells.specs.Places.{cell_count, IsInside, place_of, c_place}
+use Rattle.cells.specs.declared.dtype.Dtype.{Dtype}
+use Rattle.zarr_chunks.specs.Metadata.{Metadata}
+
+-- the bytes of the element at a place, where each has `size` bytes
+abbrev pub element_bytes : ℕ → List ℕ → ℕ → List ℕ
+element_bytes size bytes place = take size (drop (place * size) bytes)
+
+-- the bytes are these words one after another, and nothing else
+pub record SpellsWords (dtype : Dtype) (big : Bool) (bytes words : List ℕ) : Type 0 where
+  pub count : length bytes ≡ length words * byte_count dtype
+  pub elements : (place : ℕ) → place < length words → element_bytes (byte_count dtype) bytes place ≡ word_bytes dtype big (slice_index words place)
+  pub are_words : (place : ℕ) → place < length words → IsWord dtype (slice_index words place)
+
+-- the bytes are a chunk of the array and nothing else, in which each index vector of the chunk has this word: the
+-- elements stand in the stated order, each in the stated byte order
+pub record SpellsChunk (m : Metadata) (bytes : List ℕ) (word : List ℕ → ℕ) : Type 0 where
+  pub count : length bytes ≡ cell_count m.chunks * byte_count m.dtype
+  pub elements : (index : List ℕ) → IsInside m.chunks index
+      → element_bytes (byte_count m.dtype) bytes (place_of m.chunks m.order index) ≡ word_bytes m.dtype m.big (word index)
+  pub are_words : (index : List ℕ) → IsInside m.chunks index → IsWord m.dtype (word index)
+
+-- how many bytes a chunk has
+abbrev pub chunk_len : Metadata → ℕ
+chunk_len m = cell_count m.chunks * byte_count m.dtype
+
+-- the word of an index vector, where the words of a shape stand in C order
+abbrev pub word_at : DenseCells → List ℕ → ℕ
+word_at cells index = slice_index cells.words (c_place cells.shape index)
+
+-- the word that a chunk's bytes give an index vector
+abbrev pub chunk_word : Metadata → List ℕ → List ℕ → ℕ
+chunk_word m bytes index = word_of_bytes m.dtype m.big (element_bytes (byte_count m.dtype) bytes (place_of m.chunks m.order index))

@@ -1,0 +1,6 @@
+pub mod Metadata
+pub mod Key
+pub mod Chunk
+pub mod Reorder
+pub mod Written
+pub mod Described

@@ -1,0 +1,115 @@
+ghost use Rattle.std.specs.Prelude.{◌≡◌, ◌≢◌, ◌↔◌, ◌*◌, ◌<◌, ◌≤◌, ◌^◌, ℕ, IfOk, IfErr, length, slice_index};
+ghost use Rattle.cells.specs.Numbers.{IsWord};
+ghost use Rattle.cells.specs.Places.{cell_count, c_place};
+ghost use Rattle.zarr_chunks.specs.Chunk.{SpellsChunk, chunk_len, word_at};
+
+use crate::metadata::ZarrMeta;
+use crate::reorder::{c_from_f, f_from_c};
+use crate::spelling::{byte_count, bytes_of, words_of};
+use cells::{Dense, Order, Sizes, Words, count_cells};
+use std::alloc::{AllocError, Global};
+use thiserror::Error;
+
+/// Why bytes are no chunk.
+#[derive(Clone, Copy, Debug, PartialEq, Eq, Error)]
+pub enum ChunkError {
+    /// There are `have` bytes; the chunk shape and the dtype want `want`.
+    #[error("a chunk of {want} bytes has {have}")]
+    WrongLength { have: u64, want: u64 },
+    /// An allocation failed.
+    #[error("out of memory")]
+    Memory,
+}
+
+/// The numbers that a chunk's bytes spell: the elements in the stated order and byte order, and nothing else.
+///
+/// Zarr version 2, "Chunks".
+///
+/// # Errors
+/// `WrongLength` where the length isn't that of a chunk, and `Memory` where an allocation failed.
+pub fn decode(alloc: Global, m: &ZarrMeta, bytes: &[u8]) -> Result<Dense, ChunkError>
+    ensures dtype { IfOk result (λ d. d.dtype ≡ m.now.dtype) }
+    ensures shape { IfOk result (λ d. d.shape ≡ m.now.chunks) }
+    ensures spells { IfOk result (λ d. SpellsChunk m.now bytes.now (word_at d)) }
+    ensures wrong_length { (result ≡ Err (ChunkError.WrongLength (length bytes.now) (chunk_len m.now)))
+        ↔ (length bytes.now ≢ chunk_len m.now) }
+    ensures causes { IfErr result (λ e. e ≢ ChunkError.Memory
+        → e ≡ ChunkError.WrongLength (length bytes.now) (chunk_len m.now)) }
+{
+    let count = cells_of(m);
+    let want = count * byte_count(m.dtype);
+    if bytes.len() != want {
+        return Err(ChunkError::WrongLength {
+            have: bytes.len() as u64,
+            want: want as u64,
+        });
+    }
+    let Ok(words) = read_words(alloc, m, count, bytes) else {
+        return Err(ChunkError::Memory);
+    };
+    let Ok(shape) = Vec::from_slice(alloc, m.chunks.items()) else {
+        return Err(ChunkError::Memory);
+    };
+    Ok(Dense::new(m.dtype, Sizes::wrap(shape), Words::wrap(words)))
+}
+
+/// The bytes of a chunk that spell its numbers.
+///
+/// Zarr version 2, "Chunks".
+///
+/// # Errors
+/// An allocation failed.
+pub fn encode(alloc: Global, m: &ZarrMeta, d: &Dense) -> Result<Vec<u8>, AllocError>
+    requires dtype { d.now.dtype ≡ m.now.dtype }
+    requires shape { d.now.shape ≡ m.now.chunks }
+    ensures { IfOk result (λ bytes. SpellsChunk m.now bytes.items (word_at d.now)) }
+{
+    write_words(alloc, m, d.words())
+}
+
+// The number of cells of a chunk.
+fn cells_of(m: &ZarrMeta) -> usize
+    ensures value { result ≡ cell_count m.now.chunks }
+    ensures small { result ≤ 2 ^ 24 }
+{
+    let Some(count) = count_cells(m.chunks.items(), 1 << 24) else {
+        unreachable!();
+    };
+    count as usize
+}
+
+// The words that a chunk's bytes spell, in C order.
+fn read_words(
+    alloc: Global,
+    m: &ZarrMeta,
+    count: usize,
+    bytes: &[u8],
+) -> Result<Vec<u64>, AllocError>
+    requires count { count ≡ cell_count m.now.chunks }
+    requires full { length bytes.now ≡ chunk_len m.now }
+    ensures count { IfOk result (λ words. length words.items ≡ cell_count m.now.chunks) }
+    ensures spells { IfOk result (λ words. SpellsChunk m.now bytes.now
+        (λ index. slice_index words.items (c_place m.now.chunks index))) }
+{
+    let words = words_of(alloc, m.dtype, m.big, count, bytes)?;
+    match m.order {
+        Order::C => Ok(words),
+        Order::F => c_from_f(alloc, m.chunks.items(), words.as_slice()),
+    }
+}
+
+// The bytes that spell words, given in C order.
+fn write_words(alloc: Global, m: &ZarrMeta, words: &[u64]) -> Result<Vec<u8>, AllocError>
+    requires count { length words.now ≡ cell_count m.now.chunks }
+    requires words { (place : ℕ) → place < length words.now → IsWord m.now.dtype (slice_index words.now place) }
+    ensures { IfOk result (λ bytes. SpellsChunk m.now bytes.items
+        (λ index. slice_index words.now (c_place m.now.chunks index))) }
+{
+    match m.order {
+        Order::C => bytes_of(alloc, m.dtype, m.big, words),
+        Order::F => {
+            let stored = f_from_c(alloc, m.chunks.items(), words)?;
+            bytes_of(alloc, m.dtype, m.big, stored.as_slice())
+        }
+    }
+}

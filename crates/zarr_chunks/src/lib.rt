@@ -1,0 +1,22 @@
+//! Arrays of the eight dtypes as Zarr version 2 stores them: metadata, keys of chunks, and chunks.
+//!
+//! Crates above rest on what bytes spell. `SpellsMetadata` ties the bytes of `.zarray` to an array's metadata, and
+//! `SpellsChunk` ties a chunk's bytes to the word at each index vector of the chunk; reading answers what the bytes
+//! spell, and writing spells its argument. `chunk_key` is a chunk's name below its array.
+#![tactic(auto)]
+
+mod chunk;
+mod key;
+mod metadata;
+mod reorder;
+mod rules;
+mod spelling;
+#[cfg(test)]
+mod tests;
+mod write;
+
+pub use chunk::{ChunkError, decode, encode};
+pub use key::key_of;
+pub use metadata::ZarrMeta;
+pub use rules::{is_chunk_shape, is_shape};
+pub use write::write_meta;

@@ -1,0 +1,52 @@
+use cells::{Dtype, Order, Sizes};
+use std::marker::Model;
+
+/// The metadata of an array: what stands in its `.zarray`.
+///
+/// The shape has at most 32 sizes, each at most 2^62 - 2. The chunk shape has as many, each from 1 to 2^24, with a
+/// product of at most 2^24. The fill is a word of the dtype.
+///
+/// Zarr version 2, "Metadata".
+#[derive(Debug, Drop)]
+pub struct ZarrMeta {
+    /// The array's shape, in cells.
+    pub shape: Sizes,
+    /// The shape of each chunk, in cells.
+    pub chunks: Sizes,
+    /// The type of the elements.
+    pub dtype: Dtype,
+    /// Whether the highest byte of an element stands first. It makes no difference where an element is one byte.
+    pub big: bool,
+    /// The word of a cell whose chunk isn't stored; `None` is written as null and counts as 0.
+    pub fill: Option<u64>,
+    /// The order of the elements in a chunk.
+    pub order: Order,
+    /// Whether "/" stands between the indices of a key, and not ".".
+    pub slash: bool,
+}
+
+impl Model for ZarrMeta {
+    ghost use Rattle.zarr_chunks.specs.Metadata.{Metadata, IsMetadata};
+
+    ghost Value = { Metadata };
+
+    ghost view = { λ m. record {
+      shape = m.shape;
+      chunks = m.chunks;
+      dtype = m.dtype;
+      big = m.big;
+      fill = m.fill;
+      order = m.order;
+      slash = m.slash;
+    } };
+
+    ghost invariant = { λ m. IsMetadata (record {
+      shape = m.shape;
+      chunks = m.chunks;
+      dtype = m.dtype;
+      big = m.big;
+      fill = m.fill;
+      order = m.order;
+      slash = m.slash;
+    }) };
+}
