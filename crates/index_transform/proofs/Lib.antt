@@ -1,0 +1,9 @@
+pub mod MapLemmas
+pub mod EntryLemmas
+pub mod ListLemmas
+pub mod InsideLemmas
+pub mod CellLemmas
+pub mod WalkLemmas
+pub mod EdgeLemmas
+pub mod TightLemmas
+pub mod FitLemmas
