@@ -1,6 +1,6 @@
 -- A fetched chunk, and the array that it belongs to.
 use Rattle.std.proofs.Common.{◌≡◌, ℕ, ◌<◌, ◌≤◌, ◌^◌, List, [], ◌∷◌, ◌++◌, length, Option, Some, None, inl, inr, refl, sym, ap, subst, ◌∙◌, arith, bytes_eq}
-use Rattle.std.specs.Prelude.{slice_index, All, unwrap_or, count_by}
+use Rattle.std.specs.Prelude.{slice_index, All, IsSome, unwrap_or, count_by}
 use Rattle.std.specs.List.{IsDistinct}
 use Rattle.std.specs.Option.{ForSome}
 use Rattle.std.specs.FinMap as finmap
@@ -18,6 +18,7 @@ use Rattle.zarr_chunks.specs.Metadata.{Metadata, IsMetadata}
 use Rattle.zarr_chunks.specs.Chunk.{word_at}
 use Rattle.shared_state.specs.declared.array.ArrayInfo.{ArrayInfo}
 use Rattle.shared_state.specs.declared.array.Home.{Home}
+use Rattle.shared_state.specs.declared.error.Damage.{Damage}
 use Rattle.shared_state.specs.declared.array.Home.TheVariants.{Zarr}
 use Rattle.shared_state.specs.declared.event.Mode.{Mode}
 use Rattle.shared_state.specs.History.{History}
@@ -44,6 +45,10 @@ pub known_info : (o : Option Known) (i : ArrayInfo) → Some i ≡ info_of o →
 known_info None i e = absurd (cc)
 known_info (Some k) i e = (k, refl, sym (some_inj i k.info e))
 
+pub known_some : (o : Option Known) → IsSome o → (k : Known) × (o ≡ Some k)
+known_some None h = absurd (cc)
+known_some (Some k) h = (k, refl)
+
 -- another way to know it
 pub info_same : (events : History) (a : ℕ) (i : ArrayInfo) (k : Known) → Some i ≡ info_of (known_after events a) → known_after events a ≡ Some k → k.info ≡ i
 info_same events a i k e is = sym (some_inj i k.info (e ∙ ap info_of is))
@@ -62,27 +67,27 @@ fetched start store events a k i chunk cells legal represents is same rank small
       words = λ n inside. read_content store start events legal represents (record { array = a; index = chunk }) k is index (word_at cells) here n inside;
     }
 
-no_chunk_spelled : (home : Home) (bytes : List ℕ) (w : List ℕ → ℕ) → Spells home bytes w → IsNoChunk home (Some bytes) → ⊥
-no_chunk_spelled (Zarr mount path meta) bytes w spells broken = broken spells.count
+no_chunk_spelled : (home : Home) (bytes : List ℕ) (w : List ℕ → ℕ) (cause : Damage) → Spells home bytes w → IsNoChunk home (Some bytes) cause → ⊥
+no_chunk_spelled (Zarr mount path meta) bytes w cause spells broken = broken.0 spells.count
 
-no_chunk_kept : (start : Contents) (events : History) (k : Known) (c : Chunk) (o : Option (List ℕ)) → IsChunkKept start events k c o → IsNoChunk k.info.home o → ⊥
-no_chunk_kept start events k c None kept broken = nothing k.info.home broken where
-  nothing : (home : Home) → IsNoChunk home None → ⊥
+no_chunk_kept : (start : Contents) (events : History) (k : Known) (c : Chunk) (o : Option (List ℕ)) (cause : Damage) → IsChunkKept start events k c o → IsNoChunk k.info.home o cause → ⊥
+no_chunk_kept start events k c None cause kept broken = nothing k.info.home broken where
+  nothing : (home : Home) → IsNoChunk home None cause → ⊥
   nothing (Zarr mount path meta) none = none
-no_chunk_kept start events k c (Some bytes) kept broken = no_chunk_spelled k.info.home bytes kept.0.word kept.0.spells broken
+no_chunk_kept start events k c (Some bytes) cause kept broken = no_chunk_spelled k.info.home bytes kept.0.word cause kept.0.spells broken
 
 -- bytes that are no chunk were there at the start
-pub damage : (start store : Contents) (events : History) (a : ℕ) (k : Known) (i : ArrayInfo) (chunk : List ℕ) → IsLegal start events → RepresentsHistory store start events → known_after events a ≡ Some k → k.info ≡ i → length chunk ≡ length k.info.shape
-    → ((n : ℕ) → slice_index chunk n < 2 ^ 64) → IsNoChunk i.home (finmap.get store (chunk_key i.home chunk)) → IsDamaged start events k (record { array = a; index = chunk })
-damage start store events a k i chunk legal represents is same rank small broken =
+pub damage : (start store : Contents) (events : History) (a : ℕ) (k : Known) (i : ArrayInfo) (chunk : List ℕ) (cause : Damage) → IsLegal start events → RepresentsHistory store start events → known_after events a ≡ Some k → k.info ≡ i → length chunk ≡ length k.info.shape
+    → ((n : ℕ) → slice_index chunk n < 2 ^ 64) → IsNoChunk i.home (finmap.get store (chunk_key i.home chunk)) cause → IsDamaged start events k (record { array = a; index = chunk }) cause
+damage start store events a k i chunk cause legal represents is same rank small broken =
     let c : Chunk = record { array = a; index = chunk } in
     let good = known_good start a events legal k is in
     let grid = good_grid a k good in
     let index : IsIndexOf k chunk = record { rank = rank ∙ ap length (sym good.shape) ∙ sym grid.ranks; small = all_small chunk (λ n lt. small n) } in
-    let here : IsNoChunk k.info.home (finmap.get store (chunk_key k.info.home chunk)) = subst (λ (j : ArrayInfo). IsNoChunk j.home (finmap.get store (chunk_key j.home chunk))) (sym same) broken in
+    let here : IsNoChunk k.info.home (finmap.get store (chunk_key k.info.home chunk)) cause = subst (λ (j : ArrayInfo). IsNoChunk j.home (finmap.get store (chunk_key j.home chunk)) cause) (sym same) broken in
     elim (less_or_not k.opened (generation_of events c)) [
-      | inl late ↦ absurd (no_chunk_kept start events k c _ (represents.chunks c k (chunk_key k.info.home chunk) (record { known = is; touched = late }) (ap (λ o. key_in o c) is)) here)
-      | inr old ↦ record { untouched = old; bytes = subst (IsNoChunk k.info.home) (unchanged_key store start events legal represents c k is index old) here }
+      | inl late ↦ absurd (no_chunk_kept start events k c _ cause (represents.chunks c k (chunk_key k.info.home chunk) (record { known = is; touched = late }) (ap (λ o. key_in o c) is)) here)
+      | inr old ↦ record { untouched = old; bytes = subst (λ o. IsNoChunk k.info.home o cause) (unchanged_key store start events legal represents c k is index old) here }
     ]
 
 -- what may be written to an array
@@ -193,3 +198,7 @@ opening_of inside events places number mount path m info indexed same count is s
 pub one_distinct : (cs : List Change) (c : Change) → cs ≡ c ∷ [] → IsDistinct bytes_eq (keys_of cs)
 unfolding IsDistinct
 one_distinct cs c is = subst (λ (ds : List Change). IsDistinct bytes_eq (keys_of ds)) (sym is) (tt, tt)
+
+-- the store and the events are what they were
+pub kept_same : {start : Contents} {contents now : Option Contents} {events later : History} → IsConsistent start contents events → now ≡ contents → later ≡ events → IsConsistent start now later
+kept_same {start} {contents} {now} {events} {later} h c e = subst (λ o. IsConsistent start o later) (sym c) (subst (λ es. IsConsistent start contents es) (sym e) h)

@@ -5,9 +5,11 @@ pub mod Puts
 pub mod Keys
 pub mod Stored
 pub mod Cutting
+pub mod Pasting
 pub mod Storing
 pub mod Known
 pub mod Untouched
+pub mod Plain
 pub mod Apart
 pub mod Reading
 pub mod Writing
@@ -15,3 +17,4 @@ pub mod Keeping
 pub mod Openings
 pub mod Indexing
 pub mod Fetching
+pub mod Gathering

@@ -13,6 +13,10 @@ use Rattle.shared_state.specs.Arrays.{Known, chunk_shape}
 use Rattle.shared_state.specs.Chunks.{Chunk, cell_at, chunk_key}
 use Rattle.shared_state.specs.Touch.{generation_of}
 use Rattle.shared_state.specs.Content.{content_after}
+use Rattle.shared_state.specs.Store.{IsConsistent}
+use Rattle.zarr_chunks.specs.declared.chunk.ChunkError.TheVariants as chunk
+use Rattle.shared_state.specs.declared.error.Damage.{Damage}
+use Rattle.shared_state.specs.declared.error.Damage.TheVariants as damage
 
 -- the words of a stored chunk: those that its bytes spell, or the fill where it has none
 abbrev pub IsReadAs : Metadata → ℕ → Option (List ℕ) → (List ℕ → ℕ) → Type 0
@@ -28,15 +32,22 @@ pub record HasContent (start : Contents) (events : History) (k : Known) (c : Chu
   pub shape : cells.shape ≡ chunk_shape k.info
   pub words : (index : List ℕ) → IsInside (chunk_shape k.info) index → content_after start events (cell_at k c index) ≡ Some (word_at cells index)
 
--- bytes that are no chunk
-abbrev pub IsNoChunkOf : Metadata → Option (List ℕ) → Type 0
-IsNoChunkOf m None = ⊥
-IsNoChunkOf m (Some bytes) = length bytes ≢ chunk_len m
+-- bytes that are no chunk, and why
+abbrev pub IsNoChunkOf : Metadata → Option (List ℕ) → Damage → Type 0
+IsNoChunkOf m None cause = ⊥
+IsNoChunkOf m (Some bytes) cause = (length bytes ≢ chunk_len m) × (cause ≡ damage.Zarr (chunk.WrongLength (length bytes) (chunk_len m)))
 
-abbrev pub IsNoChunk : Home → Option (List ℕ) → Type 0
-IsNoChunk (Zarr mount path meta) bytes = IsNoChunkOf meta bytes
+abbrev pub IsNoChunk : Home → Option (List ℕ) → Damage → Type 0
+IsNoChunk (Zarr mount path meta) bytes cause = IsNoChunkOf meta bytes cause
 
 -- the chunk is as it was at the start, and is damaged
-pub record IsDamaged (start : Contents) (events : History) (k : Known) (c : Chunk) : Type 0 where
+pub record IsDamaged (start : Contents) (events : History) (k : Known) (c : Chunk) (cause : Damage) : Type 0 where
   pub untouched : generation_of events c ≤ k.opened
-  pub bytes : IsNoChunk k.info.home (finmap.get start (chunk_key k.info.home c.index))
+  pub bytes : IsNoChunk k.info.home (finmap.get start (chunk_key k.info.home c.index)) cause
+
+-- a chunk of the array's grid, under this key, is damaged
+pub record IsDamagedIn (events : History) (contents : Option Contents) (k : Known) (grid key : List ℕ) (cause : Damage) : Type 0 where
+  pub chunk : List ℕ
+  pub inside : IsInside grid chunk
+  pub named : key ≡ chunk_key k.info.home chunk
+  pub damaged : (start : Contents) → IsConsistent start contents events → IsDamaged start events k (record { array = k.info.number; index = chunk }) cause

@@ -26,7 +26,7 @@ pub(crate) fn is_inside(shape: &[u64], index: &[u64]) -> bool
 }
 
 /// Writes the index vector in the array of one within a chunk.
-fn in_array(chunk: &[u64], place: &[u64], index: &[u64], out: &mut [u64])
+pub(crate) fn in_array(chunk: &[u64], place: &[u64], index: &[u64], out: &mut [u64])
     requires places { length place.now ≡ length chunk.now }
     requires indices { length index.now ≡ length chunk.now }
     requires room { length out.old ≡ length chunk.now }

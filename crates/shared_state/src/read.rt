@@ -1,5 +1,5 @@
 // One chunk as it is read from a store.
-ghost use Rattle.std.specs.Prelude.{◌≡◌, ◌≢◌, ◌++◌, ◌∷◌, [], ℕ, List, length, IfOk, IfErr, string_bytes, option_map, Some, None};
+ghost use Rattle.std.specs.Prelude.{◌≡◌, ◌≢◌, ◌++◌, ◌∷◌, [], ℕ, List, length, IfOk, string_bytes, option_map, Some, None};
 ghost use Rattle.std.specs.FinMap as finmap;
 ghost use Rattle.kv_face.specs.Store.{Contents, HasCause};
 ghost use Rattle.zarr_chunks.specs.Chunk.{word_at};
@@ -7,7 +7,7 @@ ghost use Rattle.shared_state.specs.Arrays.{chunk_shape};
 ghost use Rattle.shared_state.specs.Chunks.{home_text, chunk_key, metadata_key};
 ghost use Rattle.shared_state.specs.Legal.{IsAsStored};
 ghost use Rattle.shared_state.specs.Reads.{IsRead, IsReadAs, IsNoChunk, IsNoChunkOf};
-ghost use Rattle.shared_state.specs.Damage.{IsDamage};
+ghost use Rattle.shared_state.specs.declared.error.Damage.{Damage as DamageOf};
 ghost use Rattle.cells.specs.Numbers.{IsWord};
 
 use crate::array::{ArrayInfo, Home};
@@ -44,7 +44,7 @@ fn cells_of(
     ensures dtype { IfOk result (λ d. d.dtype ≡ meta.now.dtype) }
     ensures shape { IfOk result (λ d. d.shape ≡ meta.now.chunks) }
     ensures words { IfOk result (λ d. IsReadAs meta.now fill (option_map (λ b. b.items) bytes) (word_at d)) }
-    ensures damaged { IfErr result (λ e. IsDamage e → IsNoChunkOf meta.now (option_map (λ b. b.items) bytes)) }
+    ensures damaged { (at : List ℕ) (cause : DamageOf) → result ≡ Err (ReadError.Damaged at cause) → (at ≡ key) × IsNoChunkOf meta.now (option_map (λ b. b.items) bytes) cause }
     ensures not_failed { result ≢ Err ReadError.Failed }
 {
     match bytes {
@@ -77,8 +77,8 @@ pub(crate) fn read_chunk<K: KvStore>(
     ensures shape { IfOk result (λ d. d.shape ≡ chunk_shape info.now) }
     ensures words { IfOk result (λ d. (m : Contents) → K.contents store.old ≡ Some m
         → IsRead info.now.home info.now.fill (finmap.get m (chunk_key info.now.home chunk.now)) (word_at d)) }
-    ensures damaged { IfErr result (λ e. IsDamage e → (m : Contents) → K.contents store.old ≡ Some m
-        → IsNoChunk info.now.home (finmap.get m (chunk_key info.now.home chunk.now))) }
+    ensures damaged { (at : List ℕ) (cause : DamageOf) → result ≡ Err (ReadError.Damaged at cause) → (at ≡ chunk_key info.now.home chunk.now)
+        × ((m : Contents) → K.contents store.old ≡ Some m → IsNoChunk info.now.home (finmap.get m (chunk_key info.now.home chunk.now)) cause) }
     ensures contents { K.contents store.new ≡ K.contents store.old }
     ensures prefixes { K.prefixes store.new ≡ K.prefixes store.old }
     ensures names { K.names store.new ≡ K.names store.old }

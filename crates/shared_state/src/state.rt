@@ -5,23 +5,26 @@ ghost use Rattle.cells.specs.Numbers.{IsWord};
 ghost use Rattle.cells.specs.Places.{cell_count};
 ghost use Rattle.kv_face.specs.declared.change.Change.{Change as ChangeOf};
 ghost use Rattle.kv_face.specs.Store.{Contents, HasCause, after, keys_of, are_together};
-ghost use Rattle.shared_state.specs.Answers.{IsDamagedAnswer};
+ghost use Rattle.shared_state.specs.declared.error.Damage.{Damage as DamageOf};
 ghost use Rattle.std.specs.FinMap as finmap;
-ghost use Rattle.shared_state.specs.Arrays.{Known, known_after, ref_of};
-ghost use Rattle.shared_state.specs.Chunks.{metadata_key};
+ghost use Rattle.shared_state.specs.Arrays.{Known, known_after, chunk_shape, ref_of};
+ghost use Rattle.shared_state.specs.Chunks.{chunk_key, metadata_key};
 ghost use Rattle.shared_state.specs.Legal.{IsApartFrom, is_opening};
 ghost use Rattle.shared_state.specs.Calls.{Adds, opened, done_write, plain, fault, mount_of, new_info};
 ghost use Rattle.shared_state.specs.Store.{IsConsistent};
-ghost use Rattle.shared_state.specs.Reads.{HasContent, IsDamaged};
+ghost use Rattle.shared_state.specs.Grid.{grid_of};
+ghost use Rattle.shared_state.specs.Paste.{IsWholeArray};
+ghost use Rattle.shared_state.specs.Reads.{HasContent, IsDamaged, IsDamagedIn};
 
 use crate::array::{ArrayRef, Home};
 use crate::error::{FetchError, OpenError, WriteNowError};
 use crate::event::{Event, Kind};
 use crate::events::{add, add_place, copy_name, done_write, info_for, ref_of};
+use crate::gather::gather;
 use crate::index::array_at;
 use crate::read::{ReadError, read_chunk};
 use crate::store::{changes_for, metadata_change};
-use cells::Dense;
+use cells::{Dense, count_cells};
 use kv_face::{Change, KvError, KvStore};
 use std::alloc::{AllocError, Global};
 use std::marker::Model;
@@ -102,11 +105,12 @@ impl<K: KvStore> State<K> {
         requires names { K.names self.old.store ≡ None }
         ensures cells { IfOk result (λ d. (start : Contents) → IsConsistent start (K.contents self.old.store) self.old.events
             → (k : Known) → known_after self.old.events array ≡ Some k → HasContent start self.old.events k (record { array = array; index = chunk.now }) d) }
+        ensures form { IfOk result (λ d. (k : Known) → known_after self.old.events array ≡ Some k → (d.dtype ≡ k.info.dtype) × (d.shape ≡ chunk_shape k.info)) }
         ensures ok { OnOk result (self.new.events ≡ self.old.events) }
         ensures memory { result ≡ Err FetchError.Memory → self.new.events ≡ self.old.events }
-        ensures damaged { IfErr result (λ e. IsDamagedAnswer e → (self.new.events ≡ self.old.events)
-            × ((start : Contents) → IsConsistent start (K.contents self.old.store) self.old.events
-            → (k : Known) → known_after self.old.events array ≡ Some k → IsDamaged start self.old.events k (record { array = array; index = chunk.now }))) }
+        ensures damaged { (key : List ℕ) (cause : DamageOf) → result ≡ Err (FetchError.Damaged key cause) → (self.new.events ≡ self.old.events)
+            × ((k : Known) → known_after self.old.events array ≡ Some k → (key ≡ chunk_key k.info.home chunk.now)
+            × ((start : Contents) → IsConsistent start (K.contents self.old.store) self.old.events → IsDamaged start self.old.events k (record { array = array; index = chunk.now }) cause)) }
         ensures failed { (event : ℕ) → result ≡ Err (FetchError.StoreFailed event)
             → (K.faults self.old.store < K.faults self.new.store)
             × ((k : Known) → known_after self.old.events array ≡ Some k → Adds self.old.events self.new.events (fault owner (mount_of k.info.home)) event) }
@@ -135,6 +139,45 @@ impl<K: KvStore> State<K> {
                 );
                 Err(FetchError::StoreFailed { event })
             }
+        }
+    }
+
+    /// The words of every cell of an array, in C order, as they are now.
+    ///
+    /// # Errors
+    /// `StoreFailed` where the store failed, which one event more says; `Damaged` where the stored bytes of a chunk are none.
+    pub fn read_now(&mut self, owner: u32, array: u64) -> Result<Vec<u64>, FetchError>
+        requires known { IsSome (known_after self.old.events array) }
+        requires small { (k : Known) → known_after self.old.events array ≡ Some k → cell_count k.shape ≤ 2 ^ 22 }
+        requires names { K.names self.old.store ≡ None }
+        ensures words { IfOk result (λ v. (start : Contents) → IsConsistent start (K.contents self.old.store) self.old.events
+            → (k : Known) → known_after self.old.events array ≡ Some k → IsWholeArray start self.old.events k v.items) }
+        ensures ok { OnOk result (self.new.events ≡ self.old.events) }
+        ensures memory { result ≡ Err FetchError.Memory → self.new.events ≡ self.old.events }
+        ensures damaged { (key : List ℕ) (cause : DamageOf) → result ≡ Err (FetchError.Damaged key cause) → (self.new.events ≡ self.old.events)
+            × ((k : Known) → known_after self.old.events array ≡ Some k → IsDamagedIn self.old.events (K.contents self.old.store) k (grid_of k.info.shape (chunk_shape k.info)) key cause) }
+        ensures failed { (event : ℕ) → result ≡ Err (FetchError.StoreFailed event)
+            → (K.faults self.old.store < K.faults self.new.store)
+            × ((k : Known) → known_after self.old.events array ≡ Some k → Adds self.old.events self.new.events (fault owner (mount_of k.info.home)) event) }
+        ensures faults { K.faults self.old.store ≤ K.faults self.new.store }
+        ensures contents { K.contents self.new.store ≡ K.contents self.old.store }
+        ensures prefixes { K.prefixes self.new.store ≡ K.prefixes self.old.store }
+        ensures names { K.names self.new.store ≡ K.names self.old.store }
+    {
+        let alloc = self.alloc;
+        let Some(info) = array_at(&self.events, &self.places, array) else {
+            unreachable!();
+        };
+        let Home::Zarr { meta, .. } = &info.home;
+        let shape = Vec::from_slice(alloc, info.shape.items())?;
+        let sizes = Vec::from_slice(alloc, meta.chunks.items())?;
+        let Some(count) = count_cells(&shape, 1 << 22) else {
+            unreachable!();
+        };
+        let mut words = vec![in alloc; 0u64; count as usize]?;
+        match gather(alloc, self, owner, array, &shape, &sizes, &mut words) {
+            Ok(()) => Ok(words),
+            Err(error) => Err(error),
         }
     }
 

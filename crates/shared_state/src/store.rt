@@ -78,7 +78,7 @@ fn change(
 }
 
 /// How many chunks there are along each dimension.
-fn grid(alloc: Global, shape: &[u64], sizes: &[u64]) -> Result<Vec<u64>, AllocError>
+pub(crate) fn grid(alloc: Global, shape: &[u64], sizes: &[u64]) -> Result<Vec<u64>, AllocError>
     requires { IsGrid shape.now sizes.now }
     ensures { IfOk result (λ v. v.items ≡ grid_of shape.now sizes.now) }
 {

@@ -1,12 +1,13 @@
-use Rattle.std.proofs.Common.{◌≡◌, ◌++◌, ◌∷◌, [], sym, ap, subst, ◌∙◌, refl, Some, length, arith}
+use Rattle.std.proofs.Common.{◌≡◌, ◌++◌, ◌∷◌, [], sym, ap, subst, ◌∙◌, refl, Some, Err, length, arith}
 use Rattle.std.specs.Option.{option_copied}
 use Rattle.shared_state.specs.declared.array.ArrayInfo.{ArrayInfo}
-use Rattle.shared_state.specs.Arrays.{known_after}
+use Rattle.shared_state.specs.Arrays.{known_after, chunk_shape}
 use Rattle.shared_state.specs.Index.{IsIndexed}
 use Rattle.shared_state.specs.Known.{info_of}
+use Rattle.shared_state.specs.Chunks.{chunk_key}
+use Rattle.shared_state.specs.Reads.{IsDamaged}
 use Rattle.shared_state.specs.Calls.{fault}
 use Rattle.shared_state.specs.State.{StateOf}
-use Rattle.shared_state.specs.Damage.{IsDamage}
 use Rattle.shared_state.proofs.Histories.{known_after-more}
 use Rattle.shared_state.proofs.Indexing.{indexed_same}
 use Rattle.shared_state.proofs.Fetching.{known_info, info_same, fetched, damage}
@@ -33,13 +34,28 @@ returns-in-Ok-clause-cells g c = λ start consistent k known.
     fetched start consistent.store c.args.self.now.events c.args.array k c.in-Some.info.now c.args.chunk.now c.in-Ok.cells consistent.legal consistent.represents known (info_same c.args.self.now.events c.args.array c.in-Some.info.now k found known)
     (c.requires.rank k known) (λ n. let fits = c.type_inv.chunk n in omega (arith, fits)) c.in-Ok.ensures.dtype c.in-Ok.ensures.shape (c.in-Ok.ensures.words consistent.store told)
 
-pub returns-in-Err-Damaged-clause-damaged : goal.returns-in-Err-Damaged-clause-damaged
-returns-in-Err-Damaged-clause-damaged g c = λ is.
+pub returns-in-Ok-clause-form : goal.returns-in-Ok-clause-form
+returns-in-Ok-clause-form g c = λ k known.
     let found : Some c.in-Some.info.now ≡ info_of (known_after c.args.self.now.events c.args.array) =
-    sym (ap option_copied c.in-Some.is) ∙ c.array_at.ensures ∙ ap (λ es. info_of (known_after es c.args.array)) (c.deref.ensures.value ∙ ap (λ (s : StateOf g.row.K.Denot). s.events) c.self.view_is) in (
+    sym (ap option_copied c.in-Some.is) ∙ c.array_at.ensures ∙ ap (λ es. info_of (known_after es c.args.array)) (c.deref.ensures.value ∙ ap (λ (s : StateOf g.row.K.Denot). s.events) c.self.view_is) in
+    let same = info_same c.args.self.now.events c.args.array c.in-Some.info.now k found known in
+    (c.in-Ok.ensures.dtype ∙ ap (λ (i : ArrayInfo). i.dtype) (sym same), c.in-Ok.ensures.shape ∙ ap chunk_shape (sym same))
+
+pub returns-in-Err-Damaged-clause-damaged : goal.returns-in-Err-Damaged-clause-damaged
+returns-in-Err-Damaged-clause-damaged g c = λ key cause e.
+    let found : Some c.in-Some.info.now ≡ info_of (known_after c.args.self.now.events c.args.array) =
+    sym (ap option_copied c.in-Some.is) ∙ c.array_at.ensures ∙ ap (λ es. info_of (known_after es c.args.array)) (c.deref.ensures.value ∙ ap (λ (s : StateOf g.row.K.Denot). s.events) c.self.view_is) in
+    let named : c.in-Err-Damaged.key ≡ key = cc in
+    let caused : c.in-Err-Damaged.cause ≡ cause = cc in
+    let h = c.in-Err-Damaged.ensures.damaged c.in-Err-Damaged.key c.in-Err-Damaged.cause (ap Err c.in-Err-Damaged.field-0-is) in (
       ap (λ (s : StateOf g.row.K.Denot). s.events) c.self.view_is,
-      λ start consistent k known.
-          let told : g.K.KvStore.contents c.self.inside.store ≡ Some consistent.store = ap (λ (s : StateOf g.row.K.Denot). g.K.KvStore.contents s.store) c.self.view_is ∙ consistent.told in
-          damage start consistent.store c.args.self.now.events c.args.array k c.in-Some.info.now c.args.chunk.now consistent.legal consistent.represents known (info_same c.args.self.now.events c.args.array c.in-Some.info.now k found known)
-          (c.requires.rank k known) (λ n. let fits = c.type_inv.chunk n in omega (arith, fits)) (c.in-Err-Damaged.ensures.damaged (subst IsDamage (sym c.in-Err-Damaged.field-0-is) tt) consistent.store told),
+      λ k known.
+          let same = info_same c.args.self.now.events c.args.array c.in-Some.info.now k found known in (
+            sym named ∙ h.0 ∙ ap (λ (i : ArrayInfo). chunk_key i.home c.args.chunk.now) (sym same),
+            λ start consistent.
+                let told : g.K.KvStore.contents c.self.inside.store ≡ Some consistent.store = ap (λ (s : StateOf g.row.K.Denot). g.K.KvStore.contents s.store) c.self.view_is ∙ consistent.told in
+                subst (IsDamaged start c.args.self.now.events k (record { array = c.args.array; index = c.args.chunk.now })) caused
+                (damage start consistent.store c.args.self.now.events c.args.array k c.in-Some.info.now c.args.chunk.now c.in-Err-Damaged.cause consistent.legal consistent.represents known same
+                (c.requires.rank k known) (λ n. let fits = c.type_inv.chunk n in omega (arith, fits)) (h.1 consistent.store told)),
+          ),
     )
