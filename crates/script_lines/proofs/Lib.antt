@@ -1,5 +1,2 @@
 pub mod FirstLine
-pub mod AnswerFloats
-pub mod WorkedLines
-pub mod OpenLines
 pub mod LineLaws

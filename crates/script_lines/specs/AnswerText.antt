@@ -55,6 +55,10 @@ failure_of event done = object_of ((codes "done", numbers done) ∷ (codes "even
 abbrev pub met_of : ℕ → List ℕ → Data
 met_of at path = object_of ((codes "at", natural at) ∷ (codes "path", string path) ∷ [])
 
+-- the dimension that it is about
+abbrev pub dim_of : ℕ → Data
+dim_of dim = object_of ((codes "dim", natural dim) ∷ [])
+
 -- the events that a refused open added
 abbrev pub events_part : Option (List ℕ) → Parts
 events_part None = []
@@ -69,7 +73,7 @@ parts_of (BadLine text) = (codes "bad_line", string text) ∷ []
 parts_of (UnknownName name) = (codes "unknown_name", string name) ∷ []
 parts_of (Exists at path events) = (codes "events", numbers events) ∷ (codes "exists", met_of at path) ∷ []
 parts_of (PathTaken at path events) = (codes "events", numbers events) ∷ (codes "path_taken", met_of at path) ∷ []
-parts_of (TooMany dim) = (codes "too_many", object_of ((codes "dim", natural dim) ∷ [])) ∷ []
+parts_of (TooMany dim) = (codes "too_many", dim_of dim) ∷ []
 parts_of (BadValues path) = (codes "bad_values", numbers path) ∷ []
 parts_of (StoreFailed event done events) = (codes "store_failed", failure_of event done) ∷ events_part events
 parts_of NotBuilt = (codes "not_built", boolean true) ∷ []

@@ -7,9 +7,18 @@ use Rattle.cells.specs.declared.dtype.Dtype.{Dtype}
 use Rattle.json_forms.specs.Numbers.{whole_number}
 use Rattle.json_forms.specs.Lists.{list_items}
 
--- the words in C order of the cells, or where the values are at fault: a list's places from the outermost in
+-- places in nested lists, the outermost first
+abbrev pub Path : Type 0
+Path = List ℕ
+
+-- the words of cells in C order, or where the values are at fault
 abbrev pub Given : Type 0
-Given = Result (List ℕ) (List ℕ)
+Given = Result (List ℕ) Path
+
+-- words, and what is given behind them
+abbrev pub onto : List ℕ → Given → Given
+onto before (Ok words) = Ok (before ++ words)
+onto before (Err path) = Err path
 
 -- whether a number lies in the dtype's range, both ends included
 abbrev pub is_held : Dtype → ℤ → Bool
@@ -35,15 +44,19 @@ abbrev pub from_items : (Data → Given) → ℕ → List Data → Given
 from_items f k [] = Ok []
 from_items f k (d ∷ ds) = followed k (f d) (from_items f (k + 1) ds)
 
--- what the items of a list of this size give
-abbrev pub from_list : (Data → Given) → ℕ → Option (List Data) → Given
-from_list f size None = Err []
-from_list f size (Some ds) = if length ds == size then from_items f 0 ds else Err []
+-- the items of a list, where there are so many
+abbrev pub sized : ℕ → Option (List Data) → Option (List Data)
+sized size items = option_and_then (λ ds. if length ds == size then Some ds else None) items
+
+-- what the items of a list give, where there is one
+abbrev pub from_list : (Data → Given) → Option (List Data) → Given
+from_list f None = Err []
+from_list f (Some ds) = from_items f 0 ds
 
 -- what lists give that are nested as the shape says
 abbrev pub nested_words : Dtype → List ℕ → Data → Given
 nested_words dtype [] d = one_word dtype (whole_number d)
-nested_words dtype (size ∷ shape) d = from_list (nested_words dtype shape) size (list_items d)
+nested_words dtype (size ∷ shape) d = from_list (nested_words dtype shape) (sized size (list_items d))
 
 -- the word of one number for each cell; else what nested lists give
 abbrev pub single_or_nested : Dtype → List ℕ → Data → Option ℤ → Given

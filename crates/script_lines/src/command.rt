@@ -27,9 +27,14 @@ pub enum Command {
         meta: ZarrMeta,
     },
     /// Write these values, any JSON yet, to the array of the name.
-    Write { name: Name, values: Value },
+    Write {
+        name: Name,
+        values: Value,
+    },
     /// Read the whole array of the name.
-    Read { name: Name },
+    Read {
+        name: Name,
+    },
 }
 
 /// The command that the bytes are, and `None` where they have the form of a command that isn't built.

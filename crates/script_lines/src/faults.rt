@@ -1,6 +1,7 @@
 // The members of a command that are at fault.
 ghost use Rattle.std.specs.Prelude.{◌≡◌, option_map};
 ghost use Rattle.serde_json.specs.View.{view};
+ghost use Rattle.json_forms.specs.Members.{lesser};
 ghost use Rattle.script_lines.specs.Names.{is_name};
 ghost use Rattle.script_lines.specs.Forms.{text_at};
 ghost use Rattle.script_lines.specs.Line.{earlier, missing, no_name, open_fault, read_fault, write_fault};
@@ -46,13 +47,21 @@ pub(crate) fn name_at<'v>(value: &'v Value, key: &str) -> Option<&'v str>
 fn missing<'k>(value: &Value, key: &'k str) -> Option<&'k str>
     ensures { option_map (λ s. s.now) result ≡ missing key.now (view value.now) }
 {
-    if value.get(key).is_some() { None } else { Some(key) }
+    if value.get(key).is_some() {
+        None
+    } else {
+        Some(key)
+    }
 }
 
 fn no_name<'k>(value: &Value, key: &'k str) -> Option<&'k str>
     ensures { option_map (λ s. s.now) result ≡ no_name key.now (view value.now) }
 {
-    if name_at(value, key).is_some() { None } else { Some(key) }
+    if name_at(value, key).is_some() {
+        None
+    } else {
+        Some(key)
+    }
 }
 
 fn earlier<'v>(one: Option<&'v str>, other: Option<&'v str>) -> Option<&'v str>

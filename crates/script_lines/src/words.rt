@@ -1,9 +1,10 @@
-ghost use Rattle.std.specs.Prelude.{◌≡◌, ◌≤◌, ◌^◌, ℕ, List, All, Ok, Err, IfOk, IfErr, OnOk, length};
+ghost use Rattle.std.specs.Prelude.{◌≡◌, ◌≤◌, ◌^◌, [], ◌∷◌, All, Ok, Err, IfOk, OnOk, length, map, option_map};
 ghost use Rattle.serde_json.specs.View.{view};
 ghost use Rattle.cells.specs.Numbers.{IsWord};
 ghost use Rattle.cells.specs.Places.{cell_count};
 ghost use Rattle.json_forms.specs.Numbers.{whole_number};
-ghost use Rattle.script_lines.specs.NestedWords.{repeated, nested_words, words_of};
+ghost use Rattle.json_forms.specs.Lists.{list_items};
+ghost use Rattle.script_lines.specs.NestedWords.{Path, onto, repeated, one_word, sized, nested_words, words_of};
 
 use cells::{Dtype, List, count_cells};
 use json_forms::{list_items, whole_number};
@@ -45,7 +46,7 @@ pub fn words_of_values(
 ) -> Result<Vec<u64>, ValuesError>
     requires { cell_count shape.now ≤ 2 ^ 22 }
     ensures ok { IfOk result (λ words. words_of dtype shape.now (view values.now) ≡ Ok words.items) }
-    ensures bad { (path : List ℕ) → result ≡ Err (ValuesError.Bad path)
+    ensures bad { (path : Path) → result ≡ Err (ValuesError.Bad path)
         → words_of dtype shape.now (view values.now) ≡ Err path }
     ensures full { IfOk result (λ words. length words.items ≡ cell_count shape.now) }
     ensures of_dtype { IfOk result (λ words. All (IsWord dtype) words.items) }
@@ -56,5 +57,125 @@ pub fn words_of_values(
     match whole_number(values) {
         Some(number) => repeated(alloc, dtype, count as usize, number),
         None => nested_words(alloc, dtype, shape, count as usize, values),
+    }
+}
+
+fn repeated(
+    alloc: Global,
+    dtype: Dtype,
+    count: usize,
+    number: i128,
+) -> Result<Vec<u64>, ValuesError>
+    ensures ok { IfOk result (λ words. repeated dtype count number ≡ Ok words.items) }
+    ensures bad { (path : Path) → result ≡ Err (ValuesError.Bad path) → repeated dtype count number ≡ Err path }
+{
+    if dtype.holds(number) {
+        Ok(vec![in alloc; dtype.word(number); count]?)
+    } else {
+        Err(bad_here(alloc))
+    }
+}
+
+fn nested_words(
+    alloc: Global,
+    dtype: Dtype,
+    shape: &[u64],
+    count: usize,
+    values: &Value,
+) -> Result<Vec<u64>, ValuesError>
+    ensures ok { IfOk result (λ words. nested_words dtype shape.now (view values.now) ≡ Ok words.items) }
+    ensures bad { (path : Path) → result ≡ Err (ValuesError.Bad path)
+        → nested_words dtype shape.now (view values.now) ≡ Err path }
+{
+    let mut words = Vec::with_capacity(alloc, count)?;
+    push_nested(alloc, dtype, shape, values, &mut words)?;
+    Ok(words)
+}
+
+// Appends the words of nested lists.
+fn push_nested(
+    alloc: Global,
+    dtype: Dtype,
+    shape: &[u64],
+    values: &Value,
+    out: &mut Vec<u64>,
+) -> Result<(), ValuesError>
+    ensures ok { OnOk result (onto out.old.items (nested_words dtype shape.now (view values.now)) ≡ Ok out.new.items) }
+    ensures bad { (path : Path) → result ≡ Err (ValuesError.Bad path)
+        → nested_words dtype shape.now (view values.now) ≡ Err path }
+{
+    match shape {
+        [] => push_word(alloc, dtype, values, out),
+        [size, rest @ ..] => {
+            let Some(items) = list_of_size(values, *size) else {
+                return Err(bad_here(alloc));
+            };
+            for (k, item) in items.iter().enumerate() {
+                match push_nested(alloc, dtype, rest, item, out) {
+                    Ok(()) => {}
+                    Err(error) => return Err(below(error, k as u64)),
+                }
+            }
+            Ok(())
+        }
+    }
+}
+
+fn push_word(
+    alloc: Global,
+    dtype: Dtype,
+    value: &Value,
+    out: &mut Vec<u64>,
+) -> Result<(), ValuesError>
+    ensures ok { OnOk result (onto out.old.items (one_word dtype (whole_number (view value.now))) ≡ Ok out.new.items) }
+    ensures bad { (path : Path) → result ≡ Err (ValuesError.Bad path)
+        → one_word dtype (whole_number (view value.now)) ≡ Err path }
+{
+    let Some(number) = whole_number(value) else {
+        return Err(bad_here(alloc));
+    };
+    if !dtype.holds(number) {
+        return Err(bad_here(alloc));
+    }
+    match out.push(dtype.word(number)) {
+        Ok(()) => Ok(()),
+        Err(_) => Err(ValuesError::Memory),
+    }
+}
+
+fn list_of_size(value: &Value, size: u64) -> Option<&[Value]>
+    ensures { option_map (λ items. map view items.now) result ≡ sized size (list_items (view value.now)) }
+{
+    let items = list_items(value)?;
+    if items.len() as u64 == size {
+        Some(items)
+    } else {
+        None
+    }
+}
+
+fn bad_here(alloc: Global) -> ValuesError
+    ensures { result ≡ ValuesError.Bad [] }
+{
+    ValuesError::Bad {
+        path: List::wrap(Vec::new(alloc)),
+    }
+}
+
+fn below(error: ValuesError, place: u64) -> ValuesError
+    ensures { (path : Path) → result ≡ ValuesError.Bad path
+        → (inner : Path) × (error ≡ ValuesError.Bad inner) × (path ≡ place ∷ inner) }
+{
+    match error {
+        ValuesError::Bad { path } => {
+            let mut places = path.into_inner();
+            match places.insert(0, place) {
+                Ok(()) => ValuesError::Bad {
+                    path: List::wrap(places),
+                },
+                Err(_) => ValuesError::Memory,
+            }
+        }
+        ValuesError::Memory => ValuesError::Memory,
     }
 }

@@ -1,7 +1,8 @@
 // The array that the Spec of an open line asks for.
-ghost use Rattle.std.specs.Prelude.{◌≡◌, ◌≤◌, ◌<◌, ◌^◌, ℕ, All, IfOk, IfSome, IsTrue, Some, length, option_map, option_and_then};
+ghost use Rattle.std.specs.Prelude.{◌≡◌, ◌≤◌, ◌<◌, ◌^◌, ℕ, All, IfOk, IfSome, IsTrue, Some, length, map, option_map, option_and_then};
 ghost use Rattle.serde_json.specs.View.{view};
-ghost use Rattle.serde_json.specs.Find.{get};
+ghost use Rattle.serde_json.specs.Find.{get, as_str};
+ghost use Rattle.json_forms.specs.Lists.{list_items};
 ghost use Rattle.zarr_chunks.specs.Metadata.{IsMetadata};
 ghost use Rattle.script_lines.specs.Forms.{text_at};
 ghost use Rattle.script_lines.specs.ZarrSpec.{dtype_of, size_between, sizes_at, are_shapes, plain_array, array_of_metadata, path_of_kvstore, path_of_spec, array_of_spec};
