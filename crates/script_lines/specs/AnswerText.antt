@@ -1,5 +1,5 @@
 -- The text of answers: each is one line of compact JSON, with the members in byte order.
-use Rattle.std.specs.Prelude.{ℕ, zero, suc, ℤ, List, [], ◌∷◌, ◌++◌, map, take, drop, slice_index, codes, true, Option, Some, None}
+use Rattle.std.specs.Prelude.{ℕ, zero, suc, ◌+◌, ◌*◌, List, [], ◌∷◌, ◌++◌, length, map, take, drop, replicate, slice_index, codes, true, Option, Some, None}
 use Rattle.std.specs.List.{flat_map}
 use Rattle.serde_json.specs.Data.{Data, boolean, string}
 use Rattle.serde_json.specs.Written.{compact_text}
@@ -43,9 +43,14 @@ abbrev pub values_of : Dtype → List ℕ → List ℕ → Data
 values_of dtype [] words = integer (number_of dtype (slice_index words 0))
 values_of dtype (size ∷ shape) words = list_of (map (values_of dtype shape) (rows size (cell_count shape) words))
 
+-- how many lists these are
+abbrev pub list_count : List ℕ → ℕ
+list_count [] = 0
+list_count (size ∷ shape) = size * list_count shape + 1
+
 -- the indices from 0, explicit, to sizes that may grow
 abbrev pub domain_of : List ℕ → Data
-domain_of shape = object_of ((codes "exclusive_max", list_of (map (λ size. numbers (size ∷ [])) shape)) ∷ (codes "inclusive_min", list_of (map (λ size. natural 0) shape)) ∷ [])
+domain_of shape = object_of ((codes "exclusive_max", list_of (map (λ size. numbers (size ∷ [])) shape)) ∷ (codes "inclusive_min", numbers (replicate (length shape) 0)) ∷ [])
 
 -- which event a failure is, and which events were done before it
 abbrev pub failure_of : ℕ → List ℕ → Data
@@ -78,6 +83,21 @@ parts_of (BadValues path) = (codes "bad_values", numbers path) ∷ []
 parts_of (StoreFailed event done events) = (codes "store_failed", failure_of event done) ∷ events_part events
 parts_of NotBuilt = (codes "not_built", boolean true) ∷ []
 parts_of Memory = (codes "memory", boolean true) ∷ []
+
+-- how many lists the values of an answer stand in
+abbrev pub value_lists : Body → ℕ
+value_lists (Opened name dtype shape events) = 0
+value_lists (Written cells events) = 0
+value_lists (Values origin shape dtype words) = list_count shape
+value_lists (BadLine text) = 0
+value_lists (UnknownName name) = 0
+value_lists (Exists at path events) = 0
+value_lists (PathTaken at path events) = 0
+value_lists (TooMany dim) = 0
+value_lists (BadValues path) = 0
+value_lists (StoreFailed event done events) = 0
+value_lists NotBuilt = 0
+value_lists Memory = 0
 
 -- the object of an answer
 abbrev pub answer_data : Answer → Data

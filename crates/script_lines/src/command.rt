@@ -1,7 +1,8 @@
 // The command that a line is.
-ghost use Rattle.std.specs.Prelude.{◌≡◌, ℕ, List, Some, IfOk, IfErr, option_map};
+ghost use Rattle.std.specs.Prelude.{◌≡◌, ℕ, List, IfOk, IfErr, count_by};
 ghost use Rattle.serde_json.specs.View.{view};
-ghost use Rattle.script_lines.specs.Line.{not_json, not_command, bad_member, command_count, open_fault, read_fault, write_fault, open_form, read_form, write_form, built, without_fault, line_of_command, command_of_line};
+ghost use Rattle.script_lines.specs.Forms.{has};
+ghost use Rattle.script_lines.specs.Line.{not_json, not_command, bad_member, command_count, open_fault, read_fault, write_fault, open_form, read_form, write_form, built, without_fault, line_of_command, line_of_data, command_of_line};
 ghost use Rattle.script_lines.specs.Refusals.{Tells};
 ghost use Rattle.script_lines.specs.Seen.{seen};
 
@@ -14,8 +15,6 @@ use json_forms::{ParseError, parse};
 use serde_json::Value;
 use std::alloc::{AllocError, Global};
 use zarr_chunks::ZarrMeta;
-
-const COMMAND_NAMES: [&str; 7] = ["open", "view", "read", "write", "begin", "commit", "abort"];
 
 /// What a line asks for.
 #[derive(Debug, Drop)]
@@ -54,16 +53,32 @@ pub fn read_command(alloc: Global, bytes: &[u8]) -> Result<Option<Command>, Line
         Err(ParseError::NotJson) => return Err(LineError::NotJson),
         Err(ParseError::Memory) => return Err(LineError::Memory),
     };
-    if command_count(&value) != 1 {
+    command_in(alloc, &value)
+}
+
+fn command_in(alloc: Global, value: &Value) -> Result<Option<Command>, LineError>
+    ensures ok { IfOk result (λ command. seen command ≡ line_of_data (view value.now)) }
+    ensures told { IfErr result (λ error. Tells error (line_of_data (view value.now))) }
+{
+    if command_count(value) != 1 {
         return Err(LineError::NotCommand);
     }
-    command_of(alloc, &value)
+    command_of(alloc, value)
 }
 
 fn command_count(value: &Value) -> usize
     ensures { result ≡ command_count (view value.now) }
 {
-    COMMAND_NAMES
+    count_members(
+        value,
+        &["open", "view", "read", "write", "begin", "commit", "abort"],
+    )
+}
+
+fn count_members(value: &Value, names: &[&str]) -> usize
+    ensures { result ≡ count_by (λ name. has name.now (view value.now)) names.now }
+{
+    names
         .iter()
         .filter(|name| value.get(**name).is_some())
         .count()

@@ -1,5 +1,5 @@
 // The members of a command that are at fault.
-ghost use Rattle.std.specs.Prelude.{◌≡◌, option_map};
+ghost use Rattle.std.specs.Prelude.{◌≡◌, Some, option_map};
 ghost use Rattle.serde_json.specs.View.{view};
 ghost use Rattle.json_forms.specs.Members.{lesser};
 ghost use Rattle.script_lines.specs.Names.{is_name};
@@ -9,6 +9,7 @@ ghost use Rattle.script_lines.specs.Line.{earlier, missing, no_name, open_fault,
 use crate::texts::is_name;
 use json_forms::least_unknown;
 use serde_json::Value;
+use std::cmp::Ordering;
 
 /// The least faulty member of an `open`: unknown, `open` where it is no name, or `spec` where it is missing.
 pub(crate) fn open_fault(value: &Value) -> Option<&str>
@@ -77,7 +78,16 @@ fn lesser<'v>(name: &'v str, other: Option<&'v str>) -> &'v str
     ensures { result.now ≡ lesser name.now (option_map (λ s. s.now) other.entry) }
 {
     match other {
-        Some(other) if other < name => other,
-        _ => name,
+        Some(other) => lesser_of(name, other),
+        None => name,
+    }
+}
+
+fn lesser_of<'v>(one: &'v str, other: &'v str) -> &'v str
+    ensures { result.now ≡ lesser one.now (Some other.now) }
+{
+    match one.cmp(other) {
+        Ordering::Less | Ordering::Equal => one,
+        Ordering::Greater => other,
     }
 }

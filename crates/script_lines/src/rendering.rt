@@ -1,12 +1,11 @@
 // Answers as text.
-ghost use Rattle.std.specs.Prelude.{◌≡◌, ◌++◌, ◌∷◌, [], false, IfOk, OnOk, map};
+ghost use Rattle.std.specs.Prelude.{◌≡◌, ◌≤◌, ◌^◌, ◌++◌, ◌∷◌, [], false, IfOk, OnOk, length, map, replicate};
 ghost use Rattle.serde_json.specs.Data.{string};
 ghost use Rattle.serde_json.specs.View.{view, members_view};
 ghost use Rattle.serde_json.specs.Written.{compact_text, has_float};
 ghost use Rattle.json_forms.specs.Lists.{list_of};
 ghost use Rattle.json_forms.specs.Members.{members_from};
-ghost use Rattle.json_forms.specs.Numbers.{natural};
-ghost use Rattle.script_lines.specs.AnswerText.{answer_text, parts_of, events_part, dtype_name, domain_of, dim_of, failure_of, met_of, numbers};
+ghost use Rattle.script_lines.specs.AnswerText.{answer_text, parts_of, events_part, dtype_name, domain_of, dim_of, failure_of, met_of, numbers, value_lists};
 
 use crate::answer::{Answer, Body};
 use crate::values::values_of;
@@ -22,7 +21,8 @@ type Members = Map<String, Value>;
 /// # Errors
 /// An allocation failed, or values would stand in more than 2^22 lists.
 pub fn render(alloc: Global, answer: &Answer) -> Result<Vec<u8>, AllocError>
-    ensures { IfOk result (λ line. line.items ≡ answer_text answer.now) }
+    ensures text { IfOk result (λ line. line.items ≡ answer_text answer.now) }
+    ensures lists { OnOk result (value_lists answer.now.body ≤ 2 ^ 22) }
 {
     let mut members = Map::new(alloc);
     put_parts(alloc, &mut members, &answer.body)?;
@@ -41,7 +41,8 @@ fn line_of(alloc: Global, value: &Value) -> Result<Vec<u8>, AllocError>
 
 fn put_parts(alloc: Global, members: &mut Members, body: &Body) -> Result<(), AllocError>
     requires { members.old.entries ≡ [] }
-    ensures { OnOk result (members_view members.new.entries ≡ members_from (parts_of body.now)) }
+    ensures parts { OnOk result (members_view members.new.entries ≡ members_from (parts_of body.now)) }
+    ensures lists { OnOk result (value_lists body.now ≤ 2 ^ 22) }
 {
     match body {
         Body::Opened {
@@ -202,13 +203,10 @@ fn domain_of(alloc: Global, shape: &[u64]) -> Result<Value, AllocError>
 }
 
 fn lower_bounds(alloc: Global, shape: &[u64]) -> Result<Value, AllocError>
-    ensures { IfOk result (λ v. view v ≡ list_of (map (λ size. natural 0) shape.now)) }
+    ensures { IfOk result (λ v. view v ≡ numbers (replicate (length shape.now) 0)) }
 {
-    let mut items = Vec::with_capacity(alloc, shape.len())?;
-    for _ in shape {
-        items.push(Value::from(0u64))?;
-    }
-    Ok(Value::Array(items))
+    let zeros = vec![in alloc; 0u64; shape.len()]?;
+    list_from_u64s(alloc, &zeros)
 }
 
 fn upper_bounds(alloc: Global, shape: &[u64]) -> Result<Value, AllocError>

@@ -1,10 +1,11 @@
 // Numbers in nested lists.
-ghost use Rattle.std.specs.Prelude.{◌≡◌, ◌≤◌, IfOk, length, min, slice_index};
+ghost use Rattle.std.specs.Prelude.{◌≡◌, ◌≤◌, ◌^◌, IfOk, OnOk, length, min, slice_index};
+ghost use Rattle.std.specs.Option.{SomeIff};
 ghost use Rattle.serde_json.specs.View.{view};
 ghost use Rattle.cells.specs.Numbers.{number_of};
 ghost use Rattle.cells.specs.Places.{cell_count};
 ghost use Rattle.json_forms.specs.Numbers.{integer};
-ghost use Rattle.script_lines.specs.AnswerText.{values_of};
+ghost use Rattle.script_lines.specs.AnswerText.{list_count, values_of};
 
 use cells::{Dtype, count_cells};
 use serde_json::Value;
@@ -15,33 +16,38 @@ const MAX_LISTS: u64 = 1 << 22;
 /// The numbers that words stand for, nested as the shape says.
 ///
 /// # Errors
-/// An allocation failed, or there would be more than 2^22 lists.
+/// There would be more than 2^22 lists, or an allocation failed.
 pub(crate) fn values_of(
     alloc: Global,
     dtype: Dtype,
     shape: &[u64],
     words: &[u64],
 ) -> Result<Value, AllocError>
-    ensures { IfOk result (λ v. view v ≡ values_of dtype shape.now words.now) }
+    ensures value { IfOk result (λ v. view v ≡ values_of dtype shape.now words.now) }
+    ensures lists { OnOk result (list_count shape.now ≤ 2 ^ 22) }
 {
-    if has_too_many_lists(shape) {
-        return Err(AllocError);
+    match list_count(shape) {
+        Some(_) => nested(alloc, dtype, shape, words),
+        None => Err(AllocError),
     }
-    nested(alloc, dtype, shape, words)
 }
 
-// Whether a shape has more than 2^22 lists: one, then one for each index of the first dimension, and so on.
-fn has_too_many_lists(shape: &[u64]) -> bool {
-    let mut level = 1u64;
-    let mut lists = 0u64;
-    for size in shape {
-        lists += level;
-        if lists > MAX_LISTS {
-            return true;
+// How many lists the numbers of a shape stand in, up to the limit.
+fn list_count(shape: &[u64]) -> Option<u64>
+    ensures { SomeIff result (list_count shape.now ≤ 2 ^ 22) (list_count shape.now) }
+{
+    match shape {
+        [] => Some(0),
+        [0, ..] => Some(1),
+        [size, rest @ ..] => {
+            let lists = size.checked_mul(list_count(rest)?)?;
+            if lists < MAX_LISTS {
+                Some(lists + 1)
+            } else {
+                None
+            }
         }
-        level = level.saturating_mul(*size).min(MAX_LISTS + 1);
     }
-    false
 }
 
 fn nested(alloc: Global, dtype: Dtype, shape: &[u64], words: &[u64]) -> Result<Value, AllocError>
@@ -51,9 +57,10 @@ fn nested(alloc: Global, dtype: Dtype, shape: &[u64], words: &[u64]) -> Result<V
         [] => Ok(number(dtype, first(words))),
         [size, shape @ ..] => {
             let row_len = row_len(shape, words);
-            let mut items = Vec::with_capacity(alloc, *size as usize)?;
+            let count = *size;
+            let mut items = Vec::with_capacity(alloc, count as usize)?;
             let mut rest = words;
-            for _ in 0..*size {
+            for done in 0..count {
                 let (row, behind) = rest.split_at(row_len.min(rest.len()));
                 items.push(nested(alloc, dtype, shape, row)?)?;
                 rest = behind;
