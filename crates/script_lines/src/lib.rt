@@ -24,4 +24,5 @@ pub use command::{Command, read_command};
 pub use cutting::{cut, is_blank};
 pub use error::{LineError, bad_line_text};
 pub use rendering::render;
+pub use values::list_count;
 pub use words::{ValuesError, words_of_values};

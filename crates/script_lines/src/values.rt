@@ -32,8 +32,9 @@ pub(crate) fn values_of(
     }
 }
 
-// How many lists the numbers of a shape stand in, up to the limit.
-fn list_count(shape: &[u64]) -> Option<u64>
+/// How many lists the numbers of a shape stand in: none where the rank is 0, else one list and those of each index of the
+/// first dimension. `None` exactly where they are more than 2^22, which `render` refuses to write.
+pub fn list_count(shape: &[u64]) -> Option<u64>
     ensures { SomeIff result (list_count shape.now ≤ 2 ^ 22) (list_count shape.now) }
 {
     match shape {
