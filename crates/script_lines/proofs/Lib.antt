@@ -1,5 +1,8 @@
 pub mod FirstLine
-pub mod AnswerFloats
-pub mod WorkedLines
-pub mod OpenLines
 pub mod LineLaws
+pub mod AnswerFloats
+pub mod Nesting
+pub mod Rows
+pub mod Slashes
+pub mod Told
+pub mod GivenWords

@@ -1,8 +1,11 @@
-pub mod NewArray
+pub mod Forms
 pub mod Names
+pub mod Paths
+pub mod ZarrSpec
 pub mod Line
 pub mod Seen
+pub mod Refusals
 pub mod Script
-pub mod ListedWords
+pub mod NestedWords
 pub mod AnswerText
 pub mod Status

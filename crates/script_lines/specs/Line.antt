@@ -1,104 +1,99 @@
 -- Which command a line is.
-use Rattle.std.specs.Prelude.{ℕ, ◌^◌, List, [], ◌∷◌, codes, Bool, Option, Some, None, option_map, option_and_then, ◌&&◌, nat_le, if◌then◌else◌}
-use Rattle.std.specs.Str.{bytes_eq}
+use Rattle.std.specs.Prelude.{ℕ, List, [], ◌∷◌, codes, Bool, not, Option, Some, None, option_map, is_some, count_by, ◌==◌, if◌then◌else◌}
 use Rattle.serde_json.specs.Data.{Data}
-use Rattle.serde_json.specs.Find.{get, as_str, as_bool, as_number, as_u64}
+use Rattle.serde_json.specs.Find.{get}
 use Rattle.json_forms.specs.Bytes.{data_of}
-use Rattle.json_forms.specs.Lists.{list_items}
-use Rattle.json_forms.specs.Members.{has_exactly}
-use Rattle.script_lines.specs.Names.{is_name, is_segment}
-use Rattle.script_lines.specs.NewArray.{NewArray}
+use Rattle.json_forms.specs.Members.{lesser, least_unknown}
+use Rattle.zarr_chunks.specs.Metadata.{Metadata}
+use Rattle.script_lines.specs.Forms.{◌>>=◌, where_so, has, text_at}
+use Rattle.script_lines.specs.Names.{is_name}
+use Rattle.script_lines.specs.ZarrSpec.{array_of_spec}
 
--- what a line asks for
+-- what a line asks for, or why it has no form: the name and path of an array to open and what it is, the name and values
+-- of one to write, the name of one to read; the member that is at fault
 pub data Line : Type 0 where
   not_json : Line
-  opening : List ℕ → NewArray → Line
+  not_command : Line
+  bad_member : List ℕ → Line
+  opening : List ℕ → List ℕ → Metadata → Line
   writing : List ℕ → Data → Line
   reading : List ℕ → Line
   not_built : Line
 
--- what f gives of the value, where there is one
-infixl 10 ◌>>=◌
-abbrev pub ◌>>=◌ : {A B : Type 0} → Option A → (A → Option B) → Option B
-o >>= f = option_and_then f o
+-- the lesser of two names in byte order, as far as they are there
+abbrev pub earlier : Option (List ℕ) → Option (List ℕ) → Option (List ℕ)
+earlier None other = other
+earlier (Some name) other = Some (lesser name other)
 
--- the value, where the test is passed
-abbrev pub where_so : {A : Type 0} → Bool → Option A → Option A
-where_so test o = if test then o else None
+-- the member, where it fails its test
+abbrev pub unless_so : Bool → List ℕ → Option (List ℕ)
+unless_so test k = if test then None else Some k
 
--- the text of a member, where it passes
-abbrev pub text_at : List ℕ → (List ℕ → Bool) → Data → Option (List ℕ)
-text_at k passes d = do
-  found ← get k d
-  s ← as_str found
-  where_so (passes s) (Some s)
+-- the member is missing
+abbrev pub missing : List ℕ → Data → Option (List ℕ)
+missing k d = unless_so (has k d) k
 
--- the item of a list that has one
-abbrev pub lone : List Data → Option Data
-lone [] = None
-lone (d ∷ []) = Some d
-lone (d ∷ e ∷ ds) = None
+-- the member is missing or no name
+abbrev pub no_name : List ℕ → Data → Option (List ℕ)
+no_name k d = unless_so (is_some (text_at k is_name d)) k
 
--- the whole number that is alone in the list of a member, between two bounds
-abbrev pub size_at : List ℕ → ℕ → ℕ → Data → Option ℕ
-size_at k least most d = do
-  found ← get k d
-  items ← list_items found
-  one ← lone items
-  held ← as_number one
-  n ← as_u64 held
-  where_so (nat_le least n && nat_le n most) (Some n)
+-- the least faulty member of each command that is built
+abbrev pub open_fault : Data → Option (List ℕ)
+open_fault d = earlier (least_unknown (codes "open" ∷ codes "spec" ∷ []) d) (earlier (no_name (codes "open") d) (missing (codes "spec") d))
 
--- `{"driver":"memory","path":PATH}`
-abbrev pub path_of_kvstore : Data → Option (List ℕ)
-path_of_kvstore d = where_so (has_exactly (codes "driver" ∷ codes "path" ∷ []) d) (do
-  driver ← text_at (codes "driver") (bytes_eq (codes "memory")) d
-  text_at (codes "path") is_segment d)
+abbrev pub read_fault : Data → Option (List ℕ)
+read_fault d = earlier (least_unknown (codes "read" ∷ codes "steps" ∷ []) d) (no_name (codes "read") d)
 
--- `{"chunks":[CHUNK],"dtype":"<i4","shape":[SIZE]}`
-abbrev pub sizes_of_metadata : Data → Option (ℕ × ℕ)
-sizes_of_metadata d = where_so (has_exactly (codes "chunks" ∷ codes "dtype" ∷ codes "shape" ∷ []) d) (do
-  dtype ← text_at (codes "dtype") (bytes_eq (codes "<i4")) d
-  size ← size_at (codes "shape") 0 (2 ^ 22) d
-  chunk ← size_at (codes "chunks") 1 (2 ^ 24) d
-  Some (size, chunk))
-
--- `{"create":true,"driver":"zarr","kvstore":KVSTORE,"metadata":METADATA}`
-abbrev pub array_of_spec : Data → Option NewArray
-array_of_spec d = where_so (has_exactly (codes "create" ∷ codes "driver" ∷ codes "kvstore" ∷ codes "metadata" ∷ []) d) (do
-  driver ← text_at (codes "driver") (bytes_eq (codes "zarr")) d
-  create ← get (codes "create") d >>= as_bool
-  path ← get (codes "kvstore") d >>= path_of_kvstore
-  sizes ← get (codes "metadata") d >>= sizes_of_metadata
-  where_so create (Some (record { path = path; size = sizes.0; chunk = sizes.1 })))
+abbrev pub write_fault : Data → Option (List ℕ)
+write_fault d = earlier (least_unknown (codes "steps" ∷ codes "values" ∷ codes "write" ∷ []) d) (earlier (missing (codes "values") d) (no_name (codes "write") d))
 
 -- `{"open":NAME,"spec":SPEC}`
 abbrev pub open_form : Data → Option Line
-open_form d = where_so (has_exactly (codes "open" ∷ codes "spec" ∷ []) d) (do
+open_form d = do
   name ← text_at (codes "open") is_name d
   array ← get (codes "spec") d >>= array_of_spec
-  Some (opening name array))
+  Some (opening name array.0 array.1)
+
+-- `{"read":NAME}`
+abbrev pub read_form : Data → Option Line
+read_form d = where_so (not (has (codes "steps") d)) (option_map reading (text_at (codes "read") is_name d))
 
 -- `{"values":VALUES,"write":NAME}`
 abbrev pub write_form : Data → Option Line
-write_form d = where_so (has_exactly (codes "values" ∷ codes "write" ∷ []) d) (do
+write_form d = where_so (not (has (codes "steps") d)) (do
   name ← text_at (codes "write") is_name d
   values ← get (codes "values") d
   Some (writing name values))
 
--- `{"read":NAME}`
-abbrev pub read_form : Data → Option Line
-read_form d = where_so (has_exactly (codes "read" ∷ []) d) (option_map reading (text_at (codes "read") is_name d))
+-- the form, where it is one that is built
+abbrev pub built : Option Line → Line
+built None = not_built
+built (Some line) = line
 
--- the first form that fits
-abbrev pub first_form : List (Option Line) → Line
-first_form [] = not_built
-first_form (None ∷ forms) = first_form forms
-first_form (Some line ∷ forms) = line
+-- the form of an object, where no member is at fault
+abbrev pub without_fault : Option (List ℕ) → Option Line → Line
+without_fault (Some k) form = bad_member k
+without_fault None form = built form
+
+-- the members that name a command
+abbrev pub command_names : List (List ℕ)
+command_names = codes "open" ∷ codes "view" ∷ codes "read" ∷ codes "write" ∷ codes "begin" ∷ codes "commit" ∷ codes "abort" ∷ []
+
+-- how many of them an object has
+abbrev pub command_count : Data → ℕ
+command_count d = count_by (λ name. has name d) command_names
+
+-- what an object with one of them asks for
+abbrev pub line_of_command : Data → Line
+line_of_command d =
+    if has (codes "open") d then without_fault (open_fault d) (open_form d)
+    else (if has (codes "read") d then without_fault (read_fault d) (read_form d)
+    else (if has (codes "write") d then without_fault (write_fault d) (write_form d)
+    else not_built))
 
 -- what the JSON of a line asks for
 abbrev pub line_of_data : Data → Line
-line_of_data d = first_form (open_form d ∷ write_form d ∷ read_form d ∷ [])
+line_of_data d = if command_count d == 1 then line_of_command d else not_command
 
 -- the same, where there may be no JSON
 abbrev pub line_of_found : Option Data → Line

@@ -3,15 +3,19 @@ use Rattle.std.specs.Prelude.{ℕ, List, Bool, true, false, if◌then◌else◌}
 use Rattle.std.specs.List.{list_all}
 use Rattle.script_lines.specs.declared.answer.Answer.{Answer}
 use Rattle.script_lines.specs.declared.answer.Body.{Body}
-use Rattle.script_lines.specs.declared.answer.Body.TheVariants.{Opened, Written, Values, BadLine, UnknownName, StoreFailed, NotBuilt, Memory}
+use Rattle.script_lines.specs.declared.answer.Body.TheVariants.{Opened, Written, Values, BadLine, UnknownName, Exists, PathTaken, TooMany, BadValues, StoreFailed, NotBuilt, Memory}
 
 -- the bodies of lines that did what they ask for
 abbrev pub is_ok_body : Body → Bool
-is_ok_body (Opened name size event) = true
-is_ok_body (Written cells event) = true
-is_ok_body (Values words) = true
+is_ok_body (Opened name dtype shape events) = true
+is_ok_body (Written cells events) = true
+is_ok_body (Values origin shape dtype words) = true
 is_ok_body (BadLine text) = false
 is_ok_body (UnknownName name) = false
+is_ok_body (Exists at path events) = false
+is_ok_body (PathTaken at path events) = false
+is_ok_body (TooMany dim) = false
+is_ok_body (BadValues path) = false
 is_ok_body (StoreFailed event done events) = false
 is_ok_body NotBuilt = false
 is_ok_body Memory = false

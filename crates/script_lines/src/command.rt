@@ -1,78 +1,183 @@
 // The command that a line is.
-ghost use Rattle.std.specs.Prelude.{◌≡◌, IfOk};
+ghost use Rattle.std.specs.Prelude.{◌≡◌, ℕ, List, IfOk, IfErr, count_by};
 ghost use Rattle.serde_json.specs.View.{view};
-ghost use Rattle.script_lines.specs.Line.{Line, not_json, open_form, write_form, read_form, line_of_data, command_of_line};
-ghost use Rattle.script_lines.specs.Seen.{seen, seen_form};
+ghost use Rattle.script_lines.specs.Forms.{has};
+ghost use Rattle.script_lines.specs.Line.{not_json, not_command, bad_member, command_count, open_fault, read_fault, write_fault, open_form, read_form, write_form, built, without_fault, line_of_command, line_of_data, command_of_line};
+ghost use Rattle.script_lines.specs.Refusals.{Tells};
+ghost use Rattle.script_lines.specs.Seen.{seen};
 
-use crate::array_spec::ArraySpec;
 use crate::error::LineError;
-use crate::form::{array_at, name_at};
+use crate::faults::{name_at, open_fault, read_fault, write_fault};
+use crate::texts::name_of;
+use crate::zarr_spec::array_of_spec;
 use cells::Name;
-use json_forms::{ParseError, has_exactly, parse};
+use json_forms::{ParseError, parse};
 use serde_json::Value;
 use std::alloc::{AllocError, Global};
+use zarr_chunks::ZarrMeta;
 
 /// What a line asks for.
 #[derive(Debug, Drop)]
 pub enum Command {
-    /// Make the array and bind the name to it.
-    Open { name: Name, spec: ArraySpec },
+    /// Make the array at the path below its mount, and bind the name to it.
+    Open {
+        name: Name,
+        path: Name,
+        meta: ZarrMeta,
+    },
     /// Write these values, any JSON yet, to the array of the name.
-    Write { name: Name, values: Value },
+    Write {
+        name: Name,
+        values: Value,
+    },
     /// Read the whole array of the name.
-    Read { name: Name },
+    Read {
+        name: Name,
+    },
 }
 
-/// The command that the bytes are, and `None` where they are JSON but none of the forms fits.
+/// The command that the bytes are, and `None` where they have the form of a command that isn't built.
 ///
 /// # Errors
-/// `NotJson` where the bytes are no JSON, and `Memory` where an allocation failed.
+/// `NotJson` where the bytes are no JSON, `NotCommand` where the value isn't an object with exactly one of the members
+/// `open`, `view`, `read`, `write`, `begin`, `commit` and `abort`, `Member` where a member of `open`, `read` or `write`
+/// is unknown, missing or of a wrong form, and `Memory` where an allocation failed.
 pub fn read_command(alloc: Global, bytes: &[u8]) -> Result<Option<Command>, LineError>
     ensures ok { IfOk result (λ command. seen command ≡ command_of_line bytes.now) }
     ensures not_json { result ≡ Err LineError.NotJson → command_of_line bytes.now ≡ not_json }
+    ensures not_command { result ≡ Err LineError.NotCommand → command_of_line bytes.now ≡ not_command }
+    ensures member { (path : List ℕ) → result ≡ Err (LineError.Member path) → command_of_line bytes.now ≡ bad_member path }
 {
     let value = match parse(alloc, bytes) {
         Ok(value) => value,
         Err(ParseError::NotJson) => return Err(LineError::NotJson),
         Err(ParseError::Memory) => return Err(LineError::Memory),
     };
-    Ok(command_of(alloc, &value)?)
+    command_in(alloc, &value)
 }
 
-fn command_of(alloc: Global, value: &Value) -> Result<Option<Command>, AllocError>
-    ensures { IfOk result (λ command. seen command ≡ line_of_data (view value.now)) }
+fn command_in(alloc: Global, value: &Value) -> Result<Option<Command>, LineError>
+    ensures ok { IfOk result (λ command. seen command ≡ line_of_data (view value.now)) }
+    ensures told { IfErr result (λ error. Tells error (line_of_data (view value.now))) }
 {
-    if let Some(command) = open_form(alloc, value)? {
-        return Ok(Some(command));
+    if command_count(value) != 1 {
+        return Err(LineError::NotCommand);
     }
-    if let Some(command) = write_form(alloc, value)? {
-        return Ok(Some(command));
+    command_of(alloc, value)
+}
+
+fn command_count(value: &Value) -> usize
+    ensures { result ≡ command_count (view value.now) }
+{
+    count_members(
+        value,
+        &["open", "view", "read", "write", "begin", "commit", "abort"],
+    )
+}
+
+fn count_members(value: &Value, names: &[&str]) -> usize
+    ensures { result ≡ count_by (λ name. has name.now (view value.now)) names.now }
+{
+    names
+        .iter()
+        .filter(|name| value.get(**name).is_some())
+        .count()
+}
+
+fn command_of(alloc: Global, value: &Value) -> Result<Option<Command>, LineError>
+    ensures ok { IfOk result (λ command. seen command ≡ line_of_command (view value.now)) }
+    ensures told { IfErr result (λ error. Tells error (line_of_command (view value.now))) }
+{
+    if value.get("open").is_some() {
+        return open_line(alloc, value);
     }
-    read_form(alloc, value)
+    if value.get("read").is_some() {
+        return read_line(alloc, value);
+    }
+    if value.get("write").is_some() {
+        return write_line(alloc, value);
+    }
+    Ok(None)
+}
+
+fn open_line(alloc: Global, value: &Value) -> Result<Option<Command>, LineError>
+    ensures ok { IfOk result (λ command. seen command
+        ≡ without_fault (open_fault (view value.now)) (open_form (view value.now))) }
+    ensures told { IfErr result (λ error. Tells error
+        (without_fault (open_fault (view value.now)) (open_form (view value.now)))) }
+{
+    if let Some(fault) = open_fault(value) {
+        return Err(at_fault(alloc, fault));
+    }
+    Ok(open_form(alloc, value)?)
+}
+
+fn read_line(alloc: Global, value: &Value) -> Result<Option<Command>, LineError>
+    ensures ok { IfOk result (λ command. seen command
+        ≡ without_fault (read_fault (view value.now)) (read_form (view value.now))) }
+    ensures told { IfErr result (λ error. Tells error
+        (without_fault (read_fault (view value.now)) (read_form (view value.now)))) }
+{
+    if let Some(fault) = read_fault(value) {
+        return Err(at_fault(alloc, fault));
+    }
+    Ok(read_form(alloc, value)?)
+}
+
+fn write_line(alloc: Global, value: &Value) -> Result<Option<Command>, LineError>
+    ensures ok { IfOk result (λ command. seen command
+        ≡ without_fault (write_fault (view value.now)) (write_form (view value.now))) }
+    ensures told { IfErr result (λ error. Tells error
+        (without_fault (write_fault (view value.now)) (write_form (view value.now)))) }
+{
+    if let Some(fault) = write_fault(value) {
+        return Err(at_fault(alloc, fault));
+    }
+    Ok(write_form(alloc, value)?)
+}
+
+fn at_fault(alloc: Global, path: &str) -> LineError
+    ensures { Tells result (bad_member path.now) }
+{
+    match name_of(alloc, path) {
+        Ok(path) => LineError::Member { path },
+        Err(_) => LineError::Memory,
+    }
 }
 
 fn open_form(alloc: Global, value: &Value) -> Result<Option<Command>, AllocError>
-    ensures { IfOk result (λ command. seen_form command ≡ open_form (view value.now)) }
+    ensures { IfOk result (λ command. seen command ≡ built (open_form (view value.now))) }
 {
-    if !has_exactly(value, &["open", "spec"]) {
-        return Ok(None);
-    }
     let Some(name) = name_at(value, "open") else {
         return Ok(None);
     };
-    let Some((path, size, chunk)) = array_at(value, "spec") else {
+    let Some(spec) = value.get("spec") else {
         return Ok(None);
     };
-    let name = owned(alloc, name)?;
-    let path = owned(alloc, path)?;
-    let spec = ArraySpec::new(path, size, chunk);
-    Ok(Some(Command::Open { name, spec }))
+    let Some((path, meta)) = array_of_spec(alloc, spec)? else {
+        return Ok(None);
+    };
+    let name = name_of(alloc, name)?;
+    Ok(Some(Command::Open { name, path, meta }))
+}
+
+fn read_form(alloc: Global, value: &Value) -> Result<Option<Command>, AllocError>
+    ensures { IfOk result (λ command. seen command ≡ built (read_form (view value.now))) }
+{
+    if value.get("steps").is_some() {
+        return Ok(None);
+    }
+    let Some(name) = name_at(value, "read") else {
+        return Ok(None);
+    };
+    let name = name_of(alloc, name)?;
+    Ok(Some(Command::Read { name }))
 }
 
 fn write_form(alloc: Global, value: &Value) -> Result<Option<Command>, AllocError>
-    ensures { IfOk result (λ command. seen_form command ≡ write_form (view value.now)) }
+    ensures { IfOk result (λ command. seen command ≡ built (write_form (view value.now))) }
 {
-    if !has_exactly(value, &["values", "write"]) {
+    if value.get("steps").is_some() {
         return Ok(None);
     }
     let Some(name) = name_at(value, "write") else {
@@ -81,26 +186,7 @@ fn write_form(alloc: Global, value: &Value) -> Result<Option<Command>, AllocErro
     let Some(values) = value.get("values") else {
         return Ok(None);
     };
-    let name = owned(alloc, name)?;
+    let name = name_of(alloc, name)?;
     let values = values.clone()?;
     Ok(Some(Command::Write { name, values }))
-}
-
-fn read_form(alloc: Global, value: &Value) -> Result<Option<Command>, AllocError>
-    ensures { IfOk result (λ command. seen_form command ≡ read_form (view value.now)) }
-{
-    if !has_exactly(value, &["read"]) {
-        return Ok(None);
-    }
-    let Some(name) = name_at(value, "read") else {
-        return Ok(None);
-    };
-    let name = owned(alloc, name)?;
-    Ok(Some(Command::Read { name }))
-}
-
-fn owned(alloc: Global, text: &str) -> Result<Name, AllocError>
-    ensures { IfOk result (λ name. name ≡ text.now) }
-{
-    Ok(Name::wrap(String::from_str(alloc, text)?))
 }

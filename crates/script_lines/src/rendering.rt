@@ -1,14 +1,16 @@
 // Answers as text.
-ghost use Rattle.std.specs.Prelude.{◌≡◌, ◌++◌, ◌∷◌, [], false, IfOk, OnOk};
+ghost use Rattle.std.specs.Prelude.{◌≡◌, ◌≤◌, ◌^◌, ◌++◌, ◌∷◌, [], false, IfOk, OnOk, length, map, replicate};
 ghost use Rattle.serde_json.specs.Data.{string};
 ghost use Rattle.serde_json.specs.View.{view, members_view};
 ghost use Rattle.serde_json.specs.Written.{compact_text, has_float};
+ghost use Rattle.json_forms.specs.Lists.{list_of};
 ghost use Rattle.json_forms.specs.Members.{members_from};
-ghost use Rattle.script_lines.specs.AnswerText.{answer_text, parts_of, events_part, domain_of, failure_of, values_of};
+ghost use Rattle.script_lines.specs.AnswerText.{answer_text, parts_of, events_part, dtype_name, domain_of, dim_of, failure_of, met_of, numbers, value_lists};
 
 use crate::answer::{Answer, Body};
-use cells::List;
-use json_forms::{compact, list_from_u64s};
+use crate::values::values_of;
+use cells::{Dtype, List};
+use json_forms::{compact, list_from_i64s, list_from_u64s};
 use serde_json::{Map, Value, put};
 use std::alloc::{AllocError, Global};
 
@@ -17,9 +19,10 @@ type Members = Map<String, Value>;
 /// The line of an answer: compact JSON with its members in byte order, and an LF.
 ///
 /// # Errors
-/// An allocation failed.
+/// An allocation failed, or values would stand in more than 2^22 lists.
 pub fn render(alloc: Global, answer: &Answer) -> Result<Vec<u8>, AllocError>
-    ensures { IfOk result (λ line. line.items ≡ answer_text answer.now) }
+    ensures text { IfOk result (λ line. line.items ≡ answer_text answer.now) }
+    ensures lists { OnOk result (value_lists answer.now.body ≤ 2 ^ 22) }
 {
     let mut members = Map::new(alloc);
     put_parts(alloc, &mut members, &answer.body)?;
@@ -38,22 +41,53 @@ fn line_of(alloc: Global, value: &Value) -> Result<Vec<u8>, AllocError>
 
 fn put_parts(alloc: Global, members: &mut Members, body: &Body) -> Result<(), AllocError>
     requires { members.old.entries ≡ [] }
-    ensures { OnOk result (members_view members.new.entries ≡ members_from (parts_of body.now)) }
+    ensures parts { OnOk result (members_view members.new.entries ≡ members_from (parts_of body.now)) }
+    ensures lists { OnOk result (value_lists body.now ≤ 2 ^ 22) }
 {
     match body {
-        Body::Opened { name, size, event } => {
+        Body::Opened {
+            name,
+            dtype,
+            shape,
+            events,
+        } => {
             put(members, alloc, "open", text(alloc, name.items())?)?;
-            put(members, alloc, "events", list_from_u64s(alloc, &[*event])?)?;
-            put(members, alloc, "dtype", text(alloc, "int32")?)?;
-            put(members, alloc, "domain", domain_of(alloc, *size)?)
+            put(
+                members,
+                alloc,
+                "events",
+                list_from_u64s(alloc, events.items())?,
+            )?;
+            put(members, alloc, "dtype", text(alloc, dtype_name(*dtype))?)?;
+            put(members, alloc, "domain", domain_of(alloc, shape.items())?)
         }
-        Body::Written { cells, event } => {
+        Body::Written { cells, events } => {
             put(members, alloc, "write", Value::from(*cells))?;
-            put(members, alloc, "commit", list_from_u64s(alloc, &[*event])?)
+            put(
+                members,
+                alloc,
+                "commit",
+                list_from_u64s(alloc, events.items())?,
+            )
         }
-        Body::Values { words } => {
-            put(members, alloc, "values", values_of(alloc, words.items())?)?;
-            put(members, alloc, "origin", list_from_u64s(alloc, &[0])?)
+        Body::Values {
+            origin,
+            shape,
+            dtype,
+            words,
+        } => {
+            put(
+                members,
+                alloc,
+                "values",
+                values_of(alloc, *dtype, shape.items(), words.items())?,
+            )?;
+            put(
+                members,
+                alloc,
+                "origin",
+                list_from_i64s(alloc, origin.items())?,
+            )
         }
         Body::BadLine { text: cause } => {
             put(members, alloc, "bad_line", text(alloc, cause.items())?)
@@ -61,6 +95,36 @@ fn put_parts(alloc: Global, members: &mut Members, body: &Body) -> Result<(), Al
         Body::UnknownName { name } => {
             put(members, alloc, "unknown_name", text(alloc, name.items())?)
         }
+        Body::Exists { at, path, events } => {
+            put(members, alloc, "exists", met_of(alloc, *at, path.items())?)?;
+            put(
+                members,
+                alloc,
+                "events",
+                list_from_u64s(alloc, events.items())?,
+            )
+        }
+        Body::PathTaken { at, path, events } => {
+            put(
+                members,
+                alloc,
+                "path_taken",
+                met_of(alloc, *at, path.items())?,
+            )?;
+            put(
+                members,
+                alloc,
+                "events",
+                list_from_u64s(alloc, events.items())?,
+            )
+        }
+        Body::TooMany { dim } => put(members, alloc, "too_many", dim_of(alloc, *dim)?),
+        Body::BadValues { path } => put(
+            members,
+            alloc,
+            "bad_values",
+            list_from_u64s(alloc, path.items())?,
+        ),
         Body::StoreFailed {
             event,
             done,
@@ -104,18 +168,71 @@ fn text(alloc: Global, text: &str) -> Result<Value, AllocError>
     Value::try_from_str(alloc, text)
 }
 
-fn domain_of(alloc: Global, size: u64) -> Result<Value, AllocError>
-    ensures { IfOk result (λ v. view v ≡ domain_of size) }
+fn dtype_name(dtype: Dtype) -> &'static str
+    ensures { result.now ≡ dtype_name dtype }
+{
+    match dtype {
+        Dtype::I8 => "int8",
+        Dtype::U8 => "uint8",
+        Dtype::I16 => "int16",
+        Dtype::U16 => "uint16",
+        Dtype::I32 => "int32",
+        Dtype::U32 => "uint32",
+        Dtype::I64 => "int64",
+        Dtype::U64 => "uint64",
+    }
+}
+
+fn domain_of(alloc: Global, shape: &[u64]) -> Result<Value, AllocError>
+    ensures { IfOk result (λ v. view v ≡ domain_of shape.now) }
 {
     let mut members = Map::new(alloc);
     put(
         &mut members,
         alloc,
         "inclusive_min",
-        list_from_u64s(alloc, &[0])?,
+        lower_bounds(alloc, shape)?,
     )?;
-    let upper = vec![in alloc; list_from_u64s(alloc, &[size])?]?;
-    put(&mut members, alloc, "exclusive_max", Value::Array(upper))?;
+    put(
+        &mut members,
+        alloc,
+        "exclusive_max",
+        upper_bounds(alloc, shape)?,
+    )?;
+    Ok(Value::Object(members))
+}
+
+fn lower_bounds(alloc: Global, shape: &[u64]) -> Result<Value, AllocError>
+    ensures { IfOk result (λ v. view v ≡ numbers (replicate (length shape.now) 0)) }
+{
+    let zeros = vec![in alloc; 0u64; shape.len()]?;
+    list_from_u64s(alloc, &zeros)
+}
+
+fn upper_bounds(alloc: Global, shape: &[u64]) -> Result<Value, AllocError>
+    ensures { IfOk result (λ v. view v ≡ list_of (map (λ size. numbers (size ∷ [])) shape.now)) }
+{
+    let mut items = Vec::with_capacity(alloc, shape.len())?;
+    for size in shape {
+        items.push(list_from_u64s(alloc, &[*size])?)?;
+    }
+    Ok(Value::Array(items))
+}
+
+fn met_of(alloc: Global, at: u64, path: &str) -> Result<Value, AllocError>
+    ensures { IfOk result (λ v. view v ≡ met_of at path.now) }
+{
+    let mut members = Map::new(alloc);
+    put(&mut members, alloc, "path", text(alloc, path)?)?;
+    put(&mut members, alloc, "at", Value::from(at))?;
+    Ok(Value::Object(members))
+}
+
+fn dim_of(alloc: Global, dim: u32) -> Result<Value, AllocError>
+    ensures { IfOk result (λ v. view v ≡ dim_of dim) }
+{
+    let mut members = Map::new(alloc);
+    put(&mut members, alloc, "dim", Value::from(u64::from(dim)))?;
     Ok(Value::Object(members))
 }
 
@@ -126,14 +243,4 @@ fn failure_of(alloc: Global, event: u64, done: &[u64]) -> Result<Value, AllocErr
     put(&mut members, alloc, "event", Value::from(event))?;
     put(&mut members, alloc, "done", list_from_u64s(alloc, done)?)?;
     Ok(Value::Object(members))
-}
-
-fn values_of(alloc: Global, words: &[u64]) -> Result<Value, AllocError>
-    ensures { IfOk result (λ v. view v ≡ values_of words.now) }
-{
-    let mut items = Vec::with_capacity(alloc, words.len())?;
-    for word in words {
-        items.push(Value::from(word.cast_signed()))?;
-    }
-    Ok(Value::Array(items))
 }

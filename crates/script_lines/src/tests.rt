@@ -1,12 +1,13 @@
 use crate::{
-    Answer, ArraySpec, Body, Command, LineError, cut, is_blank, is_ok, read_command, render,
-    words_of_values,
+    Answer, Body, Command, LineError, ValuesError, bad_line_text, cut, is_blank, is_ok, list_count,
+    read_command, render, words_of_values,
 };
-use cells::{List, Name, Words};
+use cells::{Dtype, Index, List, Name, Order, Sizes, Words};
 use json_forms::parse;
 use std::alloc::{AllocError, Global};
 use std::process::Abort;
 use std::test::Fail;
+use zarr_chunks::ZarrMeta;
 
 fn name(alloc: Global, text: &str) -> Result<Name, AllocError> {
     Ok(Name::wrap(String::from_str(alloc, text)?))
@@ -16,90 +17,154 @@ fn list(alloc: Global, numbers: &[u64]) -> Result<List<u64>, AllocError> {
     Ok(List::wrap(numbers.to_vec(alloc)?))
 }
 
+fn sizes(alloc: Global, numbers: &[u64]) -> Result<Sizes, AllocError> {
+    Ok(Sizes::wrap(numbers.to_vec(alloc)?))
+}
+
 fn open_line(
     alloc: Global,
-    name: &str,
     path: &str,
-    size: &str,
-    chunk: &str,
+    shape: &str,
+    chunks: &str,
+    dtype: &str,
 ) -> Result<String, AllocError> {
     format!(in alloc;
-        "{{\"open\":\"{name}\",\"spec\":{{\"driver\":\"zarr\",\"kvstore\":{{\"driver\":\"memory\",\"path\":\"{path}\"}},\"metadata\":{{\"chunks\":[{chunk}],\"dtype\":\"<i4\",\"shape\":[{size}]}},\"create\":true}}}}"
+        "{{\"open\":\"b\",\"spec\":{{\"driver\":\"zarr\",\"kvstore\":{{\"driver\":\"memory\",\"path\":\"{path}\"}},\"metadata\":{{\"chunks\":[{chunks}],\"dtype\":\"{dtype}\",\"shape\":[{shape}]}},\"create\":true}}}}"
     )
 }
 
-fn is_opening(
+fn opened(
     rt: &(impl Abort + AllocGlobal),
-    name: &str,
     path: &str,
-    size: &str,
-    chunk: &str,
-) -> Result<bool, Fail> {
-    let line = open_line(rt.alloc(), name, path, size, chunk)?;
-    let Some(command) = read_command(rt.alloc(), line.as_bytes())? else {
-        return Ok(false);
-    };
-    let Command::Open { name: bound, spec } = command else {
-        return Ok(false);
-    };
-    assert!(rt; bound.items() == name && spec.path() == path);
-    assert_eq!(rt; spec.size(), size.parse::<u64>()?);
-    assert_eq!(rt; spec.chunk(), chunk.parse::<u64>()?);
-    let kept = spec.into_path();
-    assert!(rt; kept.items() == path);
-    Ok(true)
+    shape: &str,
+    chunks: &str,
+    dtype: &str,
+) -> Result<Option<(Name, ZarrMeta)>, Fail> {
+    let line = open_line(rt.alloc(), path, shape, chunks, dtype)?;
+    match read_command(rt.alloc(), line.as_bytes())? {
+        Some(Command::Open { name, path, meta }) => {
+            assert_eq!(rt; name.items(), "b");
+            assert!(rt; !meta.big && !meta.slash && meta.fill.is_none());
+            assert!(rt; matches!(meta.order, Order::C));
+            Ok(Some((path, meta)))
+        }
+        Some(_) => panic!(rt; "another command"),
+        None => Ok(None),
+    }
 }
 
 #[test]
-fn an_open_line_names_an_array_within_bounds(rt: HostRuntime) -> Result<(), Fail> {
-    let long = "aZ9_".repeat(rt.alloc(), 16)?;
-    let longer = format!(in rt.alloc(); "{long}x")?;
+fn two_dimensional_chunks(rt: HostRuntime) -> Result<(), Fail> {
+    let (path, meta) = opened(&rt, "b", "2,3", "2,2", "<i2")?.ok_or("no array")?;
+    assert_eq!(rt; path.items(), "b");
+    assert_eq!(rt; meta.shape.items(), [2, 3].as_slice());
+    assert_eq!(rt; meta.chunks.items(), [2, 2].as_slice());
+    assert_eq!(rt; meta.dtype, Dtype::I16);
+    let values = parse(rt.alloc(), b"[[1,2,3],[4,5,6]]")?;
+    let words = words_of_values(rt.alloc(), meta.dtype, meta.shape.items(), &values)?;
+    assert_eq!(rt; words.as_slice(), [1, 2, 3, 4, 5, 6].as_slice());
+    let written = Body::Written {
+        cells: 6,
+        events: list(rt.alloc(), &[2])?,
+    };
+    is_rendered(
+        &rt,
+        2,
+        written,
+        true,
+        "{\"commit\":[2],\"line\":2,\"write\":6}",
+    )?;
+    let exists = Body::Exists {
+        at: 2,
+        path: name(rt.alloc(), "memory/b")?,
+        events: list(rt.alloc(), &[])?,
+    };
+    is_rendered(
+        &rt,
+        3,
+        exists,
+        false,
+        "{\"events\":[],\"exists\":{\"at\":2,\"path\":\"memory/b\"},\"line\":3}",
+    )
+}
+
+#[test]
+fn an_open_line_names_an_array_of_any_rank(rt: HostRuntime) -> Result<(), Fail> {
+    let ones = "1,".repeat(rt.alloc(), 31)?;
+    let rank_32 = format!(in rt.alloc(); "{ones}1")?;
+    let rank_33 = format!(in rt.alloc(); "{ones}1,1")?;
+    for (shape, chunks, dtype, wanted) in [
+        ("", "", "|u1", Some(Dtype::U8)),
+        ("0", "1", "|i1", Some(Dtype::I8)),
+        (
+            "4611686018427387902,0",
+            "16777216,1",
+            "<u2",
+            Some(Dtype::U16),
+        ),
+        (rank_32.as_str(), rank_32.as_str(), "<i4", Some(Dtype::I32)),
+        ("3,2", "4096,4096", "<u4", Some(Dtype::U32)),
+        ("3", "2", "<i8", Some(Dtype::I64)),
+        ("3", "2", "<u8", Some(Dtype::U64)),
+        (rank_33.as_str(), rank_33.as_str(), "<i4", None),
+        ("4611686018427387903", "1", "<i4", None),
+        ("-1", "1", "<i4", None),
+        ("3", "0", "<i4", None),
+        ("3", "16777217", "<i4", None),
+        ("3,2", "4096,4097", "<i4", None),
+        ("3,3", "2", "<i4", None),
+        ("3", "2", ">i4", None),
+        ("3", "2", "<i1", None),
+        ("3", "2", "i4", None),
+    ] {
+        let dtype_found = opened(&rt, "a", shape, chunks, dtype)?.map(|p| p.1.dtype);
+        assert_eq!(rt; dtype_found, wanted, "{shape} {chunks} {dtype}");
+    }
+    Ok(())
+}
+
+#[test]
+fn paths_have_good_segments(rt: HostRuntime) -> Result<(), Fail> {
     let segment = "%".repeat(rt.alloc(), 255)?;
     let past = "%".repeat(rt.alloc(), 256)?;
-    for (name, path, size, chunk) in [
-        ("a", "a", "3", "2"),
-        (long.as_str(), "...", "0", "1"),
-        ("_", segment.as_str(), "4194304", "16777216"),
-        ("0", "~new.", "1", "2"),
+    let deep = "a/".repeat(rt.alloc(), 16)?;
+    let deeper = "a/".repeat(rt.alloc(), 17)?;
+    for (path, wanted) in [
+        ("a", Some("a")),
+        ("a/b", Some("a/b")),
+        ("a/b/", Some("a/b")),
+        ("...", Some("...")),
+        ("~new.", Some("~new.")),
+        (segment.as_str(), Some(segment.as_str())),
+        (deep.as_str(), Some("a/a/a/a/a/a/a/a/a/a/a/a/a/a/a/a")),
+        (deeper.as_str(), None),
+        (past.as_str(), None),
+        ("", None),
+        ("/", None),
+        ("/a", None),
+        ("a//", None),
+        ("a//b", None),
+        ("a/.", None),
+        ("../a", None),
+        ("a\\u0000", None),
+        ("a~new/b", None),
     ] {
-        assert!(rt;
-            is_opening(&rt, name, path, size, chunk)?,
-            "{name} {path} {size} {chunk}"
-        );
-    }
-    for (name, path, size, chunk) in [
-        ("", "a", "3", "2"),
-        (longer.as_str(), "a", "3", "2"),
-        ("a-b", "a", "3", "2"),
-        ("a", "", "3", "2"),
-        ("a", past.as_str(), "3", "2"),
-        ("a", ".", "3", "2"),
-        ("a", "..", "3", "2"),
-        ("a", "a/b", "3", "2"),
-        ("a", "a\\u0000", "3", "2"),
-        ("a", "a~new", "3", "2"),
-        ("a", "a", "4194305", "2"),
-        ("a", "a", "-1", "2"),
-        ("a", "a", "3", "0"),
-        ("a", "a", "3", "16777217"),
-        ("a", "a", "3,3", "2"),
-        ("a", "a", "", "2"),
-    ] {
-        assert!(rt;
-            !is_opening(&rt, name, path, size, chunk)?,
-            "{name} {path} {size} {chunk}"
-        );
+        match opened(&rt, path, "3", "2", "<i4")? {
+            Some((found, _)) => assert_eq!(rt; Some(found.items()), wanted, "{path}"),
+            None => assert!(rt; wanted.is_none(), "{path}"),
+        }
     }
     Ok(())
 }
 
 #[test]
 fn write_and_read_lines_are_commands(rt: HostRuntime) -> Result<(), Fail> {
-    match read_command(rt.alloc(), b"{\"write\":\"a\",\"values\":[1,2,3]}")? {
+    let long = "aZ9_".repeat(rt.alloc(), 16)?;
+    let line = format!(in rt.alloc(); "{{\"write\":\"{long}\",\"values\":[null]}}")?;
+    match read_command(rt.alloc(), line.as_bytes())? {
         Some(Command::Write { name, values }) => {
-            assert_eq!(rt; name.items(), "a");
-            let words = words_of_values(rt.alloc(), &values)?.ok_or("no words")?;
-            assert_eq!(rt; words.as_slice(), [1, 2, 3].as_slice());
+            assert_eq!(rt; name.items(), long.as_str());
+            assert!(rt; values.is_array());
         }
         _ => panic!(rt; "no write"),
     }
@@ -107,20 +172,16 @@ fn write_and_read_lines_are_commands(rt: HostRuntime) -> Result<(), Fail> {
         Some(Command::Read { name }) => assert_eq!(rt; name.items(), "a"),
         _ => panic!(rt; "no read"),
     }
-    Ok(())
-}
-
-#[test]
-fn other_lines_have_no_form_yet(rt: HostRuntime) -> Result<(), Fail> {
     for line in [
         "{\"begin\":{}}",
-        "{\"abort\":true}",
-        "[1]",
-        "{\"read\":\"a\",\"steps\":[]}",
-        "{\"read\":1}",
-        "{\"write\":\"a\"}",
+        "{\"begin\":7,\"x\":1}",
+        "{\"abort\":false}",
+        "{\"commit\":null}",
+        "{\"view\":1}",
+        "{\"read\":\"a\",\"steps\":7}",
+        "{\"write\":\"a\",\"values\":1,\"steps\":[]}",
+        "{\"open\":\"a\",\"spec\":7}",
         "{\"open\":\"a\",\"spec\":{\"driver\":\"zarr\",\"kvstore\":{\"driver\":\"memory\",\"path\":\"a\"},\"metadata\":{\"chunks\":[2],\"dtype\":\"<i4\",\"shape\":[3]},\"create\":false}}",
-        "{\"open\":\"a\",\"spec\":{\"driver\":\"zarr\",\"kvstore\":{\"driver\":\"memory\",\"path\":\"a\"},\"metadata\":{\"chunks\":[2],\"dtype\":\"<i2\",\"shape\":[3]},\"create\":true}}",
         "{\"open\":\"a\",\"spec\":{\"driver\":\"zarr\",\"kvstore\":{\"driver\":\"memory\",\"path\":\"a\"},\"metadata\":{\"chunks\":[2],\"dtype\":\"<i4\",\"order\":\"C\",\"shape\":[3]},\"create\":true}}",
     ] {
         assert!(rt;
@@ -128,37 +189,111 @@ fn other_lines_have_no_form_yet(rt: HostRuntime) -> Result<(), Fail> {
             "{line}"
         );
     }
-    for line in ["{\"read\":\"a\"", "{\"open\"", "-x"] {
-        let cause = read_command(rt.alloc(), line.as_bytes()).err();
-        assert_eq!(rt; cause, Some(LineError::NotJson), "{line}");
+    Ok(())
+}
+
+#[test]
+fn bad_lines_say_why(rt: HostRuntime) -> Result<(), Fail> {
+    let long = "aZ9_".repeat(rt.alloc(), 16)?;
+    let longer = format!(in rt.alloc(); "{{\"read\":\"{long}x\"}}")?;
+    for (line, text) in [
+        ("{\"open\"", "json"),
+        ("-x", "json"),
+        ("1e400", "json"),
+        ("[1]", "command"),
+        ("{}", "command"),
+        ("{\"Read\":\"a\"}", "command"),
+        ("{\"read\":\"a\",\"view\":\"b\"}", "command"),
+        ("{\"open\":1}", "member:open"),
+        ("{\"open\":\"a\"}", "member:spec"),
+        ("{\"open\":\"a\",\"of\":1}", "member:of"),
+        ("{\"open\":\"a\",\"zarr\":1}", "member:spec"),
+        (
+            "{\"open\":\"\",\"spec\":1,\"create\":true}",
+            "member:create",
+        ),
+        ("{\"read\":null,\"values\":1}", "member:read"),
+        ("{\"read\":1,\"a\":1}", "member:a"),
+        ("{\"read\":\"a-b\"}", "member:read"),
+        (longer.as_str(), "member:read"),
+        ("{\"write\":\"a\"}", "member:values"),
+        ("{\"write\":1}", "member:values"),
+        ("{\"write\":1,\"values\":1}", "member:write"),
+        ("{\"write\":\"a\",\"values\":1,\"\":1}", "member:"),
+        ("{\"write\":\"a\",\"values\":1,\"é\\n\":1}", "member:é\n"),
+    ] {
+        match read_command(rt.alloc(), line.as_bytes()) {
+            Ok(_) => panic!(rt; "{line}"),
+            Err(error) => {
+                let found = bad_line_text(rt.alloc(), &error)?;
+                assert_eq!(rt; found.items(), text, "{line}");
+            }
+        }
+    }
+    assert!(rt; bad_line_text(rt.alloc(), &LineError::Memory).is_err());
+    Ok(())
+}
+
+#[test]
+fn values_give_a_word_to_each_cell(rt: HostRuntime) -> Result<(), Fail> {
+    for (dtype, shape, text, wanted) in [
+        (Dtype::U8, [].as_slice(), "7", [7].as_slice()),
+        (Dtype::I8, &[2], "[-128,127]", &[18446744073709551488, 127]),
+        (
+            Dtype::U64,
+            &[2, 1],
+            "[[18446744073709551615],[0]]",
+            &[18446744073709551615, 0],
+        ),
+        (
+            Dtype::I64,
+            &[1],
+            "[-9223372036854775808]",
+            &[9223372036854775808],
+        ),
+        (Dtype::I32, &[2, 2], "-1", &[18446744073709551615; 4]),
+        (Dtype::I32, &[2, 0], "[[],[]]", &[]),
+        (Dtype::I32, &[0, 4611686018427387902], "[]", &[]),
+        (Dtype::I32, &[4611686018427387902, 0], "5", &[]),
+        (
+            Dtype::U16,
+            &[2, 1, 3],
+            "[[[1,2,3]],[[4,5,65535]]]",
+            &[1, 2, 3, 4, 5, 65535],
+        ),
+    ] {
+        let values = parse(rt.alloc(), text.as_bytes())?;
+        let words = words_of_values(rt.alloc(), dtype, shape, &values)?;
+        assert_eq!(rt; words.as_slice(), wanted, "{text}");
     }
     Ok(())
 }
 
 #[test]
-fn words_are_those_of_int32(rt: HostRuntime) -> Result<(), Fail> {
-    let values = parse(rt.alloc(), b"[-2147483648, 2147483647, -1]")?;
-    let words = words_of_values(rt.alloc(), &values)?.ok_or("no words")?;
-    assert_eq!(rt;
-        words.as_slice(),
-        [18446744071562067968, 2147483647, 18446744073709551615].as_slice()
-    );
-    let values = parse(rt.alloc(), b"[]")?;
-    assert_eq!(rt;
-        words_of_values(rt.alloc(), &values)?.map(|w| w.len()),
-        Some(0)
-    );
-    for text in [
-        "[2147483648]",
-        "[-2147483649]",
-        "[1,2.0]",
-        "[-0]",
-        "[\"1\"]",
-        "[[1]]",
-        "7",
+fn values_that_do_not_fit_have_a_path(rt: HostRuntime) -> Result<(), Fail> {
+    for (dtype, shape, text, wanted) in [
+        (Dtype::I32, [3].as_slice(), "[1,2]", [].as_slice()),
+        (Dtype::I32, &[3], "[1,2147483648,3]", &[1]),
+        (Dtype::I32, &[3], "2147483648", &[]),
+        (Dtype::I32, &[3], "\"1\"", &[]),
+        (Dtype::U8, &[], "[7]", &[]),
+        (Dtype::U8, &[], "-1", &[]),
+        (Dtype::U8, &[], "7.0", &[]),
+        (Dtype::U8, &[1], "[-0]", &[0]),
+        (Dtype::U8, &[2, 2], "[[1,2],[3]]", &[1]),
+        (Dtype::U8, &[2, 2], "[[1,256],[3]]", &[0, 1]),
+        (Dtype::U8, &[2, 2], "[[1,2],3]", &[1]),
+        (Dtype::U8, &[2, 2], "[[1,2],[3,[4]]]", &[1, 1]),
+        (Dtype::U8, &[2, 2], "[[1,2,3],[256,4]]", &[0]),
+        (Dtype::I64, &[1], "[9223372036854775808]", &[0]),
+        (Dtype::I32, &[2, 0], "[[],[1]]", &[1]),
+        (Dtype::I32, &[4611686018427387902, 0], "[[]]", &[]),
     ] {
         let values = parse(rt.alloc(), text.as_bytes())?;
-        assert!(rt; words_of_values(rt.alloc(), &values)?.is_none(), "{text}");
+        match words_of_values(rt.alloc(), dtype, shape, &values) {
+            Err(ValuesError::Bad { path }) => assert_eq!(rt; path.items(), wanted, "{text}"),
+            _ => panic!(rt; "{text}"),
+        }
     }
     Ok(())
 }
@@ -195,46 +330,127 @@ fn is_rendered(
 }
 
 #[test]
-fn answers_are_written_to_the_byte(rt: HostRuntime) -> Result<(), Fail> {
-    let opened = Body::Opened {
-        name: name(rt.alloc(), "a")?,
-        size: 3,
-        event: 1,
+fn an_opened_array_is_told_with_its_domain(rt: HostRuntime) -> Result<(), Fail> {
+    for (dtype, shape, events, text) in [
+        (
+            Dtype::I32,
+            [3].as_slice(),
+            [1].as_slice(),
+            "{\"domain\":{\"exclusive_max\":[[3]],\"inclusive_min\":[0]},\"dtype\":\"int32\",\"events\":[1],\"line\":1,\"open\":\"a\"}",
+        ),
+        (
+            Dtype::U8,
+            &[],
+            &[],
+            "{\"domain\":{\"exclusive_max\":[],\"inclusive_min\":[]},\"dtype\":\"uint8\",\"events\":[],\"line\":1,\"open\":\"a\"}",
+        ),
+        (
+            Dtype::I16,
+            &[2, 4611686018427387902],
+            &[4, 5],
+            "{\"domain\":{\"exclusive_max\":[[2],[4611686018427387902]],\"inclusive_min\":[0,0]},\"dtype\":\"int16\",\"events\":[4,5],\"line\":1,\"open\":\"a\"}",
+        ),
+    ] {
+        let body = Body::Opened {
+            name: name(rt.alloc(), "a")?,
+            dtype,
+            shape: sizes(rt.alloc(), shape)?,
+            events: list(rt.alloc(), events)?,
+        };
+        is_rendered(&rt, 1, body, true, text)?;
+    }
+    Ok(())
+}
+
+#[test]
+fn values_are_nested_by_the_shape(rt: HostRuntime) -> Result<(), Fail> {
+    for (dtype, shape, words, text) in [
+        (
+            Dtype::I32,
+            [3].as_slice(),
+            [1, 2, 18446744073709551613].as_slice(),
+            "[1,2,-3]",
+        ),
+        (Dtype::U8, &[], &[7], "7"),
+        (
+            Dtype::U64,
+            &[1],
+            &[18446744073709551615],
+            "[18446744073709551615]",
+        ),
+        (
+            Dtype::I64,
+            &[1],
+            &[9223372036854775808],
+            "[-9223372036854775808]",
+        ),
+        (
+            Dtype::I16,
+            &[2, 3],
+            &[1, 2, 3, 4, 5, 6],
+            "[[1,2,3],[4,5,6]]",
+        ),
+        (Dtype::I16, &[2, 1, 2], &[1, 2, 3, 4], "[[[1,2]],[[3,4]]]"),
+        (Dtype::I16, &[2, 0], &[], "[[],[]]"),
+        (Dtype::I16, &[0, 4611686018427387902], &[], "[]"),
+    ] {
+        let mut origin = Vec::new(rt.alloc());
+        let mut zeros = String::new(rt.alloc());
+        for k in 0..shape.len() {
+            origin.push(0)?;
+            zeros.push_str(if k == 0 { "0" } else { ",0" })?;
+        }
+        let body = Body::Values {
+            origin: Index::wrap(origin),
+            shape: sizes(rt.alloc(), shape)?,
+            dtype,
+            words: Words::wrap(words.to_vec(rt.alloc())?),
+        };
+        let wanted = format!(in rt.alloc();
+            "{{\"line\":3,\"origin\":[{zeros}],\"values\":{text}}}"
+        )?;
+        is_rendered(&rt, 3, body, true, wanted.as_str())?;
+    }
+    Ok(())
+}
+
+#[test]
+fn values_in_too_many_lists_are_not_written(rt: HostRuntime) -> Result<(), Fail> {
+    for (shape, lists) in [
+        ([].as_slice(), Some(0)),
+        (&[5, 0], Some(6)),
+        (&[0, 5], Some(1)),
+        (&[2, 3, 4], Some(9)),
+        (&[4194303, 0], Some(4194304)),
+        (&[4194304, 0], None),
+        (&[4611686018427387902, 4611686018427387902, 0], None),
+    ] {
+        assert_eq!(rt; list_count(shape), lists);
+    }
+    let body = Body::Values {
+        origin: Index::wrap([0, 0].to_vec(rt.alloc())?),
+        shape: sizes(rt.alloc(), &[4194304, 0])?,
+        dtype: Dtype::I32,
+        words: Words::wrap(Vec::new(rt.alloc())),
     };
-    is_rendered(
-        &rt,
-        1,
-        opened,
-        true,
-        "{\"domain\":{\"exclusive_max\":[[3]],\"inclusive_min\":[0]},\"dtype\":\"int32\",\"events\":[1],\"line\":1,\"open\":\"a\"}",
-    )?;
-    let written = Body::Written { cells: 3, event: 2 };
-    is_rendered(
-        &rt,
-        2,
-        written,
-        true,
-        "{\"commit\":[2],\"line\":2,\"write\":3}",
-    )?;
-    let words = Words::wrap([1, 2, 18446744073709551613].to_vec(rt.alloc())?);
+    assert!(rt; render(rt.alloc(), &Answer { line: 1, body }).is_err());
+    Ok(())
+}
+
+#[test]
+fn refusals_are_written_to_the_byte(rt: HostRuntime) -> Result<(), Fail> {
+    let alloc = rt.alloc();
+    let text = name(alloc, "member:a\"")?;
+    let bad_line = Body::BadLine { text };
     is_rendered(
         &rt,
         3,
-        Body::Values { words },
-        true,
-        "{\"line\":3,\"origin\":[0],\"values\":[1,2,-3]}",
-    )?;
-    let text = name(rt.alloc(), "json")?;
-    is_rendered(
-        &rt,
-        3,
-        Body::BadLine { text },
+        bad_line,
         false,
-        "{\"bad_line\":\"json\",\"line\":3}",
+        "{\"bad_line\":\"member:a\\\"\",\"line\":3}",
     )?;
-    let unknown = Body::UnknownName {
-        name: name(rt.alloc(), "a")?,
-    };
+    let name_a = name(alloc, "a")?;
+    let unknown = Body::UnknownName { name: name_a };
     is_rendered(
         &rt,
         1,
@@ -242,29 +458,36 @@ fn answers_are_written_to_the_byte(rt: HostRuntime) -> Result<(), Fail> {
         false,
         "{\"line\":1,\"unknown_name\":\"a\"}",
     )?;
-    let failed = Body::StoreFailed {
-        event: 2,
-        done: list(rt.alloc(), &[])?,
-        events: None,
+    let taken = Body::PathTaken {
+        at: 1,
+        path: name(alloc, "memory/a")?,
+        events: list(alloc, &[])?,
     };
+    let wanted = "{\"events\":[],\"line\":5,\"path_taken\":{\"at\":1,\"path\":\"memory/a\"}}";
+    is_rendered(&rt, 5, taken, false, wanted)?;
+    let too_many = Body::TooMany { dim: 31 };
+    is_rendered(
+        &rt,
+        6,
+        too_many,
+        false,
+        "{\"line\":6,\"too_many\":{\"dim\":31}}",
+    )?;
+    let path = list(alloc, &[])?;
     is_rendered(
         &rt,
         4,
-        failed,
+        Body::BadValues { path },
         false,
-        "{\"line\":4,\"store_failed\":{\"done\":[],\"event\":2}}",
+        "{\"bad_values\":[],\"line\":4}",
     )?;
-    let failed = Body::StoreFailed {
-        event: 7,
-        done: list(rt.alloc(), &[5, 6])?,
-        events: Some(list(rt.alloc(), &[4])?),
-    };
+    let path = list(alloc, &[1, 0])?;
     is_rendered(
         &rt,
-        9,
-        failed,
+        5,
+        Body::BadValues { path },
         false,
-        "{\"events\":[4],\"line\":9,\"store_failed\":{\"done\":[5,6],\"event\":7}}",
+        "{\"bad_values\":[1,0],\"line\":5}",
     )?;
     is_rendered(
         &rt,
@@ -273,19 +496,24 @@ fn answers_are_written_to_the_byte(rt: HostRuntime) -> Result<(), Fail> {
         false,
         "{\"line\":2,\"not_built\":true}",
     )?;
-    is_rendered(
-        &rt,
-        18446744073709551615,
-        Body::Memory,
-        false,
-        "{\"line\":18446744073709551615,\"memory\":true}",
-    )
+    let wanted = "{\"line\":18446744073709551615,\"memory\":true}";
+    is_rendered(&rt, 18446744073709551615, Body::Memory, false, wanted)
 }
 
 #[test]
-fn an_array_is_kept_as_given(rt: HostRuntime) -> Result<(), Fail> {
-    let spec = ArraySpec::new(name(rt.alloc(), "x")?, 0, 1);
-    assert_eq!(rt; (spec.path(), spec.size(), spec.chunk()), ("x", 0, 1));
-    assert_eq!(rt; spec.into_path().items(), "x");
-    Ok(())
+fn a_failed_store_is_told_with_its_events(rt: HostRuntime) -> Result<(), Fail> {
+    let failed = Body::StoreFailed {
+        event: 2,
+        done: list(rt.alloc(), &[])?,
+        events: None,
+    };
+    let wanted = "{\"line\":4,\"store_failed\":{\"done\":[],\"event\":2}}";
+    is_rendered(&rt, 4, failed, false, wanted)?;
+    let failed = Body::StoreFailed {
+        event: 7,
+        done: list(rt.alloc(), &[5, 6])?,
+        events: Some(list(rt.alloc(), &[4])?),
+    };
+    let wanted = "{\"events\":[4],\"line\":9,\"store_failed\":{\"done\":[5,6],\"event\":7}}";
+    is_rendered(&rt, 9, failed, false, wanted)
 }

@@ -1,7 +1,18 @@
 // Texts that may stand as a name or as a path.
-ghost use Rattle.std.specs.Prelude.{◌≡◌};
+ghost use Rattle.std.specs.Prelude.{◌≡◌, IfOk, option_map, length};
 ghost use Rattle.std.specs.List.{list_all};
-ghost use Rattle.script_lines.specs.Names.{is_name_byte, is_name, is_segment_byte, is_segment};
+ghost use Rattle.script_lines.specs.Names.{is_name_byte, is_name};
+ghost use Rattle.script_lines.specs.Paths.{is_segment_byte, is_segment, segments_of, is_path, without_slash, path_of};
+
+use cells::Name;
+use std::alloc::{AllocError, Global};
+
+/// A text of its own.
+pub(crate) fn name_of(alloc: Global, text: &str) -> Result<Name, AllocError>
+    ensures { IfOk result (λ name. name ≡ text.now) }
+{
+    Ok(Name::wrap(String::from_str(alloc, text)?))
+}
 
 /// Whether a text is a name: 1 to 64 ASCII letters, digits or `_`.
 pub(crate) fn is_name(text: &str) -> bool
@@ -16,8 +27,42 @@ pub(crate) fn is_name(text: &str) -> bool
     are_name_bytes(text.as_bytes())
 }
 
-/// Whether a text is one segment of a path.
-pub(crate) fn is_segment(text: &str) -> bool
+/// The path that a text is, without the `/` that may stand at its end.
+pub(crate) fn path_of(text: &str) -> Option<&str>
+    ensures { option_map (λ s. s.now) result ≡ path_of text.now }
+{
+    let path = without_slash(text);
+    if is_path(path) { Some(path) } else { None }
+}
+
+fn without_slash(text: &str) -> &str
+    ensures { result.now ≡ without_slash text.now }
+{
+    match text.strip_suffix('/') {
+        Some(front) => front,
+        None => text,
+    }
+}
+
+fn is_path(text: &str) -> bool
+    ensures { result ≡ is_path text.now }
+{
+    segment_count(text) <= 16 && are_segments(text)
+}
+
+fn segment_count(text: &str) -> usize
+    ensures { result ≡ length (segments_of text.now) }
+{
+    text.split('/').count()
+}
+
+fn are_segments(text: &str) -> bool
+    ensures { result ≡ list_all is_segment (segments_of text.now) }
+{
+    text.split('/').all(|segment| is_segment(segment))
+}
+
+fn is_segment(text: &str) -> bool
     ensures { result ≡ is_segment text.now }
 {
     if text.len() < 1 {
