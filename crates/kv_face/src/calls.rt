@@ -1,18 +1,21 @@
-// Calls of one kind: how many there were, and which are to fail.
 ghost use Rattle.std.specs.Prelude.{◌≡◌, ◌++◌, ◌∷◌, [], OnOk, OnErr};
 ghost use Rattle.kv_face.specs.Memory.{fails, called};
 
 use std::alloc::{AllocError, Global};
 use std::marker::Model;
 
+/// Calls of one kind: how many there were, which of them are to fail, and how many failed.
+///
+/// An object in memory has one of these for each of its methods that a test may let fail. Calls are counted from 1 up to
+/// 2^64-1; the count stops there, and no call fails from there on.
 #[derive(Drop)]
-pub(crate) struct Calls {
+pub struct CountedCalls {
     made: u64,
     faults: u64,
     named: Vec<u64>,
 }
 
-impl Model for Calls {
+impl Model for CountedCalls {
     ghost use Rattle.std.specs.Prelude.{◌≤◌};
     ghost use Rattle.kv_face.specs.Memory.{Calls as CallsOf};
 
@@ -23,11 +26,12 @@ impl Model for Calls {
     ghost invariant = { λ c. c.faults ≤ c.made };
 }
 
-impl Calls {
-    pub(crate) fn new(alloc: Global) -> Self
+impl CountedCalls {
+    /// No calls yet, and none that is to fail.
+    pub fn new(alloc: Global) -> Self
         ensures { result ≡ record { calls = 0; named = []; faults = 0 } }
     {
-        Calls {
+        CountedCalls {
             made: 0,
             faults: 0,
             named: Vec::new(alloc),
@@ -35,7 +39,10 @@ impl Calls {
     }
 
     /// Names a call that is to fail, counted from 1.
-    pub(crate) fn name(&mut self, nth: u64) -> Result<(), AllocError>
+    ///
+    /// # Errors
+    /// Want of memory alone; then nothing changed.
+    pub fn name(&mut self, nth: u64) -> Result<(), AllocError>
         ensures ok { OnOk result (self.new ≡ record self.old { named = self.old.named ++ nth ∷ [] }) }
         ensures err { OnErr result (self.new ≡ self.old) }
     {
@@ -43,15 +50,15 @@ impl Calls {
         Ok(())
     }
 
-    /// The number of calls.
-    pub(crate) fn made(&self) -> u64
+    /// The number of calls; it stops at 2^64-1.
+    pub fn made(&self) -> u64
         ensures { result ≡ self.now.calls }
     {
         self.made
     }
 
     /// Counts a call, and says whether it fails.
-    pub(crate) fn call(&mut self) -> bool
+    pub fn call(&mut self) -> bool
         ensures failed { result ≡ fails self.old }
         ensures counted { self.new ≡ called self.old }
     {

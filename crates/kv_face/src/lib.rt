@@ -12,6 +12,7 @@ mod memory;
 mod slots;
 mod store;
 
+pub use calls::CountedCalls;
 pub use change::Change;
 pub use error::{Failed, KvError};
 pub use memory::MemoryKv;

@@ -7,7 +7,7 @@ ghost use Rattle.kv_face.specs.Slots.{held_by};
 ghost use Rattle.kv_face.specs.Store.{after, keys_of, are_together, takes, opened, finished, failing, OneMore, HasCause};
 ghost use Rattle.kv_face.specs.declared.change.Change.{Change as ChangeOf};
 
-use crate::calls::Calls;
+use crate::calls::CountedCalls;
 use crate::change::Change;
 use crate::error::{Failed, KvError};
 use crate::slots::{Slots, clear_all, fill_all, make_all};
@@ -34,8 +34,8 @@ pub struct MemoryKv {
     slots: Slots,
     state: State,
     change_calls: u64,
-    gets: Calls,
-    applies: Calls,
+    gets: CountedCalls,
+    applies: CountedCalls,
     finish_calls: u64,
     finish_faults: u64,
     fails_to_finish: bool,
@@ -81,8 +81,8 @@ impl MemoryKv {
             slots: Slots::new(alloc),
             state: State::Opened,
             change_calls: 0,
-            gets: Calls::new(alloc),
-            applies: Calls::new(alloc),
+            gets: CountedCalls::new(alloc),
+            applies: CountedCalls::new(alloc),
             finish_calls: 0,
             finish_faults: 0,
             fails_to_finish: false,

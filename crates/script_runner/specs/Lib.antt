@@ -4,3 +4,6 @@ pub mod Solo
 pub mod Kept
 pub mod Progress
 pub mod Top
+pub mod Logged
+pub mod Memory
+pub mod Added

@@ -1,8 +1,10 @@
 -- What a run of one script has to write.
 use Rattle.std.specs.Prelude.{◌≡◌, ◌⊎◌, ℕ, List, [], ◌∷◌, ◌++◌, ◌==◌, Option, Some, None, String, string_bytes, if◌then◌else◌}
+use Rattle.std.specs.List.{flat_map}
 use Rattle.std.specs.declared.alloc.Global.{Global}
 use Rattle.script_lines.specs.AnswerText.{text_of}
 use Rattle.script_lines.specs.Status.{status_of}
+use Rattle.script_lines.specs.declared.answer.Answer.{Answer}
 use Rattle.script_runner.specs.Solo.{single_session}
 use Rattle.script_runner.specs.declared.top.Outcome.{Outcome}
 
@@ -20,6 +22,10 @@ named_script (v ∷ w ∷ ws) = None
 -- all lines were answered and all answers written
 abbrev pub HasAnswers : ℕ → Type 0
 HasAnswers status = (status ≡ 0) ⊎ (status ≡ 1)
+
+-- the answers of all sessions, one session after another
+abbrev pub answers_in : List (List Answer) → List Answer
+answers_in logs = flat_map (λ log. log) logs
 
 -- the text of the session's answers was written behind what was there, and the outcome is the session's
 pub record IsSoloRun (script : List ℕ) (outcome : Outcome) (before : List ℕ) (now : Option (List ℕ)) : Type 0 where

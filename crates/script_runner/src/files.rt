@@ -1,13 +1,17 @@
 // The ends of a real program. They tell no bytes: what a file holds and what a terminal shows is the system's.
 ghost use Rattle.std.specs.Prelude.{◌≡◌, ◌≤◌, None};
+ghost use Rattle.kv_face.specs.Memory.{counted};
 ghost use Rattle.script_runner.specs.Outside.{HasRisen};
 
 use crate::outside::{Scripts, Sink};
 use kv_face::Failed;
 use std::fs::{self, Files};
 use std::io::{Print, Read};
+use std::marker::Model;
 
-fn one_more(faults: u64) -> u64
+/// A count of faults after one more, which stops at its last value.
+pub(crate) fn one_more(faults: u64) -> u64
+    ensures count { result ≡ counted faults }
     ensures risen { HasRisen faults result }
     ensures later { faults ≤ result }
 {
@@ -18,7 +22,7 @@ fn one_more(faults: u64) -> u64
     }
 }
 
-/// Scripts that are files, by their paths.
+/// Scripts that are files, by their paths. A contract sees its count of faults alone.
 #[derive(Drop)]
 pub struct FileScripts<R: Files + Drop> {
     rt: R,
@@ -26,10 +30,18 @@ pub struct FileScripts<R: Files + Drop> {
     faults: u64,
 }
 
+impl<R: Files + Drop> Model for FileScripts<R> {
+    ghost use Rattle.std.specs.Prelude.{ℕ};
+
+    ghost Value = { ℕ };
+
+    ghost view = { λ s. s.faults };
+}
+
 impl<R: Files + Drop> FileScripts<R> {
     /// The files that the runtime reaches.
     pub fn new(rt: R) -> Self
-        ensures { result.faults ≡ 0 }
+        ensures { result ≡ 0 }
     {
         FileScripts {
             rt,
@@ -44,7 +56,7 @@ impl<R: Files + Drop> Scripts for FileScripts<R> {
 
     ghost left = { λ s. None };
 
-    ghost faults = { λ s. s.faults };
+    ghost faults = { λ s. s };
 
     fn select(&mut self, name: &str) -> Result<(), Failed> {
         match fs::open(&self.rt, name) {
@@ -74,17 +86,25 @@ impl<R: Files + Drop> Scripts for FileScripts<R> {
     }
 }
 
-/// Standard output.
+/// Standard output. A contract sees its count of faults alone.
 #[derive(Drop)]
 pub struct StdoutSink<R: Print + Drop> {
     rt: R,
     faults: u64,
 }
 
+impl<R: Print + Drop> Model for StdoutSink<R> {
+    ghost use Rattle.std.specs.Prelude.{ℕ};
+
+    ghost Value = { ℕ };
+
+    ghost view = { λ s. s.faults };
+}
+
 impl<R: Print + Drop> StdoutSink<R> {
     /// The standard output that the runtime reaches.
     pub fn new(rt: R) -> Self
-        ensures { result.faults ≡ 0 }
+        ensures { result ≡ 0 }
     {
         StdoutSink { rt, faults: 0 }
     }
@@ -93,7 +113,7 @@ impl<R: Print + Drop> StdoutSink<R> {
 impl<R: Print + Drop> Sink for StdoutSink<R> {
     ghost content = { λ s. None };
 
-    ghost faults = { λ s. s.faults };
+    ghost faults = { λ s. s };
 
     fn write(&mut self, piece: &[u8]) -> Result<usize, Failed> {
         if piece.is_empty() {

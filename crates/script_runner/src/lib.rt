@@ -6,6 +6,7 @@
 
 mod files;
 mod gather;
+mod memory;
 mod outside;
 mod reading;
 mod session;
@@ -13,5 +14,9 @@ mod step;
 mod top;
 
 pub use files::{FileScripts, StdoutSink};
+pub use memory::{MemoryScripts, MemorySink};
 pub use outside::{Scripts, Sink};
 pub use top::{Outcome, run};
+
+#[cfg(test)]
+mod tests;

@@ -9,8 +9,9 @@ ghost use Rattle.script_lines.specs.AnswerText.{text_of};
 ghost use Rattle.script_lines.specs.Status.{status_of, is_ok_answer};
 ghost use Rattle.script_runner.specs.Solo.{single_session};
 ghost use Rattle.script_runner.specs.Kept.{IsReady, IsOverEmpty};
-ghost use Rattle.script_runner.specs.Outside.{WhereTold, Rises, HasRisen};
-ghost use Rattle.script_runner.specs.Top.{name_of, named_script, HasAnswers, IsSoloRun};
+ghost use Rattle.script_runner.specs.Outside.{WhereTold, Rises, HasRisen, IsPartOf};
+ghost use Rattle.script_runner.specs.Top.{name_of, named_script, HasAnswers, answers_in, IsSoloRun};
+ghost use Rattle.script_runner.specs.Logged.{IsBegunLog, IsWholeLog, AreLogs};
 
 use crate::outside::{Scripts, Sink, write_all};
 use crate::reading::{ReadError, read_script};
@@ -57,8 +58,12 @@ fn run_lines<K: KvStore>(
         → progress.new.answers.items ≡ (single_session script.now).answers) }
     ensures events { OnOk result (K.faults progress.new.session.state.store ≡ K.faults progress.old.session.state.store
         → progress.new.session.state.events ≡ (single_session script.now).session.events) }
+    ensures log { IsBegunLog script.now progress.new.answers.items }
+    ensures whole { OnOk result (IsWholeLog script.now progress.new.answers.items) }
     ensures ready { IsReady (K.contents progress.new.session.state.store) progress.new.session.state.events progress.new.session.bound }
     ensures faults { K.faults progress.old.session.state.store ≤ K.faults progress.new.session.state.store }
+    ensures prefixes { K.prefixes progress.new.session.state.store ≡ K.prefixes progress.old.session.state.store }
+    ensures names { K.names progress.new.session.state.store ≡ K.names progress.old.session.state.store }
 {
     let mut line = 0u64;
     let mut rest = Some(script);
@@ -112,6 +117,8 @@ fn all_ok(answers: &[Answer]) -> bool
 
 fn finish<O: Sink>(alloc: Global, sink: &mut O, answers: &[Answer]) -> u8
     ensures written { HasAnswers result → WhereTold (O.content sink.old) (λ before. O.content sink.new ≡ Some (before ++ text_of answers.now)) }
+    ensures part { WhereTold (O.content sink.old) (λ before. IsPartOf (O.content sink.new) before (text_of answers.now)) }
+    ensures memory { result ≡ 5 → sink.new ≡ sink.old }
     ensures status { HasAnswers result → result ≡ status_of answers.now }
     ensures unwritten { Rises (O.faults sink.old) (O.faults sink.new) (result ≡ 4) }
     ensures other { (result ≢ 2) × (result ≢ 3) }
@@ -138,11 +145,23 @@ fn run_session<O: Sink, K: KvStore>(
     requires empty { K.contents store ≡ Some finmap.empty }
     ensures solo { HasAnswers result.0.status → K.faults result.1 ≡ K.faults store
         → WhereTold (O.content sink.old) (λ before. IsSoloRun script.now result.0 before (O.content sink.new)) }
+    ensures log { AreLogs script.now result.0.status result.0.logs }
+    ensures answers { HasAnswers result.0.status → result.0.status ≡ status_of (answers_in result.0.logs) }
+    ensures written { HasAnswers result.0.status → WhereTold (O.content sink.old) (λ before. O.content sink.new ≡ Some (before ++ text_of (answers_in result.0.logs))) }
+    ensures part { WhereTold (O.content sink.old) (λ before. IsPartOf (O.content sink.new) before (text_of (answers_in result.0.logs))) }
+    ensures memory { result.0.status ≡ 5 → sink.new ≡ sink.old }
     ensures store { IsOverEmpty (K.contents result.1) result.0.history }
+    ensures unstarted { result.0.logs ≡ [] → (result.0.history ≡ []) × (sink.new ≡ sink.old) × (result.1 ≡ store) }
+    ensures faults { K.faults store ≤ K.faults result.1 }
+    ensures prefixes { K.prefixes result.1 ≡ K.prefixes store }
+    ensures names { K.names result.1 ≡ K.names store }
     ensures unwritten { Rises (O.faults sink.old) (O.faults sink.new) (result.0.status ≡ 4) }
     ensures other { (result.0.status ≢ 2) × (result.0.status ≢ 3) }
     ensures place { result.0.script ≡ None }
 {
+    let Ok(mut logs) = Vec::with_capacity(alloc, 1) else {
+        return (no_session(alloc, 5, None), store);
+    };
     let mut progress = Progress {
         session: Session {
             state: State::new(alloc, store),
@@ -158,28 +177,16 @@ fn run_session<O: Sink, K: KvStore>(
     let Progress { session, answers } = progress;
     let Session { state, bound: _ } = session;
     let (store, events) = state.into_parts();
-    let history = List::wrap(events);
-    let mut logs = Vec::new(alloc);
-    match logs.push(List::wrap(answers)) {
-        Ok(()) => (
-            Outcome {
-                status,
-                script: None,
-                history,
-                logs: List::wrap(logs),
-            },
-            store,
-        ),
-        Err(_) => (
-            Outcome {
-                status: 5,
-                script: None,
-                history,
-                logs: List::wrap(Vec::new(alloc)),
-            },
-            store,
-        ),
+    if logs.push(List::wrap(answers)).is_err() {
+        unreachable!();
     }
+    let outcome = Outcome {
+        status,
+        script: None,
+        history: List::wrap(events),
+        logs: List::wrap(logs),
+    };
+    (outcome, store)
 }
 
 fn no_session(alloc: Global, status: u8, script: Option<u32>) -> Outcome
@@ -208,17 +215,31 @@ pub fn run<S: Scripts, O: Sink, K: KvStore>(
     requires names { K.names store ≡ None }
     requires together { (cs : List ChangeOf) → IsDistinct bytes_eq (keys_of cs) → are_together (K.prefixes store) cs 0 ≡ true }
     requires empty { K.contents store ≡ Some finmap.empty }
-    // The words are refused exactly where they name no script.
+    // The words are refused exactly where they name no script; no script was opened then.
     ensures refused { result.0.status ≡ 2 ↔ named_script words.now ≡ None }
+    ensures unopened { result.0.status ≡ 2 → scripts.new ≡ scripts.old }
     // Without a fault of the store, what was written and what happened is what one session on plain arrays gives.
     ensures solo { (name : List ℕ) → named_script words.now ≡ Some name → HasAnswers result.0.status → K.faults result.1 ≡ K.faults store
         → WhereTold (S.content scripts.old name) (λ script. WhereTold (O.content sink.old) (λ before. IsSoloRun script result.0 before (O.content sink.new))) }
+    // Under every status the log answers lines in order; all of them where memory was there.
+    ensures log { (name : List ℕ) → named_script words.now ≡ Some name
+        → WhereTold (S.content scripts.old name) (λ script. AreLogs script result.0.status result.0.logs) }
+    ensures answers { HasAnswers result.0.status → result.0.status ≡ status_of (answers_in result.0.logs) }
+    // What was written is the text of the log, or a beginning of it where the sink failed.
+    ensures written { HasAnswers result.0.status → WhereTold (O.content sink.old) (λ before. O.content sink.new ≡ Some (before ++ text_of (answers_in result.0.logs))) }
+    ensures part { WhereTold (O.content sink.old) (λ before. IsPartOf (O.content sink.new) before (text_of (answers_in result.0.logs))) }
+    ensures memory { result.0.status ≡ 5 → sink.new ≡ sink.old }
     // In every outcome the store holds what the history says.
     ensures store { IsOverEmpty (K.contents result.1) result.0.history }
-    // A script is not read only where the scripts failed or it is too long; nothing was run or written then.
+    ensures faults { K.faults store ≤ K.faults result.1 }
+    ensures prefixes { K.prefixes result.1 ≡ K.prefixes store }
+    ensures names { K.names result.1 ≡ K.names store }
+    // Without a log nothing was run or written.
+    ensures unstarted { result.0.logs ≡ [] → (result.0.history ≡ []) × (sink.new ≡ sink.old) × (result.1 ≡ store) }
+    ensures nothing { (result.0.status ≡ 2) ⊎ (result.0.status ≡ 3) → result.0.logs ≡ [] }
+    // A script is not read only where the scripts failed or it is too long.
     ensures unread { result.0.status ≡ 3 → (name : List ℕ) → named_script words.now ≡ Some name
         → HasRisen (S.faults scripts.old) (S.faults scripts.new) ⊎ WhereTold (S.content scripts.old name) (λ script. 67108864 < length script) }
-    ensures nothing { (result.0.status ≡ 2) ⊎ (result.0.status ≡ 3) → (result.0.history ≡ []) × (O.content sink.new ≡ O.content sink.old) × (result.1 ≡ store) }
     ensures place { result.0.script ≡ (if result.0.status == 3 then Some 0 else None) }
     // Answers are not written only where the sink failed.
     ensures unwritten { Rises (O.faults sink.old) (O.faults sink.new) (result.0.status ≡ 4) }

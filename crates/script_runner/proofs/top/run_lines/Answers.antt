@@ -1,13 +1,17 @@
 use Rattle.std.proofs.Common.{◌≡◌, ◌+◌, ◌<◌, ◌^◌, length, sym, subst, ◌∙◌, refl, arith}
 use Rattle.std.specs.Option.{option_copied}
 use Rattle.std.specs.Prelude.{MatchOption}
+use Rattle.script_lines.specs.Script.{lines_left}
+use Rattle.script_runner.specs.Logged.{IsBegunLog, numbers_behind}
 use Rattle.script_runner.specs.Progress.{IsUnderWay}
 use Rattle.script_runner.proofs.Lines.{past_blank, past_line, at_start, short_more}
+use Rattle.script_runner.proofs.Logs.{HasAnswered, none_answered, line_answered, blank_passed, one_more_line, begun_log, whole_log}
 use Rattle.script_runner.proofs.top.run_lines.Goals as goal
 
 pub loop-rest-init : goal.loop-rest-init
 loop-rest-init g c = record {
   solo = λ same. at_start c.args.script.now _ _ _ c.requires.answers c.requires.events c.requires.bound;
+  log = none_answered c.args.script.now c.args.progress.now.answers.items c.requires.answers;
   ready = c.requires.ready;
   later = omega arith;
   names = c.requires.names;
@@ -28,6 +32,11 @@ loop-rest-preserved-in_ok-push-2 g c =
           let next = past_line c.args.script.now c.in-Some.bytes.now c.cut.result.0.now (option_copied c.cut.result.1) c.loop-rest.progress.answers.items c.loop-rest.line old.state.events old.bound
           c.step-body.result new.state.events new.bound s c.cut.ensures.lines (sym c.is_blank.ensures ∙ c.if-not-is_blank.true) turn in
           subst (λ a. IsUnderWay c.args.script.now (option_copied c.cut.result.1) a (c.loop-rest.line + 1) new.state.events new.bound) (sym c.in_ok-push-2.ensures.items) next;
+      log =
+          let h = subst (λ r. HasAnswered c.args.script.now (option_copied r) c.loop-rest.line c.loop-rest.progress.answers.items) c.in-Some.is c.loop-rest.invariant.log in
+          let next = line_answered c.args.script.now c.in-Some.bytes.now c.cut.result.0.now (option_copied c.cut.result.1) c.loop-rest.line c.loop-rest.progress.answers.items
+          c.step-body.result c.in_default-body.not-Memory h c.cut.ensures.lines (sym c.is_blank.ensures ∙ c.if-not-is_blank.true) in
+          subst (HasAnswered c.args.script.now (option_copied c.cut.result.1) (c.loop-rest.line + 1)) (sym c.in_ok-push-2.ensures.items) next;
       ready = c.step-body.ensures.ready;
       later = omega (arith, c.step-body.ensures.faults, c.loop-rest.invariant.later);
       names = c.step-body.ensures.names ∙ c.loop-rest.invariant.names;
@@ -42,9 +51,19 @@ loop-rest-preserved g c =
       solo = λ same.
           let s = subst (λ r. IsUnderWay c.args.script.now (option_copied r) c.loop-rest.progress.answers.items c.loop-rest.line old.state.events old.bound) c.in-Some.is (c.loop-rest.invariant.solo same) in
           past_blank c.args.script.now c.in-Some.bytes.now c.cut.result.0.now (option_copied c.cut.result.1) c.loop-rest.progress.answers.items c.loop-rest.line old.state.events old.bound s c.cut.ensures.lines (sym c.is_blank.ensures ∙ c.if-not-is_blank.false);
+      log =
+          let h = subst (λ r. HasAnswered c.args.script.now (option_copied r) c.loop-rest.line c.loop-rest.progress.answers.items) c.in-Some.is c.loop-rest.invariant.log in
+          blank_passed c.args.script.now c.in-Some.bytes.now c.cut.result.0.now (option_copied c.cut.result.1) c.loop-rest.line c.loop-rest.progress.answers.items h c.cut.ensures.lines (sym c.is_blank.ensures ∙ c.if-not-is_blank.false);
       ready = c.loop-rest.invariant.ready;
       later = c.loop-rest.invariant.later;
       names = c.loop-rest.invariant.names;
       prefixes = c.loop-rest.invariant.prefixes;
       short = short_more c.loop-rest.line (length c.in-Some.bytes.now) c.cut.result.1 (subst (λ r. MatchOption r (c.loop-rest.line < 2 ^ 63) (λ b. c.loop-rest.line + length b.now < 2 ^ 62)) c.in-Some.is c.loop-rest.invariant.short) c.cut.ensures.shorter;
     }
+
+pub returns-in-Memory-clause-log : goal.returns-in-Memory-clause-log
+returns-in-Memory-clause-log g c =
+    let h = subst (λ r. HasAnswered c.args.script.now (option_copied r) c.loop-rest.line c.loop-rest.progress.answers.items) c.in-Some.is c.loop-rest.invariant.log in
+    let next = one_more_line c.args.script.now c.in-Some.bytes.now c.cut.result.0.now (option_copied c.cut.result.1) c.loop-rest.line c.loop-rest.progress.answers.items
+    c.step-body.result h c.cut.ensures.lines (sym c.is_blank.ensures ∙ c.if-not-is_blank.true) in
+    subst (IsBegunLog c.args.script.now) (sym c.in_ok-push.ensures.items) (record { behind = numbers_behind (c.loop-rest.line + 1) (lines_left (option_copied c.cut.result.1)); lines = next })
