@@ -66,3 +66,8 @@ unless_taken (Some path) outcome = path_taken path
 
 abbrev pub making_outcome : History → List ℕ → Outcome
 making_outcome events here = unless_taken (taken events here) (unless_there (number_at events here))
+
+abbrev pub IsExisting : Outcome → Type 0
+IsExisting (path_taken path) = ⊥
+IsExisting (exists number) = Unit {0}
+IsExisting made = ⊥

@@ -11,12 +11,18 @@ pub enum Damage {
     Zarr { cause: ChunkError },
 }
 
-/// Why an array was not opened.
-#[derive(Clone, Copy, Debug, PartialEq, Eq, Error)]
+/// Why an array was not opened, the first that holds. `at` is the number of events.
+#[derive(Debug, PartialEq, Eq, Drop, Error)]
 pub enum OpenError {
+    /// An array of the run lies above or below the path, at `path`, mount and all; the least of these in byte order.
+    #[error("the path lies above or below that of an array")]
+    PathTaken { path: Name, at: u64 },
     /// The store failed, which event `event` says.
     #[error("the store failed: event {event}")]
     StoreFailed { event: u64 },
+    /// An array of the run lies at the path.
+    #[error("an array lies at the path")]
+    Exists { at: u64 },
     #[error("out of memory")]
     Memory,
 }

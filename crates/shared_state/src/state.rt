@@ -9,7 +9,8 @@ ghost use Rattle.shared_state.specs.declared.error.Damage.{Damage as DamageOf};
 ghost use Rattle.std.specs.FinMap as finmap;
 ghost use Rattle.shared_state.specs.Arrays.{Known, known_after, chunk_shape, ref_of};
 ghost use Rattle.shared_state.specs.Chunks.{chunk_key, metadata_key};
-ghost use Rattle.shared_state.specs.Legal.{IsApartFrom, is_opening};
+ghost use Rattle.shared_state.specs.Legal.{is_opening};
+ghost use Rattle.shared_state.specs.Outcomes.{making_outcome, path_taken, made, IsExisting};
 ghost use Rattle.shared_state.specs.Calls.{Adds, opened, done_write, plain, fault, mount_of, new_info};
 ghost use Rattle.shared_state.specs.Store.{IsConsistent};
 ghost use Rattle.shared_state.specs.Grid.{grid_of};
@@ -230,11 +231,12 @@ impl<K: KvStore> State<K> {
         }
     }
 
-    /// Creates an array in the store, which has no array at this path, above it or below it: writes its metadata, and no
-    /// chunk, so that every cell has the fill.
+    /// Makes an array in the store: writes its metadata, and no chunk, so that every cell has the fill.
     ///
     /// # Errors
-    /// `StoreFailed` where the store failed, which one event more says; nothing else is new then.
+    /// The first that holds: `PathTaken` where an array of the run lies above or below this path, with the least path of
+    /// such arrays; `Exists` where one lies at it; both with the number of events. `StoreFailed` where the store failed,
+    /// which one event more says; nothing else is new then.
     pub fn open_zarr(
         &mut self,
         owner: u32,
@@ -242,12 +244,17 @@ impl<K: KvStore> State<K> {
         path: &str,
         meta: ZarrMeta,
     ) -> Result<Opening, OpenError>
-        requires apart { (a : ℕ) → IsApartFrom (Home.Zarr mount.now path.now meta) (known_after self.old.events a) }
         requires names { K.names self.old.store ≡ None }
         ensures opened { IfOk result (λ o. let info = new_info (count_by is_opening self.old.events) mount.now path.now meta in
             (o.array ≡ ref_of info) × IfSome o.event (Adds self.old.events self.new.events (opened owner info)) × IsSome o.event) }
+        ensures made { OnOk result (making_outcome self.old.events (mount.now ++ 47 ∷ path.now) ≡ made) }
+        ensures taken { (at : ℕ) (other : List ℕ) → result ≡ Err (OpenError.PathTaken other at)
+            → (making_outcome self.old.events (mount.now ++ 47 ∷ path.now) ≡ path_taken other) × (at ≡ length self.old.events) × (self.new ≡ self.old) }
+        ensures exists { (at : ℕ) → result ≡ Err (OpenError.Exists at)
+            → IsExisting (making_outcome self.old.events (mount.now ++ 47 ∷ path.now)) × (at ≡ length self.old.events) × (self.new ≡ self.old) }
         ensures failed { (event : ℕ) → result ≡ Err (OpenError.StoreFailed event)
-            → (K.faults self.old.store < K.faults self.new.store) × Adds self.old.events self.new.events (fault owner mount.now) event }
+            → (K.faults self.old.store < K.faults self.new.store) × Adds self.old.events self.new.events (fault owner mount.now) event
+            × (making_outcome self.old.events (mount.now ++ 47 ∷ path.now) ≡ made) }
         ensures memory { result ≡ Err OpenError.Memory → self.new.events ≡ self.old.events }
         ensures consistent { (start : Contents) → IsConsistent start (K.contents self.old.store) self.old.events
             → finmap.get start (metadata_key (Home.Zarr mount.now path.now meta)) ≡ None
