@@ -1,5 +1,7 @@
-pub mod Gathering
+pub mod Counting
 pub mod Sessions
+pub mod BadLines
+pub mod Turns
 pub mod Lines
 pub mod Logs
 pub mod Added

@@ -1,4 +1,5 @@
 pub mod Outside
+pub mod Limits
 pub mod Session
 pub mod Solo
 pub mod Kept

@@ -1,5 +1,5 @@
 -- A script that runs as one session.
-use Rattle.std.specs.Prelude.{ℕ, ◌+◌, List, [], ◌∷◌, ◌++◌, fold, if◌then◌else◌}
+use Rattle.std.specs.Prelude.{ℕ, ◌+◌, List, [], ◌∷◌, ◌++◌, None, fold, if◌then◌else◌}
 use Rattle.script_lines.specs.Script.{lines_of, is_blank}
 use Rattle.script_lines.specs.Line.{command_of_line}
 use Rattle.script_lines.specs.declared.answer.Answer.{Answer}
@@ -20,7 +20,7 @@ abbrev pub after_line : Run → List ℕ → Run
 after_line r line = if is_blank line then record r { lines = r.lines + 1 } else answered r (turn_of r.session (r.lines + 1) (command_of_line line))
 
 abbrev pub begun : Run
-begun = record { session = record { names = []; events = [] }; lines = 0; answers = [] }
+begun = record { session = record { names = λ name. None; events = [] }; lines = 0; answers = [] }
 
 -- the answers to the lines of a script, and the events that they add
 abbrev pub single_session : List ℕ → Run

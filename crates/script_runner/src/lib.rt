@@ -5,7 +5,7 @@
 #![tactic(auto)]
 
 mod files;
-mod gather;
+mod limits;
 mod memory;
 mod outside;
 mod reading;

@@ -1,23 +1,30 @@
 // What each line of a script does.
-ghost use Rattle.std.specs.Prelude.{◌≡◌, ◌≢◌, ◌≤◌, ◌<◌, ◌+◌, ◌∷◌, [], ℕ, Option, None, Some, IfOk, codes, true};
+ghost use Rattle.std.specs.Prelude.{◌≡◌, ◌≢◌, ◌≤◌, ◌<◌, ◌^◌, ◌+◌, ◌∷◌, [], ℕ, List, length, replicate, pos, Option, None, Some, IfOk, codes, true, option_and_then};
 ghost use Rattle.std.specs.List.{IsDistinct};
 ghost use Rattle.std.specs.Str.{bytes_eq};
+ghost use Rattle.indexmap.specs.IndexMap.{get_by_text};
+ghost use Rattle.cells.specs.Places.{cell_count};
 ghost use Rattle.kv_face.specs.Store.{are_together, keys_of};
 ghost use Rattle.kv_face.specs.declared.change.Change.{Change as ChangeOf};
 ghost use Rattle.serde_json.specs.View.{view};
+ghost use Rattle.shared_state.specs.Joint.{IsJoint};
+ghost use Rattle.shared_state.specs.Outcomes.{making_outcome};
 ghost use Rattle.script_lines.specs.Line.{command_of_line};
-ghost use Rattle.script_lines.specs.ListedWords.{words_of};
-ghost use Rattle.script_runner.specs.Session.{open_turn, write_turn, words_now, metadata_of, turn_of, stays};
-ghost use Rattle.script_runner.specs.Kept.{IsReady, IsTurn, IsFailed, session_of, array_of, is_named};
-ghost use Rattle.script_runner.specs.declared.session.Bound.{Bound as BoundOf};
+ghost use Rattle.script_lines.specs.NestedWords.{words_of};
+ghost use Rattle.script_lines.specs.Refusals.{bad_line_of, refused_line};
+ghost use Rattle.script_runner.specs.Limits.{too_many};
+ghost use Rattle.script_runner.specs.Session.{Names as NamesOf, open_turn, write_turn, values_body, in_memory, turn_of, stays, unless_many};
+ghost use Rattle.script_runner.specs.Kept.{IsReady, IsArray, IsOverEmpty, IsTurn, IsFailed, IsBadLine, session_of};
 
-use crate::gather::gather;
-use crate::session::{Bound, Session};
-use cells::{Dtype, List, Name, Order, Sizes, Words};
+use crate::limits::too_many;
+use crate::session::{Session, bind};
+use cells::{Dtype, Index, List, Name, Sizes, Words};
 use kv_face::KvStore;
-use script_lines::{ArraySpec, Body, Command, LineError, read_command, words_of_values};
+use script_lines::{
+    Body, Command, LineError, ValuesError, bad_line_text, list_count, read_command, words_of_values,
+};
 use serde_json::Value;
-use shared_state::{FetchError, OpenError, Opening, WriteNowError};
+use shared_state::{ArrayRef, FetchError, OpenError, Opening, State, WriteNowError};
 use std::alloc::{AllocError, Global};
 use zarr_chunks::ZarrMeta;
 
@@ -25,6 +32,26 @@ fn text(alloc: Global, text: &str) -> Result<Name, AllocError>
     ensures { IfOk result (λ n. n ≡ text.now) }
 {
     Ok(Name::wrap(String::from_str(alloc, text)?))
+}
+
+fn sizes(alloc: Global, sizes: &[u64]) -> Result<Sizes, AllocError>
+    ensures { IfOk result (λ s. s ≡ sizes.now) }
+{
+    Ok(Sizes::wrap(Vec::from_slice(alloc, sizes)?))
+}
+
+fn one(alloc: Global, event: u64) -> Result<List<u64>, AllocError>
+    ensures { IfOk result (λ events. events ≡ event ∷ []) }
+{
+    let mut events = Vec::with_capacity(alloc, 1)?;
+    events.push(event)?;
+    Ok(List::wrap(events))
+}
+
+fn origin(alloc: Global, rank: usize) -> Result<Index, AllocError>
+    ensures { IfOk result (λ index. index ≡ replicate rank (pos 0)) }
+{
+    Ok(Index::wrap(vec![in alloc; 0i64; rank]?))
 }
 
 fn failed(alloc: Global, event: u64, opens: bool) -> Body
@@ -42,39 +69,66 @@ fn failed(alloc: Global, event: u64, opens: bool) -> Body
     }
 }
 
-fn sizes(alloc: Global, size: u64) -> Result<Sizes, AllocError>
-    ensures { IfOk result (λ s. s ≡ size ∷ []) }
+fn exists(alloc: Global, at: u64, path: &str) -> Body
+    ensures { result ≢ Body.Memory → result ≡ Body.Exists at (in_memory path.now) [] }
 {
-    let mut sizes = Vec::with_capacity(alloc, 1)?;
-    sizes.push(size)?;
-    Ok(Sizes::wrap(sizes))
+    match format!(in alloc; "memory/{path}") {
+        Ok(path) => Body::Exists {
+            at,
+            path: Name::wrap(path),
+            events: List::wrap(Vec::new(alloc)),
+        },
+        Err(_) => Body::Memory,
+    }
 }
 
-fn meta_of(alloc: Global, spec: &ArraySpec) -> Result<ZarrMeta, AllocError>
-    ensures { IfOk result (λ m. m ≡ metadata_of spec.now) }
+fn opened(alloc: Global, name: Name, dtype: Dtype, shape: Sizes, event: u64) -> Body
+    ensures { result ≢ Body.Memory → result ≡ Body.Opened name dtype shape (event ∷ []) }
 {
-    let shape = sizes(alloc, spec.size())?;
-    let chunks = sizes(alloc, spec.chunk())?;
-    Ok(ZarrMeta {
-        shape,
-        chunks,
-        dtype: Dtype::I32,
-        big: false,
-        fill: None,
-        order: Order::C,
-        slash: false,
-    })
+    match one(alloc, event) {
+        Ok(events) => Body::Opened {
+            name,
+            dtype,
+            shape,
+            events,
+        },
+        Err(_) => Body::Memory,
+    }
+}
+
+fn written(alloc: Global, cells: u64, event: u64) -> Body
+    ensures { result ≢ Body.Memory → result ≡ Body.Written cells (event ∷ []) }
+{
+    match one(alloc, event) {
+        Ok(events) => Body::Written { cells, events },
+        Err(_) => Body::Memory,
+    }
+}
+
+fn bad_line(alloc: Global, error: &LineError) -> Body
+    ensures { result ≢ Body.Memory → IsBadLine result (option_and_then bad_line_of (refused_line error.now)) }
+{
+    match bad_line_text(alloc, error) {
+        Ok(text) => Body::BadLine { text },
+        Err(_) => Body::Memory,
+    }
 }
 
 /// Makes the array, and binds the name to it.
-fn open<K: KvStore>(alloc: Global, session: &mut Session<K>, name: Name, spec: ArraySpec) -> Body
+fn open<K: KvStore>(
+    alloc: Global,
+    session: &mut Session<K>,
+    name: Name,
+    path: Name,
+    meta: ZarrMeta,
+) -> Body
     requires names { K.names session.old.state.store ≡ None }
-    requires free { session.old.bound ≡ None }
-    requires ready { IsReady (K.contents session.old.state.store) session.old.state.events session.old.bound }
+    requires ready { IsReady (K.contents session.old.state.store) session.old.state.events (get_by_text session.old.names) }
     ensures turn { result ≢ Body.Memory → K.faults session.new.state.store ≡ K.faults session.old.state.store
-        → IsTurn (open_turn (session_of session.old.state.events None) name spec) result session.new.state.events session.new.bound }
+        → IsTurn (open_turn (session_of session.old.state.events (get_by_text session.old.names)) name path meta (making_outcome session.old.state.events (in_memory path)))
+        result session.new.state.events (get_by_text session.new.names) }
     ensures failed { (event : ℕ) → IsFailed result event → K.faults session.old.state.store < K.faults session.new.state.store }
-    ensures ready { IsReady (K.contents session.new.state.store) session.new.state.events session.new.bound }
+    ensures ready { IsReady (K.contents session.new.state.store) session.new.state.events (get_by_text session.new.names) }
     ensures faults { K.faults session.old.state.store ≤ K.faults session.new.state.store }
     ensures prefixes { K.prefixes session.new.state.store ≡ K.prefixes session.old.state.store }
     ensures names { K.names session.new.state.store ≡ K.names session.old.state.store }
@@ -82,104 +136,99 @@ fn open<K: KvStore>(alloc: Global, session: &mut Session<K>, name: Name, spec: A
     let Ok(shown) = text(alloc, name.items()) else {
         return Body::Memory;
     };
-    let Ok(meta) = meta_of(alloc, &spec) else {
+    let Ok(shape) = sizes(alloc, meta.shape.items()) else {
         return Body::Memory;
     };
-    match session.state.open_zarr(0, "memory", spec.path(), meta) {
+    let dtype = meta.dtype;
+    match session.state.open_zarr(0, "memory", path.items(), meta) {
         Ok(opening) => {
             let Opening { array, event } = opening;
             let Some(event) = event else {
                 unreachable!();
             };
-            let size = spec.size();
-            session.bound = Some(Bound {
-                name,
-                array: array.number,
-                size,
-                chunk: spec.chunk(),
-            });
-            Body::Opened {
-                name: shown,
-                size,
-                event,
+            if !bind(&mut session.names, name.into_inner(), array) {
+                return Body::Memory;
             }
+            opened(alloc, shown, dtype, shape, event)
         }
+        Err(OpenError::PathTaken { path, at }) => Body::PathTaken {
+            at,
+            path,
+            events: List::wrap(Vec::new(alloc)),
+        },
+        Err(OpenError::Exists { at }) => exists(alloc, at, path.items()),
         Err(OpenError::StoreFailed { event }) => failed(alloc, event, true),
         Err(OpenError::Memory) => Body::Memory,
     }
 }
 
-/// Writes the whole array that is bound.
-fn write<K: KvStore>(alloc: Global, session: &mut Session<K>, line: u64, values: &Value) -> Body
-    requires names { K.names session.old.state.store ≡ None }
-    requires together { (cs : List ChangeOf) → IsDistinct bytes_eq (keys_of cs) → are_together (K.prefixes session.old.state.store) cs 0 ≡ true }
-    requires ready { IsReady (K.contents session.old.state.store) session.old.state.events session.old.bound }
-    ensures turn { result ≢ Body.Memory → K.faults session.new.state.store ≡ K.faults session.old.state.store
-        → (b : BoundOf) → session.old.bound ≡ Some b
-        → IsTurn (write_turn (session_of session.old.state.events (Some b)) line (array_of b) (words_of (view values.now))) result session.new.state.events session.new.bound }
-    ensures failed { (event : ℕ) → IsFailed result event → K.faults session.old.state.store < K.faults session.new.state.store }
-    ensures ready { IsReady (K.contents session.new.state.store) session.new.state.events session.new.bound }
-    ensures faults { K.faults session.old.state.store ≤ K.faults session.new.state.store }
-    ensures prefixes { K.prefixes session.new.state.store ≡ K.prefixes session.old.state.store }
-    ensures names { K.names session.new.state.store ≡ K.names session.old.state.store }
+/// Writes a whole array.
+fn write<K: KvStore>(
+    alloc: Global,
+    state: &mut State<K>,
+    line: u64,
+    array: &ArrayRef,
+    values: &Value,
+) -> Body
+    requires names { K.names state.old.store ≡ None }
+    requires together { (cs : List ChangeOf) → IsDistinct bytes_eq (keys_of cs) → are_together (K.prefixes state.old.store) cs 0 ≡ true }
+    requires array { IsArray state.old.events array.now }
+    requires small { cell_count array.now.shape ≤ 2 ^ 22 }
+    ensures turn { result ≢ Body.Memory → K.faults state.new.store ≡ K.faults state.old.store → (names : NamesOf)
+        → IsTurn (write_turn (session_of state.old.events names) line array.now (words_of array.now.dtype array.now.shape (view values.now))) result state.new.events names }
+    ensures failed { (event : ℕ) → IsFailed result event → K.faults state.old.store < K.faults state.new.store }
+    ensures ready { (names : NamesOf) → IsReady (K.contents state.old.store) state.old.events names → IsReady (K.contents state.new.store) state.new.events names }
+    ensures faults { K.faults state.old.store ≤ K.faults state.new.store }
+    ensures prefixes { K.prefixes state.new.store ≡ K.prefixes state.old.store }
+    ensures names { K.names state.new.store ≡ K.names state.old.store }
 {
-    let Some(bound) = &session.bound else {
-        return Body::NotBuilt;
+    let words = match words_of_values(alloc, array.dtype, array.shape.items(), values) {
+        Ok(words) => words,
+        Err(ValuesError::Bad { path }) => return Body::BadValues { path },
+        Err(ValuesError::Memory) => return Body::Memory,
     };
-    let words = match words_of_values(alloc, values) {
-        Ok(Some(words)) => words,
-        Ok(None) => return Body::NotBuilt,
-        Err(_) => return Body::Memory,
-    };
-    let cells = words.len() as u64;
-    if cells != bound.size {
-        return Body::NotBuilt;
-    }
-    match session.state.write_now(0, line, bound.array, &words) {
-        Ok(event) => Body::Written { cells, event },
+    match state.write_now(0, line, array.number, &words) {
+        Ok(event) => written(alloc, words.len() as u64, event),
         Err(WriteNowError::StoreFailed { event }) => failed(alloc, event, false),
         Err(WriteNowError::Memory) => Body::Memory,
     }
 }
 
-/// Reads the whole array that is bound.
-fn read<K: KvStore>(alloc: Global, session: &mut Session<K>) -> Body
-    requires names { K.names session.old.state.store ≡ None }
-    requires ready { IsReady (K.contents session.old.state.store) session.old.state.events session.old.bound }
-    ensures turn { result ≢ Body.Memory → K.faults session.new.state.store ≡ K.faults session.old.state.store
-        → (b : BoundOf) → session.old.bound ≡ Some b
-        → IsTurn (stays (session_of session.old.state.events (Some b)) (Body.Values (words_now session.old.state.events (array_of b)))) result session.new.state.events session.new.bound }
-    ensures failed { (event : ℕ) → IsFailed result event → K.faults session.old.state.store < K.faults session.new.state.store }
-    ensures ready { IsReady (K.contents session.new.state.store) session.new.state.events session.new.bound }
-    ensures faults { K.faults session.old.state.store ≤ K.faults session.new.state.store }
-    ensures prefixes { K.prefixes session.new.state.store ≡ K.prefixes session.old.state.store }
-    ensures names { K.names session.new.state.store ≡ K.names session.old.state.store }
+/// Reads a whole array.
+fn read<K: KvStore>(alloc: Global, state: &mut State<K>, array: &ArrayRef) -> Body
+    requires names { K.names state.old.store ≡ None }
+    requires array { IsArray state.old.events array.now }
+    requires small { cell_count array.now.shape ≤ 2 ^ 22 }
+    requires consistent { IsOverEmpty (K.contents state.old.store) state.old.events }
+    requires joint { IsJoint state.old.events }
+    ensures turn { result ≢ Body.Memory → K.faults state.new.store ≡ K.faults state.old.store → (names : NamesOf)
+        → IsTurn (stays (session_of state.old.events names) (values_body state.old.events array.now)) result state.new.events names }
+    ensures failed { (event : ℕ) → IsFailed result event → K.faults state.old.store < K.faults state.new.store }
+    ensures ready { (names : NamesOf) → IsReady (K.contents state.old.store) state.old.events names → IsReady (K.contents state.new.store) state.new.events names }
+    ensures faults { K.faults state.old.store ≤ K.faults state.new.store }
+    ensures prefixes { K.prefixes state.new.store ≡ K.prefixes state.old.store }
+    ensures names { K.names state.new.store ≡ K.names state.old.store }
 {
-    let Some(bound) = &session.bound else {
-        return Body::NotBuilt;
+    // More lists than an answer may have.
+    if list_count(array.shape.items()).is_none() {
+        return Body::Memory;
+    }
+    let Ok(shape) = sizes(alloc, array.shape.items()) else {
+        return Body::Memory;
     };
-    match gather(
-        alloc,
-        &mut session.state,
-        bound.array,
-        bound.size,
-        bound.chunk,
-    ) {
+    let Ok(origin) = origin(alloc, array.shape.items().len()) else {
+        return Body::Memory;
+    };
+    match state.read_now(0, array.number) {
         Ok(words) => Body::Values {
+            origin,
+            shape,
+            dtype: array.dtype,
             words: Words::wrap(words),
         },
         Err(FetchError::StoreFailed { event }) => failed(alloc, event, false),
         Err(FetchError::Memory) => Body::Memory,
         Err(FetchError::Damaged { .. }) => unreachable!(),
-    }
-}
-
-fn is_bound<K: KvStore>(session: &Session<K>, name: &str) -> bool
-    ensures { result ≡ is_named name.now session.now.bound }
-{
-    match &session.bound {
-        Some(bound) => name == bound.name.items(),
-        None => false,
     }
 }
 
@@ -192,11 +241,11 @@ pub(crate) fn step<K: KvStore>(
 ) -> Body
     requires names { K.names session.old.state.store ≡ None }
     requires together { (cs : List ChangeOf) → IsDistinct bytes_eq (keys_of cs) → are_together (K.prefixes session.old.state.store) cs 0 ≡ true }
-    requires ready { IsReady (K.contents session.old.state.store) session.old.state.events session.old.bound }
+    requires ready { IsReady (K.contents session.old.state.store) session.old.state.events (get_by_text session.old.names) }
     ensures turn { result ≢ Body.Memory → K.faults session.new.state.store ≡ K.faults session.old.state.store
-        → IsTurn (turn_of (session_of session.old.state.events session.old.bound) line (command_of_line bytes.now)) result session.new.state.events session.new.bound }
+        → IsTurn (turn_of (session_of session.old.state.events (get_by_text session.old.names)) line (command_of_line bytes.now)) result session.new.state.events (get_by_text session.new.names) }
     ensures failed { (event : ℕ) → IsFailed result event → K.faults session.old.state.store < K.faults session.new.state.store }
-    ensures ready { IsReady (K.contents session.new.state.store) session.new.state.events session.new.bound }
+    ensures ready { IsReady (K.contents session.new.state.store) session.new.state.events (get_by_text session.new.names) }
     ensures faults { K.faults session.old.state.store ≤ K.faults session.new.state.store }
     ensures prefixes { K.prefixes session.new.state.store ≡ K.prefixes session.old.state.store }
     ensures names { K.names session.new.state.store ≡ K.names session.old.state.store }
@@ -204,36 +253,27 @@ pub(crate) fn step<K: KvStore>(
     let command = match read_command(alloc, bytes) {
         Ok(Some(command)) => command,
         Ok(None) => return Body::NotBuilt,
-        Err(LineError::NotJson) => return bad_json(alloc),
-        Err(LineError::Memory) => return Body::Memory,
+        Err(error) => return bad_line(alloc, &error),
     };
     match command {
-        Command::Open { name, spec } => {
-            if session.bound.is_some() {
-                return Body::NotBuilt;
-            }
-            open(alloc, session, name, spec)
-        }
+        Command::Open { name, path, meta } => open(alloc, session, name, path, meta),
         Command::Write { name, values } => {
-            if !is_bound(session, name.items()) {
+            let Some(array) = session.names.get(name.items()) else {
                 return Body::UnknownName { name };
+            };
+            if let Some(dim) = too_many(array.shape.items()) {
+                return Body::TooMany { dim };
             }
-            write(alloc, session, line, &values)
+            write(alloc, &mut session.state, line, array, &values)
         }
         Command::Read { name } => {
-            if !is_bound(session, name.items()) {
+            let Some(array) = session.names.get(name.items()) else {
                 return Body::UnknownName { name };
+            };
+            if let Some(dim) = too_many(array.shape.items()) {
+                return Body::TooMany { dim };
             }
-            read(alloc, session)
+            read(alloc, &mut session.state, array)
         }
-    }
-}
-
-fn bad_json(alloc: Global) -> Body
-    ensures turn { result ≢ Body.Memory → result ≡ Body.BadLine (codes "json") }
-{
-    match text(alloc, "json") {
-        Ok(text) => Body::BadLine { text },
-        Err(_) => Body::Memory,
     }
 }

@@ -3,6 +3,7 @@ ghost use Rattle.std.specs.Prelude.{◌≡◌, ◌≢◌, ◌<◌, ◌≤◌, �
 ghost use Rattle.std.specs.List.{IsDistinct, list_all};
 ghost use Rattle.std.specs.Str.{bytes_eq};
 ghost use Rattle.std.specs.FinMap as finmap;
+ghost use Rattle.indexmap.specs.IndexMap.{get_by_text};
 ghost use Rattle.kv_face.specs.Store.{are_together, keys_of};
 ghost use Rattle.kv_face.specs.declared.change.Change.{Change as ChangeOf};
 ghost use Rattle.script_lines.specs.AnswerText.{text_of};
@@ -18,6 +19,7 @@ use crate::reading::{ReadError, read_script};
 use crate::session::Session;
 use crate::step::step;
 use cells::List;
+use indexmap::IndexMap;
 use kv_face::KvStore;
 use script_lines::{Answer, Body, cut, is_blank, is_ok, render};
 use shared_state::{Event, State};
@@ -50,9 +52,9 @@ fn run_lines<K: KvStore>(
     requires short { length script.now < 2 ^ 62 }
     requires names { K.names progress.old.session.state.store ≡ None }
     requires together { (cs : List ChangeOf) → IsDistinct bytes_eq (keys_of cs) → are_together (K.prefixes progress.old.session.state.store) cs 0 ≡ true }
-    requires ready { IsReady (K.contents progress.old.session.state.store) progress.old.session.state.events progress.old.session.bound }
+    requires ready { IsReady (K.contents progress.old.session.state.store) progress.old.session.state.events (get_by_text progress.old.session.names) }
     requires answers { progress.old.answers.items ≡ [] }
-    requires bound { progress.old.session.bound ≡ None }
+    requires bound { get_by_text progress.old.session.names ≡ (λ name. None) }
     requires events { progress.old.session.state.events ≡ [] }
     ensures answers { OnOk result (K.faults progress.new.session.state.store ≡ K.faults progress.old.session.state.store
         → progress.new.answers.items ≡ (single_session script.now).answers) }
@@ -60,7 +62,7 @@ fn run_lines<K: KvStore>(
         → progress.new.session.state.events ≡ (single_session script.now).session.events) }
     ensures log { IsBegunLog script.now progress.new.answers.items }
     ensures whole { OnOk result (IsWholeLog script.now progress.new.answers.items) }
-    ensures ready { IsReady (K.contents progress.new.session.state.store) progress.new.session.state.events progress.new.session.bound }
+    ensures ready { IsReady (K.contents progress.new.session.state.store) progress.new.session.state.events (get_by_text progress.new.session.names) }
     ensures faults { K.faults progress.old.session.state.store ≤ K.faults progress.new.session.state.store }
     ensures prefixes { K.prefixes progress.new.session.state.store ≡ K.prefixes progress.old.session.state.store }
     ensures names { K.names progress.new.session.state.store ≡ K.names progress.old.session.state.store }
@@ -165,7 +167,7 @@ fn run_session<O: Sink, K: KvStore>(
     let mut progress = Progress {
         session: Session {
             state: State::new(alloc, store),
-            bound: None,
+            names: IndexMap::new(alloc),
         },
         answers: Vec::new(alloc),
     };
@@ -175,7 +177,7 @@ fn run_session<O: Sink, K: KvStore>(
         Err(_) => 5,
     };
     let Progress { session, answers } = progress;
-    let Session { state, bound: _ } = session;
+    let Session { state, names: _ } = session;
     let (store, events) = state.into_parts();
     if logs.push(List::wrap(answers)).is_err() {
         unreachable!();

@@ -1,20 +1,32 @@
-use Rattle.std.proofs.Common.{Err, ap, arith}
-use Rattle.script_runner.proofs.Sessions.{ready_fault, ready_kept}
+use Rattle.std.proofs.Common.{Err, ap, ◌∙◌, length}
+use Rattle.std.specs.Prelude.{replicate, pos}
+use Rattle.std.specs.FinMap as finmap
+use Rattle.shared_state.specs.Calls.{mount_of}
+use Rattle.script_lines.specs.declared.answer.Body.TheVariants as body
+use Rattle.script_runner.specs.Kept.{session_of}
+use Rattle.script_runner.proofs.Sessions.{ready_fault, read_words, not_damaged}
 use Rattle.script_runner.proofs.step.read.Goals as goal
 
-pub returns-in-Err-StoreFailed-clause-turn : goal.returns-in-Err-StoreFailed-clause-turn
-returns-in-Err-StoreFailed-clause-turn g c = λ able same.
-    let f = c.in-Err-StoreFailed.ensures.failed c.in-Err-StoreFailed.event (ap Err c.in-Err-StoreFailed.field-0-is) in
-    absurd (omega (arith, f.1, same))
-
-pub returns-in-Err-StoreFailed-clause-failed : goal.returns-in-Err-StoreFailed-clause-failed
-returns-in-Err-StoreFailed-clause-failed g c = λ event is. (c.in-Err-StoreFailed.ensures.failed c.in-Err-StoreFailed.event (ap Err c.in-Err-StoreFailed.field-0-is)).1
+pub returns-in-Ok-read_now-clause-turn : goal.returns-in-Ok-read_now-clause-turn
+returns-in-Ok-read_now-clause-turn g c = λ able same names.
+    let array = c.requires.array in
+    let origin = c.in-Ok-origin.ensures ∙ ap (λ s. replicate (length s) (pos 0)) c.items-3.ensures in
+    let shape = c.in-Ok.ensures ∙ c.items-2.ensures in
+    let whole = c.in-Ok-read_now.ensures.words finmap.empty c.requires.consistent array.known array.is in
+    let words = c.wrap.ensures ∙ read_words _ c.args.state.now.events c.args.array.now c.in-Ok-read_now.words.items array c.requires.consistent c.requires.joint whole in
+    record {
+      body = λ i. body.Values (origin i) (shape i) c.args.array.now.dtype (words i);
+      after = ap (λ es. session_of es names) c.in-Ok-read_now.ensures.ok;
+    }
 
 pub returns-in-Err-StoreFailed-clause-ready : goal.returns-in-Err-StoreFailed-clause-ready
-returns-in-Err-StoreFailed-clause-ready g c =
+returns-in-Err-StoreFailed-clause-ready g c = λ names r.
+    let array = c.requires.array in
     let f = c.in-Err-StoreFailed.ensures.failed c.in-Err-StoreFailed.event (ap Err c.in-Err-StoreFailed.field-0-is) in
-    ready_fault _ _ c.args.session.now.state.events c.gather.new.state.events c.args.session.now.bound c.in-Err-StoreFailed.event c.requires.ready c.gather.ensures.contents f.0
+    ready_fault names r c.read_now.ensures.contents (record { mount = mount_of array.known.info.home; adds = f.1 array.known array.is })
 
-pub returns-in-Err-Memory-clause-ready : goal.returns-in-Err-Memory-clause-ready
-returns-in-Err-Memory-clause-ready g c =
-    ready_kept _ _ c.args.session.now.state.events c.gather.new.state.events c.args.session.now.bound c.requires.ready c.gather.ensures.contents (c.in-Err-Memory.ensures.memory (ap Err c.in-Err-Memory.field-0-is))
+pub unreachable-requires : goal.unreachable-requires
+unreachable-requires g c =
+    let array = c.requires.array in
+    let d = c.in-Err-Damaged.ensures.damaged c.in-Err-Damaged.field-0-0 c.in-Err-Damaged.field-0-1 (ap Err c.in-Err-Damaged.field-0-is) in
+    not_damaged _ c.args.state.now.events array.known _ c.in-Err-Damaged.field-0-0 c.in-Err-Damaged.field-0-1 c.requires.consistent (d.1 array.known array.is)

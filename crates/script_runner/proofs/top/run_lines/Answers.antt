@@ -2,6 +2,7 @@ use Rattle.std.proofs.Common.{◌≡◌, ◌+◌, ◌<◌, ◌^◌, length, sym,
 use Rattle.std.specs.Option.{option_copied}
 use Rattle.std.specs.Prelude.{MatchOption}
 use Rattle.script_lines.specs.Script.{lines_left}
+use Rattle.indexmap.specs.IndexMap.{get_by_text}
 use Rattle.script_runner.specs.Logged.{IsBegunLog, numbers_behind}
 use Rattle.script_runner.specs.Progress.{IsUnderWay}
 use Rattle.script_runner.proofs.Lines.{past_blank, past_line, at_start, short_more}
@@ -27,11 +28,11 @@ loop-rest-preserved-in_ok-push-2 g c =
       solo = λ same.
           let mid : g.K.KvStore.faults old.state.store ≡ g.K.KvStore.faults c.args.progress.now.session.state.store = omega (arith, c.step-body.ensures.faults, c.loop-rest.invariant.later, same) in
           let end : g.K.KvStore.faults new.state.store ≡ g.K.KvStore.faults old.state.store = same ∙ sym mid in
-          let s = subst (λ r. IsUnderWay c.args.script.now (option_copied r) c.loop-rest.progress.answers.items c.loop-rest.line old.state.events old.bound) c.in-Some.is (c.loop-rest.invariant.solo mid) in
+          let s = subst (λ r. IsUnderWay c.args.script.now (option_copied r) c.loop-rest.progress.answers.items c.loop-rest.line old.state.events (get_by_text old.names)) c.in-Some.is (c.loop-rest.invariant.solo mid) in
           let turn = c.step-body.ensures.turn c.in_default-body.not-Memory end in
-          let next = past_line c.args.script.now c.in-Some.bytes.now c.cut.result.0.now (option_copied c.cut.result.1) c.loop-rest.progress.answers.items c.loop-rest.line old.state.events old.bound
-          c.step-body.result new.state.events new.bound s c.cut.ensures.lines (sym c.is_blank.ensures ∙ c.if-not-is_blank.true) turn in
-          subst (λ a. IsUnderWay c.args.script.now (option_copied c.cut.result.1) a (c.loop-rest.line + 1) new.state.events new.bound) (sym c.in_ok-push-2.ensures.items) next;
+          let next = past_line c.args.script.now c.in-Some.bytes.now c.cut.result.0.now (option_copied c.cut.result.1) c.loop-rest.progress.answers.items c.loop-rest.line old.state.events (get_by_text old.names)
+          c.step-body.result new.state.events (get_by_text new.names) s c.cut.ensures.lines (sym c.is_blank.ensures ∙ c.if-not-is_blank.true) turn in
+          subst (λ a. IsUnderWay c.args.script.now (option_copied c.cut.result.1) a (c.loop-rest.line + 1) new.state.events (get_by_text new.names)) (sym c.in_ok-push-2.ensures.items) next;
       log =
           let h = subst (λ r. HasAnswered c.args.script.now (option_copied r) c.loop-rest.line c.loop-rest.progress.answers.items) c.in-Some.is c.loop-rest.invariant.log in
           let next = line_answered c.args.script.now c.in-Some.bytes.now c.cut.result.0.now (option_copied c.cut.result.1) c.loop-rest.line c.loop-rest.progress.answers.items
@@ -49,8 +50,8 @@ loop-rest-preserved g c =
     let old = c.loop-rest.progress.session in
     record {
       solo = λ same.
-          let s = subst (λ r. IsUnderWay c.args.script.now (option_copied r) c.loop-rest.progress.answers.items c.loop-rest.line old.state.events old.bound) c.in-Some.is (c.loop-rest.invariant.solo same) in
-          past_blank c.args.script.now c.in-Some.bytes.now c.cut.result.0.now (option_copied c.cut.result.1) c.loop-rest.progress.answers.items c.loop-rest.line old.state.events old.bound s c.cut.ensures.lines (sym c.is_blank.ensures ∙ c.if-not-is_blank.false);
+          let s = subst (λ r. IsUnderWay c.args.script.now (option_copied r) c.loop-rest.progress.answers.items c.loop-rest.line old.state.events (get_by_text old.names)) c.in-Some.is (c.loop-rest.invariant.solo same) in
+          past_blank c.args.script.now c.in-Some.bytes.now c.cut.result.0.now (option_copied c.cut.result.1) c.loop-rest.progress.answers.items c.loop-rest.line old.state.events (get_by_text old.names) s c.cut.ensures.lines (sym c.is_blank.ensures ∙ c.if-not-is_blank.false);
       log =
           let h = subst (λ r. HasAnswered c.args.script.now (option_copied r) c.loop-rest.line c.loop-rest.progress.answers.items) c.in-Some.is c.loop-rest.invariant.log in
           blank_passed c.args.script.now c.in-Some.bytes.now c.cut.result.0.now (option_copied c.cut.result.1) c.loop-rest.line c.loop-rest.progress.answers.items h c.cut.ensures.lines (sym c.is_blank.ensures ∙ c.if-not-is_blank.false);

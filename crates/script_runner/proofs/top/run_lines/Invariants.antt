@@ -1,6 +1,7 @@
 use Rattle.std.proofs.Common.{◌≡◌, ◌≤◌, ◌<◌, ◌+◌, ◌^◌, length, None}
 use Rattle.std.specs.Prelude.{MatchOption}
 use Rattle.std.specs.Option.{option_copied, option_map_or}
+use Rattle.indexmap.specs.IndexMap.{get_by_text}
 use Rattle.script_runner.specs.Kept.{IsReady}
 use Rattle.script_runner.specs.Progress.{IsUnderWay}
 use Rattle.script_runner.proofs.Logs.{HasAnswered}
@@ -9,9 +10,9 @@ use Rattle.script_runner.proofs.top.run_lines.Given as goal
 abbrev pub invariant-loop-rest : goal.invariant-loop-rest
 invariant-loop-rest g l = record {
   solo : g.K.KvStore.faults l.progress.session.state.store ≡ g.K.KvStore.faults l.fn.progress.session.state.store
-      → IsUnderWay l.script (option_copied l.rest) l.progress.answers.items l.line l.progress.session.state.events l.progress.session.bound;
+      → IsUnderWay l.script (option_copied l.rest) l.progress.answers.items l.line l.progress.session.state.events (get_by_text l.progress.session.names);
   log : HasAnswered l.script (option_copied l.rest) l.line l.progress.answers.items;
-  ready : IsReady (g.K.KvStore.contents l.progress.session.state.store) l.progress.session.state.events l.progress.session.bound;
+  ready : IsReady (g.K.KvStore.contents l.progress.session.state.store) l.progress.session.state.events (get_by_text l.progress.session.names);
   later : g.K.KvStore.faults l.fn.progress.session.state.store ≤ g.K.KvStore.faults l.progress.session.state.store;
   names : g.K.KvStore.names l.progress.session.state.store ≡ None;
   prefixes : g.K.KvStore.prefixes l.progress.session.state.store ≡ g.K.KvStore.prefixes l.fn.progress.session.state.store;
