@@ -17,6 +17,6 @@ loop-i-preserved c =
     let old = c.loop-i.invariant in
     let test : c.eq.result ≡ bytes_eq name s.name = c.eq.ensures ∙ ap (bytes_eq name) c.items.ensures ∙ ap (λ (x : Script). bytes_eq name x.name) (sym c.index-scripts-i.is) in
     elim c.if-eq.branch [
-      then-eq w ↦ (let n = last_here scripts name c.loop-i.i s c.if-eq.place w.place-is lt c.index-scripts-i.is (sym test ∙ w.if-eq.true) in record { bytes = n.bytes; within = n.within })
+      | then-eq w ↦ (let n = last_here scripts name c.loop-i.i s c.if-eq.place w.place-is lt c.index-scripts-i.is (sym test ∙ w.if-eq.true) in record { bytes = n.bytes; within = n.within })
       | else-eq w ↦ (let n = last_before scripts name c.loop-i.i s c.loop-i.place c.if-eq.place w.place-is lt c.index-scripts-i.is (sym test ∙ w.if-eq.false) (record { bytes = old.bytes; within = old.within }) in record { bytes = n.bytes; within = n.within })
     ]
