@@ -1,5 +1,5 @@
 -- What scripts and a sink in memory are, and what each of their calls makes of them.
-use Rattle.std.specs.Prelude.{ℕ, ◌-◌, List, [], ◌++◌, length, take, drop, Bool, true, false, ◌&&◌, ◌||◌, ◌==◌, not, is_none, unwrap_or, if◌then◌else◌}
+use Rattle.std.specs.Prelude.{ℕ, ◌-◌, List, [], ◌++◌, length, take, drop, Bool, ◌&&◌, ◌||◌, ◌==◌, not, is_none, unwrap_or, if◌then◌else◌}
 use Rattle.std.specs.FinMap as finmap
 use Rattle.kv_face.specs.Store.{Contents}
 use Rattle.kv_face.specs.Memory.{Calls, fails, called, counted}

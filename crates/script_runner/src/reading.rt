@@ -36,6 +36,7 @@ pub(crate) fn read_script<S: Scripts>(
     ensures all { IfOk result (λ v. WhereTold (S.content scripts.old name.now) (λ bytes. v.items ≡ bytes)) }
     ensures short { IfOk result (λ v. length v.items ≤ 67108864) }
     ensures long { IsErrOf result ReadError.TooLong → WhereTold (S.content scripts.old name.now) (λ bytes. 67108864 < length bytes) }
+    ensures content { S.content scripts.new ≡ S.content scripts.old }
     ensures cause { Rises (S.faults scripts.old) (S.faults scripts.new) (IsErrOf result ReadError.Failed) }
 {
     if scripts.select(name).is_err() {

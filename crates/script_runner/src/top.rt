@@ -242,6 +242,8 @@ pub fn run<S: Scripts, O: Sink, K: KvStore>(
     // A script is not read only where the scripts failed or it is too long.
     ensures unread { result.0.status ≡ 3 → (name : List ℕ) → named_script words.now ≡ Some name
         → HasRisen (S.faults scripts.old) (S.faults scripts.new) ⊎ WhereTold (S.content scripts.old name) (λ script. 67108864 < length script) }
+    ensures content { S.content scripts.new ≡ S.content scripts.old }
+    ensures reading { S.faults scripts.old ≤ S.faults scripts.new }
     ensures place { result.0.script ≡ (if result.0.status == 3 then Some 0 else None) }
     // Answers are not written only where the sink failed.
     ensures unwritten { Rises (O.faults sink.old) (O.faults sink.new) (result.0.status ≡ 4) }

@@ -1,4 +1,4 @@
-use Rattle.std.proofs.Common.{◌≡◌, ◌<◌, true, false, refl, sym, ap, ◌∙◌, bytes_eq, length, arith}
+use Rattle.std.proofs.Common.{◌≡◌, ◌<◌, sym, ap, ◌∙◌, bytes_eq, length, arith}
 use Rattle.std.specs.FinMap as finmap
 use Rattle.script_runner.specs.declared.memory.Script.{Script}
 use Rattle.script_runner.proofs.Added.{last_here, last_before}

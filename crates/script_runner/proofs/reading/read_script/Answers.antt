@@ -21,5 +21,6 @@ loop-n-preserved g c = record {
       let n = c.in-Ok.n in
       let grown : length c.extend_from_slice.new.self.items ≡ length c.loop-n.bytes.items + n = ap length c.in_ok-extend_from_slice.ensures.items ∙ length-append c.loop-n.bytes.items c.split_at.result.0.now ∙ ap (λ m. length c.loop-n.bytes.items + m) c.split_at.ensures.front_len in
       omega (arith, grown, c.len.ensures, c.if-n-len.false, c.loop-n.invariant.size);
+  content = c.next.ensures.content ∙ c.loop-n.invariant.content;
   later = omega (arith, c.next.ensures.cause.later, c.loop-n.invariant.later);
 }

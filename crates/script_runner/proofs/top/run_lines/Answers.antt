@@ -6,7 +6,7 @@ use Rattle.indexmap.specs.IndexMap.{get_by_text}
 use Rattle.script_runner.specs.Logged.{IsBegunLog, numbers_behind}
 use Rattle.script_runner.specs.Progress.{IsUnderWay}
 use Rattle.script_runner.proofs.Lines.{past_blank, past_line, at_start, short_more}
-use Rattle.script_runner.proofs.Logs.{HasAnswered, none_answered, line_answered, blank_passed, one_more_line, begun_log, whole_log}
+use Rattle.script_runner.proofs.Logs.{HasAnswered, none_answered, line_answered, blank_passed, one_more_line}
 use Rattle.script_runner.proofs.top.run_lines.Goals as goal
 
 pub loop-rest-init : goal.loop-rest-init
