@@ -1,5 +1,7 @@
 pub mod Tests
+pub mod Ordering
 pub mod Histories
+pub mod Cataloguing
 pub mod Geometry
 pub mod Puts
 pub mod Keys
@@ -16,5 +18,6 @@ pub mod Writing
 pub mod Keeping
 pub mod Openings
 pub mod Indexing
+pub mod Listing
 pub mod Fetching
 pub mod Gathering

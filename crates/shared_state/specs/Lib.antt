@@ -8,6 +8,8 @@ pub mod Content
 pub mod Plain
 pub mod Legal
 pub mod Outcomes
+pub mod Catalog
+pub mod Found
 pub mod Joint
 pub mod Store
 pub mod State

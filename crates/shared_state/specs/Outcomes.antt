@@ -1,6 +1,6 @@
 -- What opening an array at a location gives, after a history.
 use Rattle.std.specs.Prelude.{ℕ, List, [], ◌∷◌, ◌++◌, map, filter, Bool, ◌||◌, Option, Some, None, if◌then◌else◌}
-use Rattle.std.specs.List.{flat_map, position}
+use Rattle.std.specs.List.{flat_map, list_any}
 use Rattle.std.specs.Str.{bytes_eq}
 use Rattle.std.specs.Ordering.{is_lt, nat_cmp}
 use Rattle.std.specs.Cmp.Lexicographic.{slice_cmp}
@@ -46,28 +46,19 @@ least (t ∷ ts) = elim (least ts) [ None ↦ Some t | Some s ↦ Some (lesser s
 abbrev pub taken : History → List ℕ → Option (List ℕ)
 taken events here = least (filter (clashes here) (locations events))
 
--- the number of the array at a location
-abbrev pub number_at : History → List ℕ → Option ℕ
-number_at events here = position (bytes_eq here) (locations events)
+-- an array lies at the location
+abbrev pub is_there : History → List ℕ → Bool
+is_there events here = list_any (bytes_eq here) (locations events)
 
 -- what comes of an array that is to be made
 pub data Outcome : Type 0 where
   path_taken : List ℕ → Outcome
-  exists : ℕ → Outcome
+  exists : Outcome
   made : Outcome
 
-abbrev pub unless_there : Option ℕ → Outcome
-unless_there None = made
-unless_there (Some number) = exists number
-
-abbrev pub unless_taken : Option (List ℕ) → Outcome → Outcome
-unless_taken None outcome = outcome
-unless_taken (Some path) outcome = path_taken path
+abbrev pub unless_taken : Option (List ℕ) → Bool → Outcome
+unless_taken None there = if there then exists else made
+unless_taken (Some other) there = path_taken other
 
 abbrev pub making_outcome : History → List ℕ → Outcome
-making_outcome events here = unless_taken (taken events here) (unless_there (number_at events here))
-
-abbrev pub IsExisting : Outcome → Type 0
-IsExisting (path_taken path) = ⊥
-IsExisting (exists number) = Unit {0}
-IsExisting made = ⊥
+making_outcome events here = unless_taken (taken events here) (is_there events here)

@@ -6,6 +6,7 @@
 #![tactic(auto)]
 
 mod array;
+mod catalog;
 mod cut;
 mod error;
 mod event;

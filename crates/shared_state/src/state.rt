@@ -1,4 +1,4 @@
-ghost use Rattle.std.specs.Prelude.{◌≡◌, ◌≤◌, ◌<◌, ◌^◌, ◌++◌, ◌∷◌, [], ℕ, List, length, All, Some, None, IsSome, IfSome, count_by, IfOk, IfErr, OnOk, OnErr, IsErrOf, true};
+ghost use Rattle.std.specs.Prelude.{◌≡◌, ◌≢◌, ◌≤◌, ◌<◌, ◌^◌, ◌++◌, ◌∷◌, [], ℕ, List, length, All, Some, None, IsSome, IfSome, count_by, IfOk, IfErr, OnOk, OnErr, IsErrOf, true};
 ghost use Rattle.std.specs.List.{IsDistinct};
 ghost use Rattle.std.specs.Str.{bytes_eq};
 ghost use Rattle.cells.specs.Numbers.{IsWord};
@@ -10,7 +10,7 @@ ghost use Rattle.std.specs.FinMap as finmap;
 ghost use Rattle.shared_state.specs.Arrays.{Known, known_after, chunk_shape, ref_of};
 ghost use Rattle.shared_state.specs.Chunks.{chunk_key, metadata_key};
 ghost use Rattle.shared_state.specs.Legal.{is_opening};
-ghost use Rattle.shared_state.specs.Outcomes.{making_outcome, path_taken, made, IsExisting};
+ghost use Rattle.shared_state.specs.Outcomes.{making_outcome, path_taken, exists, made};
 ghost use Rattle.shared_state.specs.Calls.{Adds, opened, done_write, plain, fault, mount_of, new_info};
 ghost use Rattle.shared_state.specs.Store.{IsConsistent};
 ghost use Rattle.shared_state.specs.Grid.{grid_of};
@@ -18,6 +18,7 @@ ghost use Rattle.shared_state.specs.Paste.{IsWholeArray};
 ghost use Rattle.shared_state.specs.Reads.{HasContent, IsDamaged, IsDamagedIn};
 
 use crate::array::{ArrayRef, Home};
+use crate::catalog::{Found, Table, find, list, new_table, unlist};
 use crate::error::{FetchError, OpenError, WriteNowError};
 use crate::event::{Event, Kind};
 use crate::events::{add, add_place, copy_name, done_write, info_for, ref_of};
@@ -45,12 +46,14 @@ pub struct State<K: KvStore> {
     store: K,
     events: Vec<Event>,
     places: Vec<usize>,
+    table: Table,
 }
 
 impl<K: KvStore> Model for State<K> {
     ghost use Rattle.std.specs.Coded.{codes};
     ghost use Rattle.shared_state.specs.State.{StateOf};
     ghost use Rattle.shared_state.specs.Index.{IsIndexed};
+    ghost use Rattle.shared_state.specs.Catalog.{IsCatalog};
 
     ghost Value = { StateOf K };
 
@@ -58,7 +61,7 @@ impl<K: KvStore> Model for State<K> {
 
     ghost view = { λ s. record { store = s.store; events = s.events.items } };
 
-    ghost invariant = { λ s. IsIndexed s.events.items s.places.items };
+    ghost invariant = { λ s. record { indexed : IsIndexed s.events.items s.places.items; catalog : IsCatalog s.events.items s.table } };
 }
 
 impl<K: KvStore> State<K> {
@@ -72,6 +75,7 @@ impl<K: KvStore> State<K> {
             store,
             events: Vec::new(alloc),
             places: Vec::new(alloc),
+            table: new_table(alloc),
         }
     }
 
@@ -92,6 +96,7 @@ impl<K: KvStore> State<K> {
             store,
             events,
             places: _,
+            table: _,
         } = self;
         (store, events)
     }
@@ -251,10 +256,52 @@ impl<K: KvStore> State<K> {
         ensures taken { (at : ℕ) (other : List ℕ) → result ≡ Err (OpenError.PathTaken other at)
             → (making_outcome self.old.events (mount.now ++ 47 ∷ path.now) ≡ path_taken other) × (at ≡ length self.old.events) × (self.new ≡ self.old) }
         ensures exists { (at : ℕ) → result ≡ Err (OpenError.Exists at)
-            → IsExisting (making_outcome self.old.events (mount.now ++ 47 ∷ path.now)) × (at ≡ length self.old.events) × (self.new ≡ self.old) }
+            → (making_outcome self.old.events (mount.now ++ 47 ∷ path.now) ≡ exists) × (at ≡ length self.old.events) × (self.new ≡ self.old) }
         ensures failed { (event : ℕ) → result ≡ Err (OpenError.StoreFailed event)
             → (K.faults self.old.store < K.faults self.new.store) × Adds self.old.events self.new.events (fault owner mount.now) event
             × (making_outcome self.old.events (mount.now ++ 47 ∷ path.now) ≡ made) }
+        ensures memory { result ≡ Err OpenError.Memory → self.new.events ≡ self.old.events }
+        ensures consistent { (start : Contents) → IsConsistent start (K.contents self.old.store) self.old.events
+            → finmap.get start (metadata_key (Home.Zarr mount.now path.now meta)) ≡ None
+            → IsConsistent start (K.contents self.new.store) self.new.events }
+        ensures faults { K.faults self.old.store ≤ K.faults self.new.store }
+        ensures prefixes { K.prefixes self.new.store ≡ K.prefixes self.old.store }
+        ensures names { K.names self.new.store ≡ K.names self.old.store }
+    {
+        let Ok(location) = format!(in self.alloc; "{mount}/{path}") else {
+            return Err(OpenError::Memory);
+        };
+        match find(self.alloc, &self.table, location.as_bytes()) {
+            Ok(Found::Taken { other }) => Err(OpenError::PathTaken {
+                path: other,
+                at: self.events.len() as u64,
+            }),
+            Ok(Found::There) => Err(OpenError::Exists {
+                at: self.events.len() as u64,
+            }),
+            Ok(Found::Nothing) => self.create(owner, mount, path, location.as_str(), meta),
+            Err(_) => Err(OpenError::Memory),
+        }
+    }
+
+    /// Makes an array at a location that is free.
+    fn create(
+        &mut self,
+        owner: u32,
+        mount: &str,
+        path: &str,
+        location: &str,
+        meta: ZarrMeta,
+    ) -> Result<Opening, OpenError>
+        requires located { location.now ≡ mount.now ++ 47 ∷ path.now }
+        requires made { making_outcome self.old.events location.now ≡ made }
+        requires names { K.names self.old.store ≡ None }
+        ensures opened { IfOk result (λ o. let info = new_info (count_by is_opening self.old.events) mount.now path.now meta in
+            (o.array ≡ ref_of info) × IfSome o.event (Adds self.old.events self.new.events (opened owner info)) × IsSome o.event) }
+        ensures taken { (at : ℕ) (other : List ℕ) → result ≢ Err (OpenError.PathTaken other at) }
+        ensures exists { (at : ℕ) → result ≢ Err (OpenError.Exists at) }
+        ensures failed { (event : ℕ) → result ≡ Err (OpenError.StoreFailed event)
+            → (K.faults self.old.store < K.faults self.new.store) × Adds self.old.events self.new.events (fault owner mount.now) event }
         ensures memory { result ≡ Err OpenError.Memory → self.new.events ≡ self.old.events }
         ensures consistent { (start : Contents) → IsConsistent start (K.contents self.old.store) self.old.events
             → finmap.get start (metadata_key (Home.Zarr mount.now path.now meta)) ≡ None
@@ -269,6 +316,7 @@ impl<K: KvStore> State<K> {
         let mount = copy_name(self.alloc, mount)?;
         self.events.reserve(1)?;
         self.places.reserve(1)?;
+        list(self.alloc, &mut self.table, location)?;
         match apply_all(&mut self.store, &changes) {
             Ok(()) => {
                 add_place(&mut self.places, self.events.len());
@@ -280,11 +328,15 @@ impl<K: KvStore> State<K> {
                 })
             }
             Err(KvError::Failed) => {
+                unlist(&mut self.table, location);
                 let kind = Kind::Fault { mount };
                 let event = add(&mut self.events, Event { owner, kind });
                 Err(OpenError::StoreFailed { event })
             }
-            Err(KvError::Memory) => Err(OpenError::Memory),
+            Err(KvError::Memory) => {
+                unlist(&mut self.table, location);
+                Err(OpenError::Memory)
+            }
         }
     }
 }

@@ -24,7 +24,7 @@ pub invariant_of-self-in-Err-Failed : goal.invariant_of-self-in-Err-Failed
 invariant_of-self-in-Err-Failed g c =
     let grown = c.add-event.ensures.items ∙ ap (λ es. es ++ fault c.args.owner c.in_ok-mount-in-Err-Failed.mount ∷ []) c.in_ok-reserve-in-Err-Failed.ensures.items in
     let e = fault c.args.owner c.in_ok-mount-in-Err-Failed.mount in
-    subst (λ es. IsIndexed es c.self.inside.places.items) (sym grown) (indexed_same c.self.inside.events.items c.self.inside.places.items e c.self.invariant (λ a. known_after-more c.self.inside.events.items e a) refl)
+    subst (λ es. IsIndexed es c.self.inside.places.items) (sym grown) (indexed_same c.self.inside.events.items c.self.inside.places.items e c.self.invariant.indexed (λ a. known_after-more c.self.inside.events.items e a) refl)
 
 pub returns-in-Ok-clause-cells : goal.returns-in-Ok-clause-cells
 returns-in-Ok-clause-cells g c = λ start consistent k known.

@@ -14,14 +14,14 @@ use Rattle.shared_state.proofs.state.State.read_now.Goals as goal
 pub unreachable-requires-in_default-count_cells : goal.unreachable-requires-in_default-count_cells
 unreachable-requires-in_default-count_cells g c =
     let is : Some c.in-Some.info.now ≡ info_of (known_after c.self.inside.events.items c.args.array) = sym (ap option_copied c.in-Some.is) ∙ c.array_at.ensures ∙ ap (λ es. info_of (known_after es c.args.array)) c.deref.ensures.value in
-    let f = found c.self.inside.events.items c.args.self.now.events c.self.inside.places.items c.args.array c.in-Some.info.now c.self.invariant (ap (λ (s : StateOf g.row.K.Denot). s.events) c.self.view_is) is in
+    let f = found c.self.inside.events.items c.args.self.now.events c.self.inside.places.items c.args.array c.in-Some.info.now c.self.invariant.indexed (ap (λ (s : StateOf g.row.K.Denot). s.events) c.self.view_is) is in
     let same : f.k.shape ≡ c.deref-3.result.now = f.good.shape ∙ ap (λ (i : ArrayInfo). i.shape) f.same ∙ sym (c.deref-3.ensures.value ∙ c.in_ok-shape.ensures.items ∙ c.items.ensures) in
     c.in_default-count_cells.ensures (subst (λ s. cell_count s ≤ 4194304) same (c.requires.small f.k f.known))
 
 pub gather-requires-clause-grid : goal.gather-requires-clause-grid
 gather-requires-clause-grid g c =
     let is : Some c.in-Some.info.now ≡ info_of (known_after c.self.inside.events.items c.args.array) = sym (ap option_copied c.in-Some.is) ∙ c.array_at.ensures ∙ ap (λ es. info_of (known_after es c.args.array)) c.deref.ensures.value in
-    let f = found c.self.inside.events.items c.args.self.now.events c.self.inside.places.items c.args.array c.in-Some.info.now c.self.invariant (ap (λ (s : StateOf g.row.K.Denot). s.events) c.self.view_is) is in
+    let f = found c.self.inside.events.items c.args.self.now.events c.self.inside.places.items c.args.array c.in-Some.info.now c.self.invariant.indexed (ap (λ (s : StateOf g.row.K.Denot). s.events) c.self.view_is) is in
     let shape : f.k.shape ≡ c.deref-4.result.now = f.good.shape ∙ ap (λ (i : ArrayInfo). i.shape) f.same ∙ sym (c.deref-4.ensures.value ∙ c.in_ok-shape.ensures.items ∙ c.items.ensures) in
     let sizes : chunk_shape f.k.info ≡ c.deref-5.result.now = ap chunk_shape f.same ∙ search rules in
     subst (λ s. IsGrid s c.deref-5.result.now) shape (subst (IsGrid f.k.shape) sizes (good_grid c.args.array f.k f.good))

@@ -17,19 +17,19 @@ use Rattle.shared_state.proofs.state.State.write_now.Goals as goal
 pub changes_for-requires : goal.changes_for-requires
 changes_for-requires g c =
     let is : Some c.in-Some.info.now ≡ info_of (known_after c.self.inside.events.items c.args.array) = sym (ap option_copied c.in-Some.is) ∙ c.array_at.ensures ∙ ap (λ es. info_of (known_after es c.args.array)) c.deref.ensures.value in
-    let f = found c.self.inside.events.items c.args.self.now.events c.self.inside.places.items c.args.array c.in-Some.info.now c.self.invariant (ap (λ (s : StateOf g.row.K.Denot). s.events) c.self.view_is) is in
+    let f = found c.self.inside.events.items c.args.self.now.events c.self.inside.places.items c.args.array c.in-Some.info.now c.self.invariant.indexed (ap (λ (s : StateOf g.row.K.Denot). s.events) c.self.view_is) is in
     writable c.args.array f.k c.in-Some.info.now c.args.words.now f.good f.same (c.requires.small f.k f.known) (c.requires.full f.k f.known) (c.requires.words f.k f.known)
 
 pub apply_all-requires-clause-distinct : goal.apply_all-requires-clause-distinct
 apply_all-requires-clause-distinct g c =
     let is : Some c.in-Some.info.now ≡ info_of (known_after c.self.inside.events.items c.args.array) = sym (ap option_copied c.in-Some.is) ∙ c.array_at.ensures ∙ ap (λ es. info_of (known_after es c.args.array)) c.deref.ensures.value in
-    let f = found c.self.inside.events.items c.args.self.now.events c.self.inside.places.items c.args.array c.in-Some.info.now c.self.invariant (ap (λ (s : StateOf g.row.K.Denot). s.events) c.self.view_is) is in
+    let f = found c.self.inside.events.items c.args.self.now.events c.self.inside.places.items c.args.array c.in-Some.info.now c.self.invariant.indexed (ap (λ (s : StateOf g.row.K.Denot). s.events) c.self.view_is) is in
     subst (λ (cs : List Change). IsDistinct bytes_eq (keys_of cs)) (sym c.deref-3.ensures.value) (changes_distinct c.args.array f.k c.in-Some.info.now c.args.words.now c.in_ok-changes.changes.items f.good f.same c.in_ok-changes.ensures)
 
 pub apply_all-requires-clause-together : goal.apply_all-requires-clause-together
 apply_all-requires-clause-together g c =
     let is : Some c.in-Some.info.now ≡ info_of (known_after c.self.inside.events.items c.args.array) = sym (ap option_copied c.in-Some.is) ∙ c.array_at.ensures ∙ ap (λ es. info_of (known_after es c.args.array)) c.deref.ensures.value in
-    let f = found c.self.inside.events.items c.args.self.now.events c.self.inside.places.items c.args.array c.in-Some.info.now c.self.invariant (ap (λ (s : StateOf g.row.K.Denot). s.events) c.self.view_is) is in
+    let f = found c.self.inside.events.items c.args.self.now.events c.self.inside.places.items c.args.array c.in-Some.info.now c.self.invariant.indexed (ap (λ (s : StateOf g.row.K.Denot). s.events) c.self.view_is) is in
     let distinct : IsDistinct bytes_eq (keys_of c.deref-3.result.now) =
     subst (λ (cs : List Change). IsDistinct bytes_eq (keys_of cs)) (sym c.deref-3.ensures.value) (changes_distinct c.args.array f.k c.in-Some.info.now c.args.words.now c.in_ok-changes.changes.items f.good f.same c.in_ok-changes.ensures) in
     ap (λ (s : StateOf g.row.K.Denot). are_together (g.K.KvStore.prefixes s.store) c.deref-3.result.now 0) c.self.view_is ∙ c.requires.together c.deref-3.result.now distinct
@@ -39,13 +39,13 @@ invariant_of-self-in-Ok g c =
     let e = done_write c.args.owner c.args.line plain c.in-Some.info.now c.args.words.now in
     let grown : c.add.new.events.items ≡ c.self.inside.events.items ++ e ∷ [] =
     c.add.ensures.items ∙ ap (λ es. es ++ c.in_ok-done.done ∷ []) c.in_ok-reserve.ensures.items ∙ ap (λ d. c.self.inside.events.items ++ d ∷ []) c.in_ok-done.ensures in
-    subst (λ es. IsIndexed es c.self.inside.places.items) (sym grown) (indexed_same c.self.inside.events.items c.self.inside.places.items e c.self.invariant (λ a. known_after-more c.self.inside.events.items e a) refl)
+    subst (λ es. IsIndexed es c.self.inside.places.items) (sym grown) (indexed_same c.self.inside.events.items c.self.inside.places.items e c.self.invariant.indexed (λ a. known_after-more c.self.inside.events.items e a) refl)
 
 pub returns-in-Ok-clause-consistent : goal.returns-in-Ok-clause-consistent
 returns-in-Ok-clause-consistent g c = λ start consistent.
     let is : Some c.in-Some.info.now ≡ info_of (known_after c.self.inside.events.items c.args.array) = sym (ap option_copied c.in-Some.is) ∙ c.array_at.ensures ∙ ap (λ es. info_of (known_after es c.args.array)) c.deref.ensures.value in
     let same = ap (λ (s : StateOf g.row.K.Denot). s.events) c.self.view_is in
-    let f = found c.self.inside.events.items c.args.self.now.events c.self.inside.places.items c.args.array c.in-Some.info.now c.self.invariant same is in
+    let f = found c.self.inside.events.items c.args.self.now.events c.self.inside.places.items c.args.array c.in-Some.info.now c.self.invariant.indexed same is in
     let told : g.K.KvStore.contents c.self.inside.store ≡ Some consistent.store = ap (λ (s : StateOf g.row.K.Denot). g.K.KvStore.contents s.store) c.self.view_is ∙ consistent.told in
     let grown : c.add.new.events.items ≡ c.args.self.now.events ++ done_write c.args.owner c.args.line plain f.k.info c.args.words.now ∷ [] =
     c.add.ensures.items ∙ ap (λ es. es ++ c.in_ok-done.done ∷ []) (c.in_ok-reserve.ensures.items ∙ same) ∙ ap (λ d. c.args.self.now.events ++ d ∷ []) c.in_ok-done.ensures
@@ -58,7 +58,7 @@ pub invariant_of-self-in-Err-Failed : goal.invariant_of-self-in-Err-Failed
 invariant_of-self-in-Err-Failed g c =
     let e = fault c.args.owner c.in_ok-mount.mount in
     let grown : c.add-event.new.events.items ≡ c.self.inside.events.items ++ e ∷ [] = c.add-event.ensures.items ∙ ap (λ es. es ++ e ∷ []) c.in_ok-reserve.ensures.items in
-    subst (λ es. IsIndexed es c.self.inside.places.items) (sym grown) (indexed_same c.self.inside.events.items c.self.inside.places.items e c.self.invariant (λ a. known_after-more c.self.inside.events.items e a) refl)
+    subst (λ es. IsIndexed es c.self.inside.places.items) (sym grown) (indexed_same c.self.inside.events.items c.self.inside.places.items e c.self.invariant.indexed (λ a. known_after-more c.self.inside.events.items e a) refl)
 
 pub returns-in-Err-Failed-clause-consistent : goal.returns-in-Err-Failed-clause-consistent
 returns-in-Err-Failed-clause-consistent g c = λ start consistent.
