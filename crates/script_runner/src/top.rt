@@ -35,7 +35,7 @@ pub struct Outcome {
     pub script: Option<u32>,
     /// What happened, the first event with the number 1.
     pub history: List<Event>,
-    /// The answers of each session.
+    /// The answers of each session that was started: one list, or none.
     pub logs: List<List<Answer>>,
 }
 
@@ -123,7 +123,7 @@ fn finish<O: Sink>(alloc: Global, sink: &mut O, answers: &[Answer]) -> u8
     ensures memory { result ≡ 5 → sink.new ≡ sink.old }
     ensures status { HasAnswers result → result ≡ status_of answers.now }
     ensures unwritten { Rises (O.faults sink.old) (O.faults sink.new) (result ≡ 4) }
-    ensures other { (result ≢ 2) × (result ≢ 3) }
+    ensures known { (result ≤ 5) × (result ≢ 2) × (result ≢ 3) }
 {
     let Ok(text) = text_of(alloc, answers) else {
         return 5;
@@ -158,7 +158,7 @@ fn run_session<O: Sink, K: KvStore>(
     ensures prefixes { K.prefixes result.1 ≡ K.prefixes store }
     ensures names { K.names result.1 ≡ K.names store }
     ensures unwritten { Rises (O.faults sink.old) (O.faults sink.new) (result.0.status ≡ 4) }
-    ensures other { (result.0.status ≢ 2) × (result.0.status ≢ 3) }
+    ensures known { (result.0.status ≤ 5) × (result.0.status ≢ 2) × (result.0.status ≢ 3) }
     ensures place { result.0.script ≡ None }
 {
     let Ok(mut logs) = Vec::with_capacity(alloc, 1) else {
@@ -217,6 +217,7 @@ pub fn run<S: Scripts, O: Sink, K: KvStore>(
     requires names { K.names store ≡ None }
     requires together { (cs : List ChangeOf) → IsDistinct bytes_eq (keys_of cs) → are_together (K.prefixes store) cs 0 ≡ true }
     requires empty { K.contents store ≡ Some finmap.empty }
+    ensures known { result.0.status ≤ 5 }
     // The words are refused exactly where they name no script; no script was opened then.
     ensures refused { result.0.status ≡ 2 ↔ named_script words.now ≡ None }
     ensures unopened { result.0.status ≡ 2 → scripts.new ≡ scripts.old }
