@@ -1,5 +1,5 @@
 -- Values that fit give a word of the dtype to each cell.
-use Rattle.std.proofs.Common.{◌≡◌, ℕ, ◌+◌, ◌*◌, List, [], ◌∷◌, ◌++◌, length, replicate, Bool, true, false, ℤ, Option, Some, None, Result, Ok, Err, Vec, Global, cond, eqb, rules, tests, refl, sym, ap, ◌∙◌, subst, arith}
+use Rattle.std.proofs.Common.{◌≡◌, ℕ, ◌+◌, ◌*◌, List, [], ◌∷◌, ◌++◌, length, replicate, Bool, true, false, ℤ, Option, Some, None, Result, Ok, Err, Vec, Global, cond, eqb, rules, tests, refl, ◌∙◌, subst, arith}
 use Rattle.std.specs.Prelude.{All, IfOk, int_le, ◌&&◌}
 use Rattle.std.proofs.lemmas.Bool.{eqb-true}
 use Rattle.std.proofs.lemmas.Int.{ints}

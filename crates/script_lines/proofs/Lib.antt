@@ -6,3 +6,5 @@ pub mod Rows
 pub mod Slashes
 pub mod Told
 pub mod GivenWords
+pub mod WorkedLines
+pub mod OpenLines

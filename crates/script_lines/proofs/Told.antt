@@ -1,5 +1,5 @@
 -- What an error tells of a line.
-use Rattle.std.proofs.Common.{◌≡◌, Option, Some, Result, Ok, Err, sym, ◌∙◌, ap, subst}
+use Rattle.std.proofs.Common.{◌≡◌, Option, Some, Result, Ok, Err, ◌∙◌, ap, subst}
 use Rattle.std.specs.Prelude.{IfErr}
 use Rattle.serde_json.specs.Data.{Data}
 use Rattle.script_lines.specs.Line.{Line, line_of_data, line_of_found}

@@ -1,10 +1,10 @@
 // The command that a line is.
-ghost use Rattle.std.specs.Prelude.{◌≡◌, ℕ, List, IfOk, IfErr, count_by};
+ghost use Rattle.std.specs.Prelude.{◌≡◌, ℕ, List, IfOk, IfErr, IfSome, count_by};
 ghost use Rattle.serde_json.specs.View.{view};
 ghost use Rattle.script_lines.specs.Forms.{has};
 ghost use Rattle.script_lines.specs.Line.{not_json, not_command, bad_member, command_count, open_fault, read_fault, write_fault, open_form, read_form, write_form, built, without_fault, line_of_command, line_of_data, command_of_line};
 ghost use Rattle.script_lines.specs.Refusals.{Tells};
-ghost use Rattle.script_lines.specs.Seen.{seen};
+ghost use Rattle.script_lines.specs.Seen.{seen, HasGoodParts};
 
 use crate::error::LineError;
 use crate::faults::{name_at, open_fault, read_fault, write_fault};
@@ -44,6 +44,7 @@ pub enum Command {
 /// is unknown, missing or of a wrong form, and `Memory` where an allocation failed.
 pub fn read_command(alloc: Global, bytes: &[u8]) -> Result<Option<Command>, LineError>
     ensures ok { IfOk result (λ command. seen command ≡ command_of_line bytes.now) }
+    ensures good { IfOk result (λ command. IfSome command HasGoodParts) }
     ensures not_json { result ≡ Err LineError.NotJson → command_of_line bytes.now ≡ not_json }
     ensures not_command { result ≡ Err LineError.NotCommand → command_of_line bytes.now ≡ not_command }
     ensures member { (path : List ℕ) → result ≡ Err (LineError.Member path) → command_of_line bytes.now ≡ bad_member path }
@@ -58,6 +59,7 @@ pub fn read_command(alloc: Global, bytes: &[u8]) -> Result<Option<Command>, Line
 
 fn command_in(alloc: Global, value: &Value) -> Result<Option<Command>, LineError>
     ensures ok { IfOk result (λ command. seen command ≡ line_of_data (view value.now)) }
+    ensures good { IfOk result (λ command. IfSome command HasGoodParts) }
     ensures told { IfErr result (λ error. Tells error (line_of_data (view value.now))) }
 {
     if command_count(value) != 1 {
@@ -86,6 +88,7 @@ fn count_members(value: &Value, names: &[&str]) -> usize
 
 fn command_of(alloc: Global, value: &Value) -> Result<Option<Command>, LineError>
     ensures ok { IfOk result (λ command. seen command ≡ line_of_command (view value.now)) }
+    ensures good { IfOk result (λ command. IfSome command HasGoodParts) }
     ensures told { IfErr result (λ error. Tells error (line_of_command (view value.now))) }
 {
     if value.get("open").is_some() {
@@ -103,6 +106,7 @@ fn command_of(alloc: Global, value: &Value) -> Result<Option<Command>, LineError
 fn open_line(alloc: Global, value: &Value) -> Result<Option<Command>, LineError>
     ensures ok { IfOk result (λ command. seen command
         ≡ without_fault (open_fault (view value.now)) (open_form (view value.now))) }
+    ensures good { IfOk result (λ command. IfSome command HasGoodParts) }
     ensures told { IfErr result (λ error. Tells error
         (without_fault (open_fault (view value.now)) (open_form (view value.now)))) }
 {
@@ -115,6 +119,7 @@ fn open_line(alloc: Global, value: &Value) -> Result<Option<Command>, LineError>
 fn read_line(alloc: Global, value: &Value) -> Result<Option<Command>, LineError>
     ensures ok { IfOk result (λ command. seen command
         ≡ without_fault (read_fault (view value.now)) (read_form (view value.now))) }
+    ensures good { IfOk result (λ command. IfSome command HasGoodParts) }
     ensures told { IfErr result (λ error. Tells error
         (without_fault (read_fault (view value.now)) (read_form (view value.now)))) }
 {
@@ -127,6 +132,7 @@ fn read_line(alloc: Global, value: &Value) -> Result<Option<Command>, LineError>
 fn write_line(alloc: Global, value: &Value) -> Result<Option<Command>, LineError>
     ensures ok { IfOk result (λ command. seen command
         ≡ without_fault (write_fault (view value.now)) (write_form (view value.now))) }
+    ensures good { IfOk result (λ command. IfSome command HasGoodParts) }
     ensures told { IfErr result (λ error. Tells error
         (without_fault (write_fault (view value.now)) (write_form (view value.now)))) }
 {
@@ -146,7 +152,8 @@ fn at_fault(alloc: Global, path: &str) -> LineError
 }
 
 fn open_form(alloc: Global, value: &Value) -> Result<Option<Command>, AllocError>
-    ensures { IfOk result (λ command. seen command ≡ built (open_form (view value.now))) }
+    ensures form { IfOk result (λ command. seen command ≡ built (open_form (view value.now))) }
+    ensures good { IfOk result (λ command. IfSome command HasGoodParts) }
 {
     let Some(name) = name_at(value, "open") else {
         return Ok(None);
@@ -162,7 +169,8 @@ fn open_form(alloc: Global, value: &Value) -> Result<Option<Command>, AllocError
 }
 
 fn read_form(alloc: Global, value: &Value) -> Result<Option<Command>, AllocError>
-    ensures { IfOk result (λ command. seen command ≡ built (read_form (view value.now))) }
+    ensures form { IfOk result (λ command. seen command ≡ built (read_form (view value.now))) }
+    ensures good { IfOk result (λ command. IfSome command HasGoodParts) }
 {
     if value.get("steps").is_some() {
         return Ok(None);
@@ -175,7 +183,8 @@ fn read_form(alloc: Global, value: &Value) -> Result<Option<Command>, AllocError
 }
 
 fn write_form(alloc: Global, value: &Value) -> Result<Option<Command>, AllocError>
-    ensures { IfOk result (λ command. seen command ≡ built (write_form (view value.now))) }
+    ensures form { IfOk result (λ command. seen command ≡ built (write_form (view value.now))) }
+    ensures good { IfOk result (λ command. IfSome command HasGoodParts) }
 {
     if value.get("steps").is_some() {
         return Ok(None);

@@ -1,5 +1,5 @@
 // The members of a command that are at fault.
-ghost use Rattle.std.specs.Prelude.{◌≡◌, Some, option_map};
+ghost use Rattle.std.specs.Prelude.{◌≡◌, Some, IfSome, true, option_map};
 ghost use Rattle.serde_json.specs.View.{view};
 ghost use Rattle.json_forms.specs.Members.{lesser};
 ghost use Rattle.script_lines.specs.Names.{is_name};
@@ -39,7 +39,8 @@ pub(crate) fn write_fault(value: &Value) -> Option<&str>
 
 /// The name at a member.
 pub(crate) fn name_at<'v>(value: &'v Value, key: &str) -> Option<&'v str>
-    ensures { option_map (λ s. s.now) result ≡ text_at key.now is_name (view value.now) }
+    ensures good { IfSome result (λ s. is_name s.now ≡ true) }
+    ensures value { option_map (λ s. s.now) result ≡ text_at key.now is_name (view value.now) }
 {
     let text = value.get(key)?.as_str()?;
     if is_name(text) { Some(text) } else { None }

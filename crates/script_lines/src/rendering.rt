@@ -1,15 +1,15 @@
 // Answers as text.
-ghost use Rattle.std.specs.Prelude.{◌≡◌, ◌≤◌, ◌^◌, ◌++◌, ◌∷◌, [], false, IfOk, OnOk, length, map, replicate};
+ghost use Rattle.std.specs.Prelude.{◌≡◌, ◌≤◌, ◌^◌, ◌++◌, ◌∷◌, [], false, codes, IfOk, OnOk, length, map, replicate};
 ghost use Rattle.serde_json.specs.Data.{string};
 ghost use Rattle.serde_json.specs.View.{view, members_view};
 ghost use Rattle.serde_json.specs.Written.{compact_text, has_float};
 ghost use Rattle.json_forms.specs.Lists.{list_of};
 ghost use Rattle.json_forms.specs.Members.{members_from};
-ghost use Rattle.script_lines.specs.AnswerText.{answer_text, parts_of, events_part, dtype_name, domain_of, dim_of, failure_of, met_of, numbers, value_lists};
+ghost use Rattle.script_lines.specs.AnswerText.{answer_text, parts_of, events_part, dtype_name, domain_of, dim_of, failure_of, list_count, met_of, numbers, value_lists};
 
 use crate::answer::{Answer, Body};
 use crate::values::values_of;
-use cells::{Dtype, List};
+use cells::{Dtype, Index, List, Name, Sizes, Words};
 use json_forms::{compact, list_from_i64s, list_from_u64s};
 use serde_json::{Map, Value, put};
 use std::alloc::{AllocError, Global};
@@ -50,97 +50,151 @@ fn put_parts(alloc: Global, members: &mut Members, body: &Body) -> Result<(), Al
             dtype,
             shape,
             events,
-        } => {
-            put(members, alloc, "open", text(alloc, name.items())?)?;
-            put(
-                members,
-                alloc,
-                "events",
-                list_from_u64s(alloc, events.items())?,
-            )?;
-            put(members, alloc, "dtype", text(alloc, dtype_name(*dtype))?)?;
-            put(members, alloc, "domain", domain_of(alloc, shape.items())?)
-        }
-        Body::Written { cells, events } => {
-            put(members, alloc, "write", Value::from(*cells))?;
-            put(
-                members,
-                alloc,
-                "commit",
-                list_from_u64s(alloc, events.items())?,
-            )
-        }
+        } => put_opened(alloc, members, name, *dtype, shape, events),
+        Body::Written { cells, events } => put_written(alloc, members, *cells, events),
         Body::Values {
             origin,
             shape,
             dtype,
             words,
-        } => {
-            put(
-                members,
-                alloc,
-                "values",
-                values_of(alloc, *dtype, shape.items(), words.items())?,
-            )?;
-            put(
-                members,
-                alloc,
-                "origin",
-                list_from_i64s(alloc, origin.items())?,
-            )
-        }
-        Body::BadLine { text: cause } => {
-            put(members, alloc, "bad_line", text(alloc, cause.items())?)
-        }
-        Body::UnknownName { name } => {
-            put(members, alloc, "unknown_name", text(alloc, name.items())?)
-        }
+        } => put_values(alloc, members, origin, shape, *dtype, words),
+        Body::BadLine { text } => put_text(alloc, members, "bad_line", text),
+        Body::UnknownName { name } => put_text(alloc, members, "unknown_name", name),
         Body::Exists { at, path, events } => {
-            put(members, alloc, "exists", met_of(alloc, *at, path.items())?)?;
-            put(
-                members,
-                alloc,
-                "events",
-                list_from_u64s(alloc, events.items())?,
-            )
+            put_met(alloc, members, "exists", *at, path, events)
         }
         Body::PathTaken { at, path, events } => {
-            put(
-                members,
-                alloc,
-                "path_taken",
-                met_of(alloc, *at, path.items())?,
-            )?;
-            put(
-                members,
-                alloc,
-                "events",
-                list_from_u64s(alloc, events.items())?,
-            )
+            put_met(alloc, members, "path_taken", *at, path, events)
         }
         Body::TooMany { dim } => put(members, alloc, "too_many", dim_of(alloc, *dim)?),
-        Body::BadValues { path } => put(
-            members,
-            alloc,
-            "bad_values",
-            list_from_u64s(alloc, path.items())?,
-        ),
+        Body::BadValues { path } => {
+            put(
+                members,
+                alloc,
+                "bad_values",
+                list_from_u64s(alloc, path.items())?,
+            )
+        }
         Body::StoreFailed {
             event,
             done,
             events,
-        } => {
-            put_events(alloc, members, events)?;
-            put(
-                members,
-                alloc,
-                "store_failed",
-                failure_of(alloc, *event, done.items())?,
-            )
-        }
+        } => put_failed(alloc, members, *event, done, events),
         Body::NotBuilt => put(members, alloc, "not_built", Value::Bool(true)),
         Body::Memory => put(members, alloc, "memory", Value::Bool(true)),
     }
+}
+
+fn put_opened(
+    alloc: Global,
+    members: &mut Members,
+    name: &Name,
+    dtype: Dtype,
+    shape: &Sizes,
+    events: &List<u64>,
+) -> Result<(), AllocError>
+    requires { members.old.entries ≡ [] }
+    ensures { OnOk result (members_view members.new.entries
+        ≡ members_from (parts_of (Body.Opened name.now dtype shape.now events.now))) }
+{
+    put(members, alloc, "open", text(alloc, name.items())?)?;
+    put(
+        members,
+        alloc,
+        "events",
+        list_from_u64s(alloc, events.items())?,
+    )?;
+    put(members, alloc, "dtype", text(alloc, dtype_name(dtype))?)?;
+    put(members, alloc, "domain", domain_of(alloc, shape.items())?)
+}
+
+fn put_written(
+    alloc: Global,
+    members: &mut Members,
+    cells: u64,
+    events: &List<u64>,
+) -> Result<(), AllocError>
+    requires { members.old.entries ≡ [] }
+    ensures { OnOk result (members_view members.new.entries ≡ members_from (parts_of (Body.Written cells events.now))) }
+{
+    put(members, alloc, "write", Value::from(cells))?;
+    put(
+        members,
+        alloc,
+        "commit",
+        list_from_u64s(alloc, events.items())?,
+    )
+}
+
+fn put_values(
+    alloc: Global,
+    members: &mut Members,
+    origin: &Index,
+    shape: &Sizes,
+    dtype: Dtype,
+    words: &Words,
+) -> Result<(), AllocError>
+    requires { members.old.entries ≡ [] }
+    ensures parts { OnOk result (members_view members.new.entries
+        ≡ members_from (parts_of (Body.Values origin.now shape.now dtype words.now))) }
+    ensures lists { OnOk result (list_count shape.now ≤ 2 ^ 22) }
+{
+    let values = values_of(alloc, dtype, shape.items(), words.items())?;
+    put(members, alloc, "values", values)?;
+    put(
+        members,
+        alloc,
+        "origin",
+        list_from_i64s(alloc, origin.items())?,
+    )
+}
+
+fn put_text(alloc: Global, members: &mut Members, key: &str, value: &Name) -> Result<(), AllocError>
+    requires { members.old.entries ≡ [] }
+    ensures { OnOk result (members_view members.new.entries ≡ members_from ((key.now, string value.now) ∷ [])) }
+{
+    put(members, alloc, key, text(alloc, value.items())?)
+}
+
+fn put_met(
+    alloc: Global,
+    members: &mut Members,
+    key: &str,
+    at: u64,
+    path: &Name,
+    events: &List<u64>,
+) -> Result<(), AllocError>
+    requires { members.old.entries ≡ [] }
+    ensures { OnOk result (members_view members.new.entries
+        ≡ members_from ((codes "events", numbers events.now) ∷ (key.now, met_of at path.now) ∷ [])) }
+{
+    put(members, alloc, key, met_of(alloc, at, path.items())?)?;
+    put(
+        members,
+        alloc,
+        "events",
+        list_from_u64s(alloc, events.items())?,
+    )
+}
+
+fn put_failed(
+    alloc: Global,
+    members: &mut Members,
+    event: u64,
+    done: &List<u64>,
+    events: &Option<List<u64>>,
+) -> Result<(), AllocError>
+    requires { members.old.entries ≡ [] }
+    ensures { OnOk result (members_view members.new.entries
+        ≡ members_from (parts_of (Body.StoreFailed event done.now events.now))) }
+{
+    put_events(alloc, members, events)?;
+    put(
+        members,
+        alloc,
+        "store_failed",
+        failure_of(alloc, event, done.items())?,
+    )
 }
 
 fn put_events(

@@ -2,7 +2,7 @@ use crate::{
     Answer, Body, Command, LineError, ValuesError, bad_line_text, cut, is_blank, is_ok, list_count,
     read_command, render, words_of_values,
 };
-use cells::{Dtype, Index, List, Name, Order, Sizes, Words};
+use cells::{Dtype, Index, List, Name, Order, Sizes, Words, count_cells};
 use json_forms::parse;
 use std::alloc::{AllocError, Global};
 use std::process::Abort;
@@ -60,8 +60,7 @@ fn two_dimensional_chunks(rt: HostRuntime) -> Result<(), Fail> {
     assert_eq!(rt; meta.shape.items(), [2, 3].as_slice());
     assert_eq!(rt; meta.chunks.items(), [2, 2].as_slice());
     assert_eq!(rt; meta.dtype, Dtype::I16);
-    let values = parse(rt.alloc(), b"[[1,2,3],[4,5,6]]")?;
-    let words = words_of_values(rt.alloc(), meta.dtype, meta.shape.items(), &values)?;
+    let words = given(&rt, meta.dtype, meta.shape.items(), "[[1,2,3],[4,5,6]]")??;
     assert_eq!(rt; words.as_slice(), [1, 2, 3, 4, 5, 6].as_slice());
     let written = Body::Written {
         cells: 6,
@@ -149,9 +148,11 @@ fn paths_have_good_segments(rt: HostRuntime) -> Result<(), Fail> {
         ("a\\u0000", None),
         ("a~new/b", None),
     ] {
-        match opened(&rt, path, "3", "2", "<i4")? {
-            Some((found, _)) => assert_eq!(rt; Some(found.items()), wanted, "{path}"),
-            None => assert!(rt; wanted.is_none(), "{path}"),
+        let found = opened(&rt, path, "3", "2", "<i4")?;
+        if let Some(pair) = &found {
+            assert_eq!(rt; Some(pair.0.items()), wanted, "{path}");
+        } else {
+            assert!(rt; wanted.is_none(), "{path}");
         }
     }
     Ok(())
@@ -234,6 +235,19 @@ fn bad_lines_say_why(rt: HostRuntime) -> Result<(), Fail> {
     Ok(())
 }
 
+fn given(
+    rt: &(impl Abort + AllocGlobal),
+    dtype: Dtype,
+    shape: &[u64],
+    text: &str,
+) -> Result<Result<Vec<u64>, ValuesError>, Fail> {
+    let values = parse(rt.alloc(), text.as_bytes())?;
+    match count_cells(shape, 1 << 22) {
+        Some(_) => Ok(words_of_values(rt.alloc(), dtype, shape, &values)),
+        None => panic!(rt; "too many cells"),
+    }
+}
+
 #[test]
 fn values_give_a_word_to_each_cell(rt: HostRuntime) -> Result<(), Fail> {
     for (dtype, shape, text, wanted) in [
@@ -262,8 +276,7 @@ fn values_give_a_word_to_each_cell(rt: HostRuntime) -> Result<(), Fail> {
             &[1, 2, 3, 4, 5, 65535],
         ),
     ] {
-        let values = parse(rt.alloc(), text.as_bytes())?;
-        let words = words_of_values(rt.alloc(), dtype, shape, &values)?;
+        let words = given(&rt, dtype, shape, text)??;
         assert_eq!(rt; words.as_slice(), wanted, "{text}");
     }
     Ok(())
@@ -289,8 +302,7 @@ fn values_that_do_not_fit_have_a_path(rt: HostRuntime) -> Result<(), Fail> {
         (Dtype::I32, &[2, 0], "[[],[1]]", &[1]),
         (Dtype::I32, &[4611686018427387902, 0], "[[]]", &[]),
     ] {
-        let values = parse(rt.alloc(), text.as_bytes())?;
-        match words_of_values(rt.alloc(), dtype, shape, &values) {
+        match given(&rt, dtype, shape, text)? {
             Err(ValuesError::Bad { path }) => assert_eq!(rt; path.items(), wanted, "{text}"),
             _ => panic!(rt; "{text}"),
         }
@@ -472,7 +484,12 @@ fn refusals_are_written_to_the_byte(rt: HostRuntime) -> Result<(), Fail> {
         too_many,
         false,
         "{\"line\":6,\"too_many\":{\"dim\":31}}",
-    )?;
+    )
+}
+
+#[test]
+fn bad_values_and_bare_refusals_are_written(rt: HostRuntime) -> Result<(), Fail> {
+    let alloc = rt.alloc();
     let path = list(alloc, &[])?;
     is_rendered(
         &rt,

@@ -1,5 +1,5 @@
 // Texts that may stand as a name or as a path.
-ghost use Rattle.std.specs.Prelude.{◌≡◌, IfOk, option_map, length};
+ghost use Rattle.std.specs.Prelude.{◌≡◌, IfOk, IfSome, true, option_map, length};
 ghost use Rattle.std.specs.List.{list_all};
 ghost use Rattle.script_lines.specs.Names.{is_name_byte, is_name};
 ghost use Rattle.script_lines.specs.Paths.{is_segment_byte, is_segment, segments_of, is_path, without_slash, path_of};
@@ -29,7 +29,8 @@ pub(crate) fn is_name(text: &str) -> bool
 
 /// The path that a text is, without the `/` that may stand at its end.
 pub(crate) fn path_of(text: &str) -> Option<&str>
-    ensures { option_map (λ s. s.now) result ≡ path_of text.now }
+    ensures good { IfSome result (λ s. is_path s.now ≡ true) }
+    ensures value { option_map (λ s. s.now) result ≡ path_of text.now }
 {
     let path = without_slash(text);
     if is_path(path) { Some(path) } else { None }

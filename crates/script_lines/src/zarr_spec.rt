@@ -1,10 +1,10 @@
 // The array that the Spec of an open line asks for.
-ghost use Rattle.std.specs.Prelude.{◌≡◌, ◌≤◌, ◌<◌, ◌^◌, ℕ, All, IfOk, IfSome, IsTrue, Some, length, map, option_map, option_and_then};
+ghost use Rattle.std.specs.Prelude.{◌≡◌, ◌≤◌, ◌^◌, All, IfOk, IfSome, true, map, option_map, option_and_then};
 ghost use Rattle.serde_json.specs.View.{view};
 ghost use Rattle.serde_json.specs.Find.{get, as_str};
 ghost use Rattle.json_forms.specs.Lists.{list_items};
 ghost use Rattle.zarr_chunks.specs.Metadata.{IsMetadata};
-ghost use Rattle.script_lines.specs.Forms.{text_at};
+ghost use Rattle.script_lines.specs.Paths.{is_path};
 ghost use Rattle.script_lines.specs.ZarrSpec.{dtype_of, size_between, sizes_at, are_shapes, plain_array, array_of_metadata, path_of_kvstore, path_of_spec, array_of_spec};
 
 use crate::texts::{name_of, path_of};
@@ -22,7 +22,8 @@ pub(crate) fn array_of_spec(
     alloc: Global,
     value: &Value,
 ) -> Result<Option<(Name, ZarrMeta)>, AllocError>
-    ensures { IfOk result (λ o. option_map (λ p. (p.0, p.1)) o ≡ array_of_spec (view value.now)) }
+    ensures good { IfOk result (λ o. IfSome o (λ p. is_path p.0 ≡ true)) }
+    ensures value { IfOk result (λ o. option_map (λ p. (p.0, p.1)) o ≡ array_of_spec (view value.now)) }
 {
     if !has_exactly(value, &["create", "driver", "kvstore", "metadata"]) {
         return Ok(None);
@@ -41,7 +42,8 @@ pub(crate) fn array_of_spec(
 }
 
 fn path_of_spec(value: &Value) -> Option<&str>
-    ensures { option_map (λ s. s.now) result ≡ path_of_spec (view value.now) }
+    ensures good { IfSome result (λ s. is_path s.now ≡ true) }
+    ensures value { option_map (λ s. s.now) result ≡ path_of_spec (view value.now) }
 {
     if value.get("driver")?.as_str()? != "zarr" {
         return None;
@@ -52,7 +54,8 @@ fn path_of_spec(value: &Value) -> Option<&str>
 }
 
 fn path_of_kvstore(value: &Value) -> Option<&str>
-    ensures { option_map (λ s. s.now) result ≡ path_of_kvstore (view value.now) }
+    ensures good { IfSome result (λ s. is_path s.now ≡ true) }
+    ensures value { option_map (λ s. s.now) result ≡ path_of_kvstore (view value.now) }
 {
     if !has_exactly(value, &["driver", "path"]) {
         return None;

@@ -1,11 +1,10 @@
 use Rattle.std.proofs.Common.{◌≡◌, map, get_or, length, rules, arith, ap, ◌∙◌}
 use Rattle.std.proofs.lemmas.List.{length-drop}
-use Rattle.serde_json.specs.View.{view, items_of}
-use Rattle.serde_json.specs.Data.{array}
+use Rattle.serde_json.specs.View.{view}
 use Rattle.serde_json.specs.declared.value.Value.{Array, the_lemmas}
 use Rattle.cells.specs.Places.{cell_count}
 use Rattle.json_forms.specs.Lists.{list_of}
-use Rattle.script_lines.specs.AnswerText.{rows, values_of}
+use Rattle.script_lines.specs.AnswerText.{values_of}
 use Rattle.script_lines.proofs.Rows.{behind, values_of-rows, row_more, row_all}
 use Rattle.script_lines.proofs.values.+nested.Goals as goal
 

@@ -1,5 +1,3 @@
-use Rattle.std.proofs.Common.{◌≡◌, ℕ, List, Result, Ok, Err}
-use Rattle.std.specs.Prelude.{IfOk}
 use Rattle.serde_json.specs.View.{view}
 use Rattle.script_lines.proofs.GivenWords.{full-from_given, of_dtype-from_given}
 use Rattle.script_lines.proofs.words.words_of_values.Goals as goal
