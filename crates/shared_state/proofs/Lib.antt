@@ -1,6 +1,7 @@
 pub mod Tests
 pub mod Ordering
 pub mod Histories
+pub mod Tables
 pub mod Cataloguing
 pub mod Geometry
 pub mod Puts

@@ -1,27 +1,27 @@
 -- The locations of a history's arrays, one event more, and arrays that lie apart.
-use Rattle.std.proofs.Common.{◌≡◌, ◌≢◌, ℕ, suc, ◌+◌, List, [], ◌∷◌, ◌++◌, length, map, Bool, true, false, cond, Option, Some, None, ◌⊎◌, inl, inr, refl, sym, ap, subst, ◌∙◌, arith, eqb-true, eq-eqb, append_assoc, append-nil}
+use Rattle.std.proofs.Common.{◌≡◌, ◌≢◌, ℕ, List, [], ◌∷◌, ◌++◌, map, Bool, true, false, cond, Option, Some, None, ◌⊎◌, inl, inr, refl, sym, ap, subst, ◌∙◌, eqb-true, append-nil}
 use Rattle.std.specs.Prelude.{◌==◌, ◌||◌, ◌&&◌, filter}
-use Rattle.std.specs.List.{list_any, flat_map}
+use Rattle.std.specs.List.{list_any}
 use Rattle.std.specs.Str.{bytes_eq}
 use Rattle.std.proofs.lemmas.Slice.Eq.{bytes_eq-Decides}
-use Rattle.std.proofs.lemmas.Grind.{flat_map-append, map-append}
+use Rattle.std.proofs.lemmas.Grind.{flat_map-append}
+use Rattle.std.proofs.lemmas.List.{map-append}
 use Rattle.zarr_chunks.specs.Metadata.{Metadata}
 use Rattle.shared_state.specs.History.{History}
 use Rattle.shared_state.specs.declared.array.ArrayInfo.{ArrayInfo}
 use Rattle.shared_state.specs.declared.array.Home.{Home}
 use Rattle.shared_state.specs.declared.array.Home.TheVariants.{Zarr}
-use Rattle.shared_state.specs.declared.event.Kind.{Kind}
-use Rattle.shared_state.specs.declared.event.Kind.TheVariants.{Opened, Done, Fault}
+use Rattle.shared_state.specs.declared.event.Kind.TheVariants.{Opened}
 use Rattle.shared_state.specs.declared.event.Event.{Event}
 use Rattle.shared_state.specs.Arrays.{Known, known_after}
 use Rattle.shared_state.specs.Chunks.{home_text}
-use Rattle.shared_state.specs.Legal.{begins, AreApart, IsApartFrom}
-use Rattle.shared_state.specs.Outcomes.{Outcome, location, opens, arrays_of, locations, is_below, clashes, taken, is_there, unless_taken, making_outcome, path_taken, exists, made, least}
+use Rattle.shared_state.specs.Legal.{begins, IsApartFrom}
+use Rattle.shared_state.specs.Outcomes.{location, opens, arrays_of, locations, is_below, clashes, taken, is_there, unless_taken, making_outcome, made}
 use Rattle.shared_state.specs.Catalog.{Table, IsCatalog, text_at}
 use Rattle.shared_state.proofs.Tests.{true_or_false, and_true}
 use Rattle.shared_state.proofs.Histories.{each_history}
 use Rattle.shared_state.proofs.Known.{known_split}
-use Rattle.shared_state.proofs.Ordering.{IsAmong, among_first, among_rest, among_cases, least_is, kept, filtered, least_none}
+use Rattle.shared_state.proofs.Ordering.{IsAmong, among_first, kept, least_none}
 
 abbrev loc : ArrayInfo → List ℕ
 loc info = location info.home
@@ -147,8 +147,12 @@ no_clash events here there e among =
     let parts = not_both (is_below here there) (is_below there here) apart in
     (λ same. let clash : true ≡ false = sym (subst (λ u. IsAmong u (locations events)) (sym same) among) ∙ free.1 in cc, parts.0, parts.1)
 
+slash_last : (m p : List ℕ) → (m ++ 47 ∷ p) ++ 47 ∷ [] ≡ m ++ 47 ∷ p ++ 47 ∷ []
+slash_last [] p = refl
+slash_last (x ∷ m) p = ap (λ ys. x ∷ ys) (slash_last m p)
+
 text_is : (home : Home) → home_text home ≡ location home ++ 47 ∷ []
-text_is (Zarr mount path meta) = sym (append_assoc mount (47 ∷ path) (47 ∷ []))
+text_is (Zarr mount path meta) = sym (slash_last mount path)
 
 -- a free location lies apart from each array
 pub apart_of_made : (events : History) (mount path : List ℕ) (m : Metadata) → making_outcome events (mount ++ 47 ∷ path) ≡ made → (a : ℕ) → IsApartFrom (Zarr mount path m) (known_after events a)

@@ -1,5 +1,5 @@
 -- Texts in byte order, and the least of some.
-use Rattle.std.proofs.Common.{◌≡◌, ◌≢◌, ℕ, zero, suc, ◌+◌, ◌<◌, ◌≤◌, List, [], ◌∷◌, ◌++◌, length, Bool, true, false, cond, Option, Some, None, ◌⊎◌, inl, inr, refl, sym, ap, subst, ◌∙◌, arith, eqb-true, eq-eqb, nat_lt}
+use Rattle.std.proofs.Common.{◌≡◌, ℕ, ◌≤◌, List, [], ◌∷◌, ◌++◌, length, Bool, true, false, cond, Option, Some, None, ◌⊎◌, inl, inr, refl, sym, ap, subst, ◌∙◌, arith, eqb-true, eq-eqb, nat_lt}
 use Rattle.std.specs.Prelude.{◌==◌, ◌&&◌, ◌||◌, filter}
 use Rattle.std.specs.List.{list_any}
 use Rattle.std.specs.Str.{bytes_eq}
@@ -16,7 +16,7 @@ use Rattle.shared_state.proofs.Tests.{true_or_false, and_true}
 abbrev pub cmp : List ℕ → List ℕ → Ordering
 cmp = slice_cmp nat_cmp
 
-same_byte : (x : ℕ) → nat_cmp x x ≡ Equal
+pub same_byte : (x : ℕ) → nat_cmp x x ≡ Equal
 same_byte x =
     let less : nat_lt x x ≡ false = grind (arith, nat_tests) in
     ap (λ b. cond b Less (cond (x == x) Equal Greater)) less ∙ ap (λ b. cond b Equal Greater) (eq-eqb x x refl)
@@ -44,7 +44,7 @@ then_equal Less p e = absurd (cc)
 then_equal Equal p e = (refl, e)
 then_equal Greater p e = absurd (cc)
 
-equal_texts : (xs ys : List ℕ) → cmp xs ys ≡ Equal → xs ≡ ys
+pub equal_texts : (xs ys : List ℕ) → cmp xs ys ≡ Equal → xs ≡ ys
 equal_texts [] [] e = refl
 equal_texts [] (y ∷ ys) e = absurd (cc)
 equal_texts (x ∷ xs) [] e = absurd (cc)

@@ -24,11 +24,7 @@ pub(crate) fn new_table(alloc: Global) -> Table
 }
 
 /// Puts in a location that isn't there.
-pub(crate) fn list(
-    alloc: Global,
-    table: &mut Table,
-    location: &str,
-) -> Result<(), AllocError>
+pub(crate) fn list(alloc: Global, table: &mut Table, location: &str) -> Result<(), AllocError>
     ensures listed { OnOk result (text_at table.new ≡ (λ other. if bytes_eq location.now other then Some location.now else text_at table.old other)) }
     ensures err { OnErr result (text_at table.new ≡ text_at table.old) }
 {
@@ -76,11 +72,15 @@ fn below<'a>(table: &'a Table, from: &Vec<u8>) -> Option<&'a Name>
     ensures some { IfSome result (λ text. IsLeastBelow (text_at table.now) from.now.items text.now) }
     ensures none { result ≡ None → (here : List ℕ) → begins from.now.items here ≡ true → text_at table.now here ≡ None }
 {
-    let (key, text) = table.range(from..).next()?;
-    if key.starts_with(from) {
-        Some(text)
-    } else {
-        None
+    match table.range(from..).next() {
+        Some((key, text)) => {
+            if key.starts_with(from) {
+                Some(text)
+            } else {
+                None
+            }
+        }
+        None => None,
     }
 }
 

@@ -3,6 +3,7 @@ use Rattle.std.specs.Option.{option_copied}
 use Rattle.shared_state.specs.declared.array.ArrayInfo.{ArrayInfo}
 use Rattle.shared_state.specs.Arrays.{known_after, chunk_shape}
 use Rattle.shared_state.specs.Index.{IsIndexed}
+use Rattle.shared_state.specs.Catalog.{IsCatalog}
 use Rattle.shared_state.specs.Known.{info_of}
 use Rattle.shared_state.specs.Chunks.{chunk_key}
 use Rattle.shared_state.specs.Reads.{IsDamaged}
@@ -10,6 +11,7 @@ use Rattle.shared_state.specs.Calls.{fault}
 use Rattle.shared_state.specs.State.{StateOf}
 use Rattle.shared_state.proofs.Histories.{known_after-more}
 use Rattle.shared_state.proofs.Indexing.{indexed_same}
+use Rattle.shared_state.proofs.Listing.{catalog_same}
 use Rattle.shared_state.proofs.Fetching.{known_info, info_same, fetched, damage}
 use Rattle.shared_state.proofs.state.State.fetch.Goals as goal
 
@@ -24,7 +26,10 @@ pub invariant_of-self-in-Err-Failed : goal.invariant_of-self-in-Err-Failed
 invariant_of-self-in-Err-Failed g c =
     let grown = c.add-event.ensures.items ∙ ap (λ es. es ++ fault c.args.owner c.in_ok-mount-in-Err-Failed.mount ∷ []) c.in_ok-reserve-in-Err-Failed.ensures.items in
     let e = fault c.args.owner c.in_ok-mount-in-Err-Failed.mount in
-    subst (λ es. IsIndexed es c.self.inside.places.items) (sym grown) (indexed_same c.self.inside.events.items c.self.inside.places.items e c.self.invariant.indexed (λ a. known_after-more c.self.inside.events.items e a) refl)
+    record {
+      indexed = subst (λ es. IsIndexed es c.self.inside.places.items) (sym grown) (indexed_same c.self.inside.events.items c.self.inside.places.items e c.self.invariant.indexed (λ a. known_after-more c.self.inside.events.items e a) refl);
+      catalog = subst (λ es. IsCatalog es c.self.inside.table) (sym grown) (catalog_same c.self.inside.events.items e c.self.inside.table refl c.self.invariant.catalog);
+    }
 
 pub returns-in-Ok-clause-cells : goal.returns-in-Ok-clause-cells
 returns-in-Ok-clause-cells g c = λ start consistent k known.

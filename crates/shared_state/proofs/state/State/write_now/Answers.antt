@@ -6,11 +6,13 @@ use Rattle.kv_face.specs.Store.{keys_of, are_together, after}
 use Rattle.shared_state.specs.declared.array.ArrayInfo.{ArrayInfo}
 use Rattle.shared_state.specs.Arrays.{known_after}
 use Rattle.shared_state.specs.Index.{IsIndexed}
+use Rattle.shared_state.specs.Catalog.{IsCatalog}
 use Rattle.shared_state.specs.Known.{info_of}
 use Rattle.shared_state.specs.Calls.{fault, done_write, plain}
 use Rattle.shared_state.specs.State.{StateOf}
 use Rattle.shared_state.proofs.Histories.{known_after-more}
 use Rattle.shared_state.proofs.Indexing.{indexed_same}
+use Rattle.shared_state.proofs.Listing.{catalog_same}
 use Rattle.shared_state.proofs.Fetching.{found, writable, changes_distinct, write_of, consistent_write, consistent_fault}
 use Rattle.shared_state.proofs.state.State.write_now.Goals as goal
 
@@ -39,7 +41,10 @@ invariant_of-self-in-Ok g c =
     let e = done_write c.args.owner c.args.line plain c.in-Some.info.now c.args.words.now in
     let grown : c.add.new.events.items ≡ c.self.inside.events.items ++ e ∷ [] =
     c.add.ensures.items ∙ ap (λ es. es ++ c.in_ok-done.done ∷ []) c.in_ok-reserve.ensures.items ∙ ap (λ d. c.self.inside.events.items ++ d ∷ []) c.in_ok-done.ensures in
-    subst (λ es. IsIndexed es c.self.inside.places.items) (sym grown) (indexed_same c.self.inside.events.items c.self.inside.places.items e c.self.invariant.indexed (λ a. known_after-more c.self.inside.events.items e a) refl)
+    record {
+      indexed = subst (λ es. IsIndexed es c.self.inside.places.items) (sym grown) (indexed_same c.self.inside.events.items c.self.inside.places.items e c.self.invariant.indexed (λ a. known_after-more c.self.inside.events.items e a) refl);
+      catalog = subst (λ es. IsCatalog es c.self.inside.table) (sym grown) (catalog_same c.self.inside.events.items e c.self.inside.table refl c.self.invariant.catalog);
+    }
 
 pub returns-in-Ok-clause-consistent : goal.returns-in-Ok-clause-consistent
 returns-in-Ok-clause-consistent g c = λ start consistent.
@@ -58,7 +63,10 @@ pub invariant_of-self-in-Err-Failed : goal.invariant_of-self-in-Err-Failed
 invariant_of-self-in-Err-Failed g c =
     let e = fault c.args.owner c.in_ok-mount.mount in
     let grown : c.add-event.new.events.items ≡ c.self.inside.events.items ++ e ∷ [] = c.add-event.ensures.items ∙ ap (λ es. es ++ e ∷ []) c.in_ok-reserve.ensures.items in
-    subst (λ es. IsIndexed es c.self.inside.places.items) (sym grown) (indexed_same c.self.inside.events.items c.self.inside.places.items e c.self.invariant.indexed (λ a. known_after-more c.self.inside.events.items e a) refl)
+    record {
+      indexed = subst (λ es. IsIndexed es c.self.inside.places.items) (sym grown) (indexed_same c.self.inside.events.items c.self.inside.places.items e c.self.invariant.indexed (λ a. known_after-more c.self.inside.events.items e a) refl);
+      catalog = subst (λ es. IsCatalog es c.self.inside.table) (sym grown) (catalog_same c.self.inside.events.items e c.self.inside.table refl c.self.invariant.catalog);
+    }
 
 pub returns-in-Err-Failed-clause-consistent : goal.returns-in-Err-Failed-clause-consistent
 returns-in-Err-Failed-clause-consistent g c = λ start consistent.
