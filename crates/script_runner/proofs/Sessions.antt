@@ -1,5 +1,5 @@
 -- What calls of the state make of a session.
-use Rattle.std.proofs.Common.{◌≡◌, ◌≢◌, ℕ, ◌+◌, ◌<◌, ◌≤◌, List, [], ◌∷◌, ◌++◌, length, map, Option, Some, None, Bool, true, false, cond, inl, inr, refl, sym, ap, subst, ◌∙◌, arith, eq-eqb, eqb-true, length-append}
+use Rattle.std.proofs.Common.{◌≡◌, ℕ, ◌+◌, ◌<◌, ◌≤◌, List, [], ◌∷◌, ◌++◌, length, map, Option, Some, None, Bool, true, false, cond, inl, inr, refl, sym, ap, subst, ◌∙◌, arith, eq-eqb, eqb-true, length-append}
 use Rattle.std.specs.Prelude.{◌==◌, count_by, unwrap_or}
 use Rattle.std.specs.Str.{bytes_eq}
 use Rattle.std.specs.FinMap as finmap
@@ -14,21 +14,19 @@ use Rattle.shared_state.specs.declared.array.Home.{Home}
 use Rattle.shared_state.specs.declared.array.Home.TheVariants.{Zarr}
 use Rattle.shared_state.specs.declared.error.Damage.{Damage}
 use Rattle.shared_state.specs.declared.event.Mode.{Mode}
-use Rattle.shared_state.specs.declared.event.Event.{Event}
 use Rattle.shared_state.specs.declared.event.Kind.TheVariants.{Opened}
 use Rattle.shared_state.specs.Legal.{is_opening}
 use Rattle.shared_state.specs.Joint.{IsJoint}
 use Rattle.shared_state.specs.Writes.{read_values}
-use Rattle.shared_state.specs.Plain.{plain_after}
 use Rattle.shared_state.specs.Content.{world_after}
-use Rattle.shared_state.specs.Chunks.{Chunk, chunk_key}
+use Rattle.shared_state.specs.Chunks.{chunk_key}
 use Rattle.shared_state.specs.Reads.{IsNoChunk, IsDamagedIn}
 use Rattle.shared_state.specs.Paste.{IsWholeArray}
 use Rattle.shared_state.specs.Outcomes.{made}
-use Rattle.shared_state.specs.Calls.{Adds, opened, done_write, fault, new_info}
+use Rattle.shared_state.specs.Calls.{Adds, opened, done_write, fault}
 use Rattle.shared_state.proofs.Tests.{true_or_false}
 use Rattle.shared_state.proofs.Histories.{known_after-more}
-use Rattle.shared_state.proofs.Known.{IsGood, known_good}
+use Rattle.shared_state.proofs.Known.{known_good}
 use Rattle.shared_state.proofs.Untouched.{known_kept}
 use Rattle.shared_state.proofs.Apart.{as_metadata, meta_of}
 use Rattle.shared_state.proofs.Openings.{known_below}

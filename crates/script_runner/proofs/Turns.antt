@@ -1,5 +1,5 @@
 -- The turn of a line that names an array.
-use Rattle.std.proofs.Common.{◌≡◌, ℕ, List, Option, Some, None, refl, sym, ap, subst, ◌∙◌}
+use Rattle.std.proofs.Common.{◌≡◌, ℕ, List, Option, Some, None, refl, sym, subst}
 use Rattle.shared_state.specs.History.{History}
 use Rattle.shared_state.specs.declared.array.ArrayRef.{ArrayRef}
 use Rattle.script_lines.specs.declared.answer.Body.{Body}

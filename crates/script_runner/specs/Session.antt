@@ -2,7 +2,6 @@
 use Rattle.std.specs.Prelude.{ℕ, ◌+◌, pos, List, [], ◌∷◌, ◌++◌, map, length, replicate, codes, Option, Some, None, Ok, Err, unwrap_or, count_by, if◌then◌else◌}
 use Rattle.std.specs.Str.{bytes_eq}
 use Rattle.zarr_chunks.specs.Metadata.{Metadata}
-use Rattle.serde_json.specs.Data.{Data}
 use Rattle.shared_state.specs.History.{History}
 use Rattle.shared_state.specs.declared.array.ArrayInfo.{ArrayInfo}
 use Rattle.shared_state.specs.declared.array.ArrayRef.{ArrayRef}
@@ -60,7 +59,7 @@ made_turn s name path m = record {
 -- what comes of an array that is to be made
 abbrev pub open_turn : Session → List ℕ → List ℕ → Metadata → Outcome → Turn
 open_turn s name path m (path_taken other) = stays s (body.PathTaken (length s.events) other [])
-open_turn s name path m (exists number) = stays s (body.Exists (length s.events) (in_memory path) [])
+open_turn s name path m exists = stays s (body.Exists (length s.events) (in_memory path) [])
 open_turn s name path m made = made_turn s name path m
 
 -- a write of a whole array

@@ -1,7 +1,6 @@
-use Rattle.std.proofs.Common.{◌≡◌, ◌*◌, ◌≤◌, ◌^◌, true, sym, ◌∙◌, arith}
+use Rattle.std.proofs.Common.{◌≡◌, true, sym, ◌∙◌, arith}
 use Rattle.std.specs.Prelude.{◌==◌}
 use Rattle.std.specs.List.{list_any}
-use Rattle.cells.specs.Places.{cell_count}
 use Rattle.script_runner.proofs.Counting.{no_cells, few_cells}
 use Rattle.script_runner.proofs.limits.too_many.Goals as goal
 

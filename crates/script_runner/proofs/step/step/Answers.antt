@@ -1,8 +1,7 @@
-use Rattle.std.proofs.Common.{◌≡◌, ◌≤◌, ℕ, length, Some, None, sym, ap, subst, ◌∙◌}
+use Rattle.std.proofs.Common.{◌≡◌, ◌≤◌, length, Some, None, sym, ap, subst, ◌∙◌}
 use Rattle.std.specs.Option.{option_copied}
 use Rattle.indexmap.specs.IndexMap.{get_by_text}
 use Rattle.serde_json.specs.View.{view}
-use Rattle.shared_state.specs.declared.array.ArrayRef.{ArrayRef}
 use Rattle.script_lines.specs.Line.{Line, writing, reading, command_of_line}
 use Rattle.script_lines.specs.NestedWords.{words_of}
 use Rattle.script_lines.specs.Seen.{seen}

@@ -1,11 +1,16 @@
-use Rattle.std.proofs.Common.{◌≡◌, None, ap, sym, subst, ◌∙◌}
+use Rattle.std.proofs.Common.{◌≡◌, List, ℕ, [], ◌∷◌, Option, Some, None, refl, rules, ap, sym, subst, ◌∙◌, append-nil}
 use Rattle.std.specs.Prelude.{string_bytes}
 use Rattle.std.specs.Str.{bytes_eq}
 use Rattle.std.specs.Map.{lookup}
 use Rattle.indexmap.specs.IndexMap.{get_by_text}
+use Rattle.script_lines.specs.AnswerText.{text_of}
+use Rattle.script_lines.specs.declared.answer.Answer.{Answer}
+use Rattle.script_runner.specs.Outside.{IsPartOf}
+use Rattle.script_runner.specs.Top.{answers_in}
 use Rattle.script_runner.specs.Kept.{IsReady}
 use Rattle.script_runner.proofs.Sessions.{ready_start, over_start}
 use Rattle.script_runner.proofs.top.run_session.Goals as goal
+use Rattle.script_runner.proofs.top.run_session.Goals.{in-Ok-ended, in-Err}
 
 pub run_lines-ended-requires-clause-ready : goal.run_lines-ended-requires-clause-ready
 run_lines-ended-requires-clause-ready g c =
@@ -15,3 +20,19 @@ run_lines-ended-requires-clause-ready g c =
 
 pub returns-in_default-clause-store : goal.returns-in_default-clause-store
 returns-in_default-clause-store g c = over_start (g.K.KvStore.contents c.args.store) c.no_session.result.history c.requires.empty (ap (λ o. o.history) c.no_session.ensures)
+
+nothing_written : (before text : List ℕ) (now : Option (List ℕ)) → now ≡ Some before → IsPartOf now before text
+nothing_written before text now told = record { front = []; rest = text; written = told ∙ ap Some (sym (append-nil before)); parts = refl }
+
+pub returns-clause-part : goal.returns-clause-part
+returns-clause-part g c = λ before told.
+    let answers = c.run_lines-ended.new.progress.answers.items in
+    let listed : c.wrap-3.result ≡ answers ∷ [] = search rules in
+    let all : answers_in c.wrap-3.result ≡ answers = ap answers_in listed ∙ append-nil answers in
+    subst (λ (log : List Answer). IsPartOf (g.O.Sink.content c.match-ended.sink) before (text_of log)) (sym all)
+    (elim c.match-ended.branch [
+      | in-Ok-ended w ↦
+          subst (λ sink. IsPartOf (g.O.Sink.content sink) before (text_of answers)) (sym w.sink-is)
+          (subst (λ (log : List Answer). IsPartOf (g.O.Sink.content w.finish-status.new.sink) before (text_of log)) w.deref.ensures.value (w.finish-status.ensures.part before told))
+      | in-Err w ↦ nothing_written before (text_of answers) (g.O.Sink.content c.match-ended.sink) (ap g.O.Sink.content w.sink-is ∙ told)
+    ])
