@@ -19,4 +19,6 @@ pub use outside::{Scripts, Sink};
 pub use top::{Outcome, run};
 
 #[cfg(test)]
+mod array_tests;
+#[cfg(test)]
 mod tests;

@@ -31,7 +31,7 @@ const METADATA: &str =
 
 /// The calls of each kind that are to fail; none where the number is 0.
 #[derive(Clone, Copy)]
-struct Faults {
+pub(crate) struct Faults {
     get: u64,
     apply: u64,
     select: u64,
@@ -39,7 +39,7 @@ struct Faults {
     write: u64,
 }
 
-const NONE: Faults = Faults {
+pub(crate) const NONE: Faults = Faults {
     get: 0,
     apply: 0,
     select: 0,
@@ -48,7 +48,7 @@ const NONE: Faults = Faults {
 };
 
 /// Runs a script named `s`.
-fn run_with(
+pub(crate) fn run_with(
     alloc: Global,
     words: &[&str],
     script: &str,
@@ -73,7 +73,7 @@ fn run_with(
 }
 
 /// Whether there are these bytes under a key; none where they are empty.
-fn is_held(store: &MemoryKv, key: &str, bytes: &[u8]) -> bool {
+pub(crate) fn is_held(store: &MemoryKv, key: &str, bytes: &[u8]) -> bool {
     match store.held(key) {
         Some(held) => held == bytes,
         None => bytes.is_empty(),
@@ -81,7 +81,7 @@ fn is_held(store: &MemoryKv, key: &str, bytes: &[u8]) -> bool {
 }
 
 /// Whether a text is these parts, one after another.
-fn is_text(text: &[u8], parts: &[&str]) -> bool {
+pub(crate) fn is_text(text: &[u8], parts: &[&str]) -> bool {
     let mut rest = text;
     for part in parts {
         let Some(after) = rest.strip_prefix(part.as_bytes()) else {
@@ -93,7 +93,12 @@ fn is_text(text: &[u8], parts: &[&str]) -> bool {
 }
 
 /// Whether a script ends with a status and these answers.
-fn answers(alloc: Global, script: &str, status: u8, parts: &[&str]) -> Result<bool, AllocError> {
+pub(crate) fn answers(
+    alloc: Global,
+    script: &str,
+    status: u8,
+    parts: &[&str],
+) -> Result<bool, AllocError> {
     let (outcome, sink, _) = run_with(alloc, &["s"], script, &NONE, 4096)?;
     Ok(outcome.status == status && outcome.script.is_none() && is_text(sink.bytes(), parts))
 }
