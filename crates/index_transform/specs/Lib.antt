@@ -1,6 +1,8 @@
 pub mod Cells
+pub mod Composing
 pub mod Edges
 pub mod Maps
+pub mod Reading
 pub mod Tightening
 pub mod Transforms
 pub mod Values

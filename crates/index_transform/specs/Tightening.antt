@@ -157,6 +157,11 @@ tightened inners outers maps =
 abbrev pub is_ordered : Bounds → Bool
 is_ordered dim = int_le dim.lo (dim.hi +ℤ pos 1)
 
+-- the bounds are in range, too
+abbrev pub are_bounds : Bounds → Bool
+are_bounds dim =
+    int_le minus_infinity dim.lo && int_lt dim.lo plus_infinity && int_lt minus_infinity dim.hi && int_le dim.hi plus_infinity && is_ordered dim
+
 -- the transform on the tightened domain; labels and maps stay
 abbrev pub on_dims : DomainAndMaps → List Bounds → DomainAndMaps
 on_dims t dims = record { domain = record { dims = dims; labels = t.domain.labels }; maps = t.maps }

@@ -7,7 +7,7 @@ ghost use Rattle.index_intervals.specs.Members.{effective_lo, effective_hi};
 ghost use Rattle.index_transform.specs.Values.{is_effective};
 ghost use Rattle.index_transform.specs.Edges.{preimage_lower, preimage_upper};
 ghost use Rattle.index_transform.specs.declared.error.ComposeError.{ComposeError};
-ghost use Rattle.index_transform.specs.Tightening.{tightened, tight_lower, tight_upper, preimages, preimages_at, met_from, greater_edge, lesser_edge, passes, overflows_at, overflows_by, goes_down, end_inside, are_ends_inside, is_inside_by, first_overflow_by, first_outside_by, tight_dims, interval_of, is_ordered};
+ghost use Rattle.index_transform.specs.Tightening.{tightened, tight_lower, tight_upper, preimages, preimages_at, met_from, greater_edge, lesser_edge, passes, overflows_at, overflows_by, goes_down, end_inside, are_ends_inside, is_inside_by, first_overflow_by, first_outside_by, tight_dims, interval_of, is_ordered, are_bounds};
 
 use crate::domain::Domain;
 use crate::edge::Edge;
@@ -334,7 +334,7 @@ fn first_outside(dims: &[Interval], outers: &[Interval], maps: &[OutMap]) -> Opt
 }
 
 // The tightened dimensions, or the first reason against them. The maps go from them too.
-fn tightened(
+pub(crate) fn tightened(
     alloc: Global,
     inners: &[Interval],
     outers: &[Interval],
@@ -348,6 +348,9 @@ fn tightened(
     ensures err { IfErr result (λ e. e ≢ ComposeError.Memory → tightened inners.now outers.now maps.now ≡ Err e) }
     ensures fit { IfOk result (λ dims. IsTrue (list_all (is_map dims.items) maps.now)) }
     ensures rank { IfOk result (λ dims. length dims.items ≡ length inners.now) }
+    ensures outer_rank { OnOk result (length maps.now ≡ length outers.now) }
+    ensures inside { IfOk result (λ dims. first_outside_by dims.items outers.now maps.now ≡ None) }
+    ensures bounds { IfOk result (λ dims. IsTrue (list_all are_bounds dims.items)) }
 {
     if maps.len() != outers.len() {
         return Err(ComposeError::Rank);
@@ -379,6 +382,7 @@ fn tight_dims(
     requires fits { first_overflow_by inners.now outers.now maps.now ≡ None }
     ensures dims { IfOk result (λ dims. dims.items ≡ tight_dims 0 inners.now outers.now maps.now) }
     ensures ordered { OnOk result (list_all is_ordered inners.now ≡ true) }
+    ensures bounds { IfOk result (λ dims. IsTrue (list_all are_bounds dims.items)) }
 {
     let mut dims = Vec::with_capacity(alloc, inners.len())?;
     for (k, inner) in inners.iter().enumerate() {
@@ -394,7 +398,8 @@ fn tight_dims(
 fn interval_of(lower: Edge, upper: Edge) -> Interval
     requires lower { ForSome lower.at IsIndex }
     requires upper { ForSome upper.at IsIndex }
-    ensures { result ≡ interval_of lower upper }
+    ensures value { result ≡ interval_of lower upper }
+    ensures bounds { IsTrue (are_bounds result) }
 {
     let lo = bound_of(lower.at, -INFINITY);
     let hi = bound_of(upper.at, INFINITY);

@@ -5,7 +5,7 @@ use Rattle.index_intervals.specs.Bounds.{Bounds}
 use Rattle.index_transform.specs.Maps.{size_of}
 use Rattle.index_transform.specs.Walks.{IsNonEmpty, lows}
 use Rattle.index_transform.proofs.WalkLemmas.{walk_begun, IsWalk-of}
-use Rattle.index_transform.proofs.walk.Walk.new.Goals as goal
+use Rattle.index_transform.proofs.walk.Walk.over.Goals as goal
 
 pub invariant_of-result : goal.invariant_of-result
 invariant_of-result c =
