@@ -53,10 +53,13 @@ is_too_large dims inners (Indexed o s sizes entries) = not (nat_le (cell_count (
 abbrev pub closed : Bounds → Bounds
 closed dim = record dim { lo_implicit = false; hi_implicit = false }
 
--- the dimensions from this one on, each explicit on which an index array of a map depends
+-- the dimension of this number, explicit where an index array of a map depends on it
+abbrev pub closed_along : ℕ → List OutMap → Bounds → Bounds
+closed_along k maps dim = if list_any (has_array_along k) maps then closed dim else dim
+
 abbrev pub closed_dims : ℕ → List Bounds → List OutMap → List Bounds
-closed_dims dim [] maps = []
-closed_dims dim (d ∷ dims) maps = (if list_any (has_array_along dim) maps then closed d else d) ∷ closed_dims (dim + 1) dims maps
+closed_dims k [] maps = []
+closed_dims k (dim ∷ dims) maps = closed_along k maps dim ∷ closed_dims (k + 1) dims maps
 
 -- the transform of the inner labels and dimensions, which are tightened, and the composed maps
 abbrev pub joined : DomainAndMaps → DomainAndMaps → DomainAndMaps

@@ -28,11 +28,13 @@ is_read_along sizes inners dim = list_any (λ p. not (p.0 == 1) && depends_on di
 abbrev pub point : Bounds
 point = record { lo = pos 0; hi = pos 0; lo_implicit = false; hi_implicit = false }
 
--- the dimensions from this one on, but only a point of those along which the array isn't read
+-- the dimension of this number, but only a point of it where the array isn't read along it
+abbrev pub read_along : ℕ → List ℕ → List OutMap → Bounds → Bounds
+read_along k sizes inners dim = if is_read_along sizes inners k then dim else point
+
 abbrev pub read_dims : ℕ → List Bounds → List ℕ → List OutMap → List Bounds
-read_dims dim [] sizes inners = []
-read_dims dim (d ∷ dims) sizes inners =
-    (if is_read_along sizes inners dim then d else point) ∷ read_dims (dim + 1) dims sizes inners
+read_dims k [] sizes inners = []
+read_dims k (dim ∷ dims) sizes inners = read_along k sizes inners dim ∷ read_dims (k + 1) dims sizes inners
 
 -- the sizes of the array that is read: that of a dimension along which it is, else 1
 abbrev pub read_sizes : List Bounds → List ℕ → List OutMap → List ℕ

@@ -1,11 +1,11 @@
-ghost use Rattle.std.specs.Prelude.{◌≡◌, ◌≢◌, ◌≤◌, ◌<◌, ◌+ℤ◌, ◌*ℤ◌, IsTrue, IfOk, IfErr, IfSome, Ok, Err, None, false, not, length, map, slice_index_or};
+ghost use Rattle.std.specs.Prelude.{◌≡◌, ◌≢◌, ◌≤◌, ◌<◌, ◌+ℤ◌, ◌*ℤ◌, ◌||◌, IsTrue, IfOk, IfErr, IfSome, Ok, Err, None, false, not, length, map, slice_index_or};
 ghost use Rattle.std.specs.List.{list_all, list_any, position_from};
 ghost use Rattle.index_transform.specs.Maps.{is_map, is_plain};
 ghost use Rattle.index_transform.specs.Transforms.{DomainAndMaps};
 ghost use Rattle.index_transform.specs.Tightening.{first_outside_by, are_bounds, on_dims};
 ghost use Rattle.index_transform.specs.Reading.{has_array_along};
 ghost use Rattle.index_transform.specs.declared.error.ComposeError.{ComposeError};
-ghost use Rattle.index_transform.specs.Composing.{nowhere, strided_over, composed_map, is_word, passes_over, passes_word, is_too_large, closed, closed_dims, joined, joined_answer, composed};
+ghost use Rattle.index_transform.specs.Composing.{nowhere, strided_over, composed_map, is_word, passes_over, passes_word, is_too_large, closed, closed_along, closed_dims, joined, joined_answer, composed};
 
 use crate::domain::Domain;
 use crate::error::ComposeError;
@@ -80,8 +80,9 @@ fn passes_word(inners: &[OutMap], outer: &OutMap) -> bool
             stride,
             dim,
         } => {
+            let offset = *offset;
             match inners.get(*dim as usize) {
-                Some(inner) => passes_over(*offset, *stride, inner),
+                Some(inner) => passes_over(offset, *stride, inner),
                 None => false,
             }
         }
@@ -97,21 +98,47 @@ fn passes_over(offset: i64, stride: i64, inner: &OutMap) -> bool
         OutMap::Strided {
             offset: p,
             stride: q,
-            dim: _,
-        } => { !is_word(scaled(offset, stride, *p)) || !is_word(scaled(0, stride, *q)) }
+            ..
+        } => passes_either(offset, stride, *p, *q),
         OutMap::Indexed {
             offset: p,
             stride: q,
-            sizes: _,
-            entries: _,
-        } => { !is_word(scaled(offset, stride, *p)) || !is_word(scaled(0, stride, *q)) }
+            ..
+        } => passes_either(offset, stride, *p, *q),
     }
+}
+
+// Whether offset or stride of a map over one of offset `p` and stride `q` passes 64 bits.
+fn passes_either(offset: i64, stride: i64, p: i64, q: i64) -> bool
+    ensures { result ≡ (not (is_word (offset +ℤ stride *ℤ p)) || not (is_word (stride *ℤ q))) }
+{
+    !is_word(scaled(offset, stride, p)) || !is_word(product(stride, q))
 }
 
 fn is_word(x: i128) -> bool
     ensures { result ≡ is_word x }
 {
     i128::from(i64::MIN) <= x && x <= i128::from(i64::MAX)
+}
+
+fn product(x: i64, y: i64) -> i128
+    ensures { result ≡ x *ℤ y }
+{
+    i128::from(x) * i128::from(y)
+}
+
+fn offset_over(offset: i64, stride: i64, p: i64) -> i64
+    requires { IsTrue (is_word (offset +ℤ stride *ℤ p)) }
+    ensures { result ≡ offset +ℤ stride *ℤ p }
+{
+    scaled(offset, stride, p) as i64
+}
+
+fn stride_over(stride: i64, q: i64) -> i64
+    requires { IsTrue (is_word (stride *ℤ q)) }
+    ensures { result ≡ stride *ℤ q }
+{
+    product(stride, q) as i64
 }
 
 // The first output whose array, read at the inner values, has too many entries.
@@ -281,15 +308,15 @@ fn strided_over(
 {
     match inner {
         OutMap::Constant { offset: p } => Ok(OutMap::Constant {
-            offset: scaled(offset, stride, *p) as i64,
+            offset: offset_over(offset, stride, *p),
         }),
         OutMap::Strided {
             offset: p,
             stride: q,
             dim,
         } => Ok(OutMap::Strided {
-            offset: scaled(offset, stride, *p) as i64,
-            stride: scaled(0, stride, *q) as i64,
+            offset: offset_over(offset, stride, *p),
+            stride: stride_over(stride, *q),
             dim: *dim,
         }),
         OutMap::Indexed {
@@ -298,8 +325,8 @@ fn strided_over(
             sizes,
             entries,
         } => Ok(OutMap::Indexed {
-            offset: scaled(offset, stride, *p) as i64,
-            stride: scaled(0, stride, *q) as i64,
+            offset: offset_over(offset, stride, *p),
+            stride: stride_over(stride, *q),
             sizes: Sizes::wrap(Vec::from_slice(alloc, sizes.items())?),
             entries: Index::wrap(Vec::from_slice(alloc, entries.items())?),
         }),
@@ -312,17 +339,25 @@ fn closed_dims(mut dims: Vec<Interval>, maps: &[OutMap]) -> Vec<Interval>
     ensures { result.items ≡ closed_dims 0 dims.items maps.now }
 {
     for (k, dim) in dims.iter_mut().enumerate() {
-        if is_array_along(maps, k as u32) {
-            *dim = closed(dim);
-        }
+        *dim = closed_along(dim, maps, k as u32);
     }
     dims
 }
 
-fn is_array_along(maps: &[OutMap], dim: u32) -> bool
-    ensures { result ≡ list_any (has_array_along dim) maps.now }
+fn closed_along(dim: &Interval, maps: &[OutMap], k: u32) -> Interval
+    ensures { result ≡ closed_along k maps.now dim.now }
 {
-    maps.iter().any(|map| map.has_array_along(dim))
+    if is_array_along(maps, k) {
+        closed(dim)
+    } else {
+        *dim
+    }
+}
+
+fn is_array_along(maps: &[OutMap], k: u32) -> bool
+    ensures { result ≡ list_any (has_array_along k) maps.now }
+{
+    maps.iter().any(|map| map.has_array_along(k))
 }
 
 fn closed(dim: &Interval) -> Interval

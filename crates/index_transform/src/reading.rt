@@ -4,7 +4,7 @@ ghost use Rattle.cells.specs.Places.{cell_count};
 ghost use Rattle.index_transform.specs.Maps.{size_of, are_entries};
 ghost use Rattle.index_transform.specs.Values.{reaches_dim, reaches, entry_index, entry_place, has_value, map_value};
 ghost use Rattle.index_transform.specs.Cells.{is_finite, cells_of};
-ghost use Rattle.index_transform.specs.Reading.{is_read_along, point, read_dims, entry_over, can_read};
+ghost use Rattle.index_transform.specs.Reading.{is_read_along, point, read_along, read_dims, entry_over, can_read};
 ghost use Rattle.index_transform.specs.Walks.{IsCell};
 
 use crate::map::{OutMap, size_of};
@@ -80,14 +80,19 @@ pub(crate) fn read_dims(
 {
     let mut read = Vec::with_capacity(alloc, dims.len())?;
     for (k, dim) in dims.iter().enumerate() {
-        let along = if is_read_along(sizes, inners, k as u32) {
-            *dim
-        } else {
-            point()
-        };
-        read.push(along)?;
+        read.push(read_along(dim, sizes, inners, k as u32))?;
     }
     Ok(read)
+}
+
+fn read_along(dim: &Interval, sizes: &[u64], inners: &[OutMap], k: u32) -> Interval
+    ensures { result ≡ read_along k sizes.now inners.now dim.now }
+{
+    if is_read_along(sizes, inners, k) {
+        *dim
+    } else {
+        point()
+    }
 }
 
 pub(crate) fn sizes_of(alloc: Global, dims: &[Interval]) -> Result<Vec<u64>, AllocError>
