@@ -283,3 +283,55 @@ all-read p ns ms k (d ∷ ds) q h =
     told : (b : Bool) → is_read_along ns ms k ≡ b → p (cond b d point) ≡ true
     told true e = h 0 (omega arith) (let z : k + 0 ≡ k = omega arith in rw z e)
     told false e = q
+
+-- what an outer array gives, of the dimensions that its transform has
+outer-fits : (os : List Bounds) (o s : ℤ) (ns : List ℕ) (entries : List ℤ) → is_map os (Indexed o s ns entries) ≡ true
+    → (length os ≡ length ns) × (list_all (λ p. fits_dim p.0 p.1) (zip os ns) ≡ true)
+outer-fits os o s ns entries e =
+    let p = both (fits os ns) (are_entries ns entries) e in
+    let q = both (length os == length ns) (list_all (λ p. fits_dim p.0 p.1) (zip os ns)) p.0 in
+    let same : length os ≡ length ns = grind (arith, nat_tests, q.0) in
+    (same, q.1)
+
+all-inside : (ds os : List Bounds) (ms : List OutMap) → first_outside_by ds os ms ≡ None → list_all (λ p. is_inside_by ds p.0 p.1) (zip os ms) ≡ true
+all-inside ds os ms e = list_all-position_from (λ p. is_inside_by ds p.0 p.1) 0 (zip os ms) e
+
+bounds-at : (ds : List Bounds) (i : ℕ) → list_all are_bounds ds ≡ true → i < length ds → are_bounds (get_or ds i point) ≡ true
+bounds-at ds i e h = all-at are_bounds ds i (get_or ds i point) e h (get_or-inside ds i point (get_or ds i point) h)
+
+-- a dimension along which an outer array is read is finite
+pub finite-read-at : (ds os : List Bounds) (o s : ℤ) (ns : List ℕ) (entries : List ℤ) (ms : List OutMap) → length ms ≡ length os → list_all (is_map ds) ms ≡ true
+    → first_outside_by ds os ms ≡ None → list_all are_bounds ds ≡ true → is_map os (Indexed o s ns entries) ≡ true
+    → (i : ℕ) → i < length ds → is_read_along ns ms i ≡ true → is_finite (get_or ds i point) ≡ true
+finite-read-at ds os o s ns entries ms l e f b m i h r =
+    let p = outer-fits os o s ns entries m in
+    finite-along ds os ns ms i h (bounds-at ds i b h) e p.0 l p.1 (all-inside ds os ms f) r
+
+pub finite-read : (ds os : List Bounds) (o s : ℤ) (ns : List ℕ) (entries : List ℤ) (ms : List OutMap) → length ms ≡ length os → list_all (is_map ds) ms ≡ true
+    → first_outside_by ds os ms ≡ None → list_all are_bounds ds ≡ true → is_map os (Indexed o s ns entries) ≡ true → list_all is_finite (read_dims 0 ds ns ms) ≡ true
+finite-read ds os o s ns entries ms l e f b m =
+    all-read is_finite ns ms 0 ds refl
+    (λ i h r. finite-read-at ds os o s ns entries ms l e f b m i h (let z : 0 + i ≡ i = omega arith in rw z at r))
+
+pub ordered-read : (ds : List Bounds) (ns : List ℕ) (ms : List OutMap) → list_all are_bounds ds ≡ true → list_all is_ordered (read_dims 0 ds ns ms) ≡ true
+ordered-read ds ns ms b =
+    all-read is_ordered ns ms 0 ds refl (λ i h r. ordered_of (get_or ds i point) (bounds-at ds i b h))
+  where
+    ordered_of : (d : Bounds) → are_bounds d ≡ true → is_ordered d ≡ true
+    ordered_of d e = grind (arith, ints, e)
+
+-- an array can be read at a cell of the dimensions along which it is read
+pub can_read-cell : (ds os : List Bounds) (o s : ℤ) (ns : List ℕ) (entries : List ℤ) (ms : List OutMap) (xs : List ℤ) → length ms ≡ length os
+    → list_all (is_map ds) ms ≡ true → first_outside_by ds os ms ≡ None → list_all are_bounds ds ≡ true → is_map os (Indexed o s ns entries) ≡ true
+    → IsCell (read_dims 0 ds ns ms) xs → can_read os ns ds ms xs ≡ true
+can_read-cell ds os o s ns entries ms xs l e f b m c =
+    let p = outer-fits os o s ns entries m in
+    let n = read_cell-length ns ms 0 ds xs c in
+    and-true (list_all (λ p. p.0 == 1 || has_value ds xs p.1) (zip ns ms)) (reaches os ns (map (map_value ds xs) ms))
+    (known-read ds xs ns ms n e within) (reaches-read ds xs os ns ms n e p.0 l p.1 (all-inside ds os ms f) within)
+  where
+    within : IsWithinRead ds xs ns ms
+    within = λ i h r.
+        let z : 0 + i ≡ i = omega arith in
+        let t = read_cell-between ns ms 0 ds xs i point c h (rw z r) in
+        record { finite = finite-read-at ds os o s ns entries ms l e f b m i h r; above = t.0; below = t.1 }

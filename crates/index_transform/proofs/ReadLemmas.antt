@@ -12,8 +12,8 @@ use Rattle.index_transform.specs.Maps.{size_of}
 use Rattle.index_transform.specs.Cells.{counting, cells_of}
 use Rattle.index_transform.specs.Walks.{IsCell}
 use Rattle.index_transform.specs.Tightening.{is_ordered}
-use Rattle.index_transform.specs.Values.{entry_index, reaches_dim, reaches, entry_place}
-use Rattle.index_transform.specs.Reading.{is_read_along, read_along, read_dims}
+use Rattle.index_transform.specs.Values.{entry_index, reaches_dim, reaches, entry_place, has_value, map_value}
+use Rattle.index_transform.specs.Reading.{is_read_along, read_along, read_dims, point, can_read}
 use Rattle.index_transform.proofs.EntryLemmas.{IsAlong, reaches-lengths}
 use Rattle.index_transform.proofs.InsideLemmas.{both}
 
@@ -98,9 +98,14 @@ read_cell-between sizes ms k (d ∷ ds) (x ∷ xs) zero e c h r =
     let t = (rw z at r) in
     told (is_read_along sizes ms k) t c.0 c.1
   where
-    told : (b : Bool) → b ≡ true → ((cond b d Rattle.index_transform.specs.Reading.point).lo ≤ℤ x) → (x ≤ℤ (cond b d Rattle.index_transform.specs.Reading.point).hi) → (d.lo ≤ℤ x) × (x ≤ℤ d.hi)
+    told : (b : Bool) → b ≡ true → ((cond b d point).lo ≤ℤ x) → (x ≤ℤ (cond b d point).hi) → (d.lo ≤ℤ x) × (x ≤ℤ d.hi)
     told true f l m = (l, m)
     told false f l m = cc
 read_cell-between sizes ms k (d ∷ ds) (x ∷ xs) (suc i) e c h r =
     let z : k + suc i ≡ (k + 1) + i = omega arith in
     read_cell-between sizes ms (k + 1) ds xs i e c.2 (omega (arith, h)) ((rw z at r))
+
+-- what it takes to read an array
+pub readable : (os : List Bounds) (ns : List ℕ) (ds : List Bounds) (ms : List OutMap) (xs : List ℤ) → can_read os ns ds ms xs ≡ true
+    → (list_all (λ p. p.0 == 1 || has_value ds xs p.1) (zip ns ms) ≡ true) × (reaches os ns (map (map_value ds xs) ms) ≡ true)
+readable os ns ds ms xs e = both (list_all (λ p. p.0 == 1 || has_value ds xs p.1) (zip ns ms)) (reaches os ns (map (map_value ds xs) ms)) e

@@ -1,10 +1,11 @@
 ghost use Rattle.std.specs.Prelude.{◌≡◌, ◌≤◌, ◌<◌, ◌==◌, ◌||◌, not, ℤ, List, length, map, IsTrue, IfOk, slice_index_or};
-ghost use Rattle.std.specs.List.{list_all, zip};
+ghost use Rattle.std.specs.List.{list_all};
 ghost use Rattle.cells.specs.Places.{cell_count};
 ghost use Rattle.index_transform.specs.Maps.{size_of, are_entries};
-ghost use Rattle.index_transform.specs.Values.{reaches_dim, reaches, entry_index, entry_place, has_value, map_value};
+ghost use Rattle.index_transform.specs.Values.{reaches_dim, entry_index, entry_place, has_value, map_value};
 ghost use Rattle.index_transform.specs.Cells.{is_finite, cells_of};
 ghost use Rattle.index_transform.specs.Reading.{is_read_along, point, read_along, read_dims, entry_over, can_read};
+ghost use Rattle.index_transform.specs.Tightening.{is_ordered};
 ghost use Rattle.index_transform.specs.Walks.{IsCell};
 
 use crate::map::{OutMap, size_of};
@@ -122,8 +123,7 @@ fn place_over(
     maps: &[OutMap],
     cell: &[i64],
 ) -> usize
-    requires known { IsTrue (list_all (λ p. p.0 == 1 || has_value dims.now cell.now p.1) (zip sizes.now maps.now)) }
-    requires reached { IsTrue (reaches outers.now sizes.now (map (map_value dims.now cell.now) maps.now)) }
+    requires readable { IsTrue (can_read outers.now sizes.now dims.now maps.now cell.now) }
     requires small { cell_count sizes.now ≤ 4194304 }
     ensures value { result ≡ entry_place outers.now sizes.now (map (map_value dims.now cell.now) maps.now) }
     ensures below { result < cell_count sizes.now }
@@ -146,6 +146,7 @@ pub(crate) fn read_entries(
     maps: &[OutMap],
 ) -> Result<Vec<i64>, AllocError>
     requires finite { IsTrue (list_all is_finite read.now) }
+    requires ordered { IsTrue (list_all is_ordered read.now) }
     requires array { IsTrue (are_entries sizes.now entries.now) }
     requires readable { (cell : List ℤ) → IsCell read.now cell → IsTrue (can_read outers.now sizes.now dims.now maps.now cell) }
     ensures { IfOk result (λ gathered. gathered.items ≡ map (entry_over outers.now sizes.now entries.now dims.now maps.now) (cells_of read.now)) }
