@@ -27,7 +27,7 @@ position_from-more p f xs k x h e q =
     rw (drop-cons xs k x h, t, one) refl
 
 -- a test that no element passes fails at each place
-fails : {X : Type 0} (p : X → Bool) (y : X) (i : ℕ) (ys : List X) → cond (p y) (Some i) (position_from p (i + 1) ys) ≡ None
+pub fails : {X : Type 0} (p : X → Bool) (y : X) (i : ℕ) (ys : List X) → cond (p y) (Some i) (position_from p (i + 1) ys) ≡ None
     → (p y ≡ false) × (position_from p (i + 1) ys ≡ None)
 fails p y i ys e = told (p y) refl e
   where

@@ -1,2 +1,2 @@
-use Rattle.index_transform.proofs.FiniteLemmas.{all-read}
+use Rattle.index_transform.proofs.JoinLemmas.{IsTransform-joined}
 use Rattle.index_transform.proofs.composing.closed.Goals as goal
