@@ -142,10 +142,10 @@ tail_along : (b r : Bool) → r ≡ true → (b || r) ≡ true
 tail_along true r e = refl
 tail_along false r e = e
 
-read_head : (n : ℕ) (ns : List ℕ) (m : OutMap) (ms : List OutMap) (i : ℕ) → (n == 1) ≡ false → depends_on i m ≡ true → is_read_along (n ∷ ns) (m ∷ ms) i ≡ true
+pub read_head : (n : ℕ) (ns : List ℕ) (m : OutMap) (ms : List OutMap) (i : ℕ) → (n == 1) ≡ false → depends_on i m ≡ true → is_read_along (n ∷ ns) (m ∷ ms) i ≡ true
 read_head n ns m ms i e f = head_along (not (n == 1) && depends_on i m) (is_read_along ns ms i) (rw (e, f) refl)
 
-read_tail : (n : ℕ) (ns : List ℕ) (m : OutMap) (ms : List OutMap) (i : ℕ) → is_read_along ns ms i ≡ true → is_read_along (n ∷ ns) (m ∷ ms) i ≡ true
+pub read_tail : (n : ℕ) (ns : List ℕ) (m : OutMap) (ms : List OutMap) (i : ℕ) → is_read_along ns ms i ≡ true → is_read_along (n ∷ ns) (m ∷ ms) i ≡ true
 read_tail n ns m ms i e = tail_along (not (n == 1) && depends_on i m) (is_read_along ns ms i) e
 
 abbrev pub IsWithinRead : List Bounds → List ℤ → List ℕ → List OutMap → Type 0
@@ -293,7 +293,7 @@ outer-fits os o s ns entries e =
     let same : length os ≡ length ns = grind (arith, nat_tests, q.0) in
     (same, q.1)
 
-all-inside : (ds os : List Bounds) (ms : List OutMap) → first_outside_by ds os ms ≡ None → list_all (λ p. is_inside_by ds p.0 p.1) (zip os ms) ≡ true
+pub all-inside : (ds os : List Bounds) (ms : List OutMap) → first_outside_by ds os ms ≡ None → list_all (λ p. is_inside_by ds p.0 p.1) (zip os ms) ≡ true
 all-inside ds os ms e = list_all-position_from (λ p. is_inside_by ds p.0 p.1) 0 (zip os ms) e
 
 bounds-at : (ds : List Bounds) (i : ℕ) → list_all are_bounds ds ≡ true → i < length ds → are_bounds (get_or ds i point) ≡ true

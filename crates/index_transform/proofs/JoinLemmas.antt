@@ -30,7 +30,7 @@ pub length-closed_dims : (k : ℕ) (ds : List Bounds) (ms : List OutMap) → len
 length-closed_dims k [] ms = refl
 length-closed_dims k (d ∷ ds) ms = ap suc (length-closed_dims (k + 1) ds ms)
 
-closed_dims-at : (k : ℕ) (ds : List Bounds) (ms : List OutMap) (i : ℕ) (x : Bounds) → i < length ds
+pub closed_dims-at : (k : ℕ) (ds : List Bounds) (ms : List OutMap) (i : ℕ) (x : Bounds) → i < length ds
     → get_or (closed_dims k ds ms) i x ≡ closed_along (k + i) ms (get_or ds i x)
 closed_dims-at k [] ms i x h = absurd (omega (arith, h))
 closed_dims-at k (d ∷ ds) ms zero x h = let z : k + 0 ≡ k = omega arith in rw z refl

@@ -12,3 +12,4 @@ pub mod ReadLemmas
 pub mod FiniteLemmas
 pub mod JoinLemmas
 pub mod ValueLemmas
+pub mod AgreeLemmas

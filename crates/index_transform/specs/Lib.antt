@@ -1,3 +1,4 @@
+pub mod Agreeing
 pub mod Cells
 pub mod Composing
 pub mod Edges

@@ -3,6 +3,7 @@ ghost use Rattle.std.specs.List.{list_all, list_any, position_from};
 ghost use Rattle.index_transform.specs.Maps.{is_map, is_plain};
 ghost use Rattle.index_transform.specs.Transforms.{DomainAndMaps};
 ghost use Rattle.index_transform.specs.Tightening.{first_outside_by, are_bounds, on_dims};
+ghost use Rattle.index_transform.specs.Agreeing.{Agrees, GoesInto};
 ghost use Rattle.index_transform.specs.Reading.{has_array_along};
 ghost use Rattle.index_transform.specs.declared.error.ComposeError.{ComposeError};
 ghost use Rattle.index_transform.specs.Composing.{nowhere, strided_over, composed_map, is_word, passes_over, passes_word, is_too_large, closed, closed_along, closed_dims, joined, joined_answer, composed};
@@ -43,6 +44,8 @@ pub fn compose(
 ) -> Result<Transform, ComposeError>
     ensures ok { IfOk result (λ t. composed outer.now inner.now ≡ Ok t) }
     ensures err { IfErr result (λ e. e ≢ ComposeError.Memory → composed outer.now inner.now ≡ Err e) }
+    ensures agrees { IfOk result (λ t. Agrees t outer.now inner.now) }
+    ensures inside { IfOk result (λ t. GoesInto t.domain.dims inner.now outer.now.domain.dims) }
 {
     let dims = tightened(
         alloc,

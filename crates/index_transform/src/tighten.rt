@@ -20,7 +20,10 @@ use std::alloc::{AllocError, Global};
 
 impl Transform {
     ghost use Rattle.index_transform.specs.declared.error.ComposeError.{ComposeError};
+    ghost use Rattle.std.specs.Prelude.{List, ℤ};
+    ghost use Rattle.index_transform.specs.Agreeing.{GoesInto};
     ghost use Rattle.index_transform.specs.Tightening.{tighten_answer};
+    ghost use Rattle.index_transform.specs.Values.{value_at};
 
     /// Tightens the domain to the indices whose output numbers lie in the outer domain. Labels and maps stay.
     ///
@@ -39,6 +42,8 @@ impl Transform {
         ensures ok { OnOk result (tighten_answer self.old outer.now ≡ Ok self.new) }
         ensures err { IfErr result (λ e. e ≢ ComposeError.Memory → tighten_answer self.old outer.now ≡ Err e) }
         ensures unchanged { IfErr result (λ e. self.new ≡ self.old) }
+        ensures values { OnOk result ((index : List ℤ) → value_at self.new index ≡ value_at self.old index) }
+        ensures inside { OnOk result (GoesInto self.new.domain.dims self.new outer.now.dims) }
     {
         let dims = tightened(
             alloc,
@@ -351,6 +356,7 @@ pub(crate) fn tightened(
     ensures outer_rank { OnOk result (length maps.now ≡ length outers.now) }
     ensures inside { IfOk result (λ dims. first_outside_by dims.items outers.now maps.now ≡ None) }
     ensures bounds { IfOk result (λ dims. IsTrue (list_all are_bounds dims.items)) }
+    ensures ordered { OnOk result (list_all is_ordered inners.now ≡ true) }
 {
     if maps.len() != outers.len() {
         return Err(ComposeError::Rank);
