@@ -12,7 +12,8 @@ use Rattle.index_transform.specs.Walks.{IsCell}
 use Rattle.index_transform.specs.Transforms.{DomainAndMaps, IsTransform}
 use Rattle.index_transform.specs.Values.{is_effective, map_value, value_at, first_outside}
 use Rattle.index_transform.specs.Reading.{has_array_along, depends_on, point}
-use Rattle.index_transform.specs.Tightening.{tightened, tight_dims, first_overflow_by, first_outside_by, unless_overflow_by, unless_outside_by, on_dims, on_result, is_ordered, is_inside_by, tighten_answer}
+use Rattle.index_transform.specs.Tightening.{tightened, tight_dims, first_overflow_by, unless_overflow_by, unless_outside_by, on_dims, on_result, is_ordered, tighten_answer}
+use Rattle.index_transform.specs.Inside.{first_outside_by, is_inside_by}
 use Rattle.index_transform.specs.Composing.{composed_map, closed, closed_along, closed_dims, joined}
 use Rattle.index_transform.specs.Agreeing.{reads_along, IsCovered, Agrees, GoesInto}
 use Rattle.index_transform.proofs.FiniteLemmas.{IsIn, IsWithinFor, value-inside, all-inside}

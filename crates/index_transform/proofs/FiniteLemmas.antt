@@ -11,7 +11,8 @@ use Rattle.index_transform.specs.declared.map.OutMap.{OutMap}
 use Rattle.index_transform.specs.declared.map.OutMap.TheVariants.{Constant, Strided, Indexed}
 use Rattle.index_transform.specs.Maps.{size_of, is_fixed, fits_dim, fits, are_entries, is_map}
 use Rattle.index_transform.specs.Cells.{is_finite}
-use Rattle.index_transform.specs.Tightening.{is_ordered, are_bounds, goes_down, end_inside, are_ends_inside, is_inside_by, first_outside_by}
+use Rattle.index_transform.specs.Tightening.{is_ordered, are_bounds}
+use Rattle.index_transform.specs.Inside.{goes_down, end_inside, are_ends_inside, is_inside_by, first_outside_by}
 use Rattle.index_transform.specs.Values.{reaches_dim, reaches, has_value, is_effective, entry_place, map_value}
 use Rattle.index_transform.specs.Walks.{IsCell}
 use Rattle.index_transform.specs.Reading.{depends_on, is_read_along, read_along, read_dims, point, can_read}

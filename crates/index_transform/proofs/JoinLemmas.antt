@@ -15,7 +15,8 @@ use Rattle.index_transform.specs.declared.map.OutMap.TheVariants.{Constant, Stri
 use Rattle.index_transform.specs.Maps.{size_of, is_fixed, fits_dim, fits, are_entries, is_map, is_plain, has_ranks}
 use Rattle.index_transform.specs.Transforms.{DomainAndMaps, IsTransform}
 use Rattle.index_transform.specs.Cells.{is_finite, cells_of}
-use Rattle.index_transform.specs.Tightening.{tightened, first_outside_by, are_bounds, on_dims}
+use Rattle.index_transform.specs.Tightening.{tightened, are_bounds, on_dims}
+use Rattle.index_transform.specs.Inside.{first_outside_by}
 use Rattle.index_transform.specs.Reading.{has_array_along, is_read_along, read_along, read_dims, read_sizes, read_entries, entry_over, point}
 use Rattle.index_transform.specs.Composing.{nowhere, strided_over, composed_map, passes_word, is_too_large, closed, closed_along, closed_dims, joined, composed}
 use Rattle.index_transform.specs.declared.error.ComposeError.TheVariants.{Overflow, TooLarge}

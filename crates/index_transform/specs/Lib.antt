@@ -2,6 +2,7 @@ pub mod Agreeing
 pub mod Cells
 pub mod Composing
 pub mod Edges
+pub mod Inside
 pub mod Maps
 pub mod Reading
 pub mod Tightening

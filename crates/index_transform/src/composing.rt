@@ -2,7 +2,8 @@ ghost use Rattle.std.specs.Prelude.{◌≡◌, ◌≢◌, ◌≤◌, ◌<◌, �
 ghost use Rattle.std.specs.List.{list_all, list_any, position_from};
 ghost use Rattle.index_transform.specs.Maps.{is_map, is_plain};
 ghost use Rattle.index_transform.specs.Transforms.{DomainAndMaps};
-ghost use Rattle.index_transform.specs.Tightening.{first_outside_by, are_bounds, on_dims};
+ghost use Rattle.index_transform.specs.Tightening.{are_bounds, on_dims};
+ghost use Rattle.index_transform.specs.Inside.{first_outside_by};
 ghost use Rattle.index_transform.specs.Agreeing.{Agrees, GoesInto};
 ghost use Rattle.index_transform.specs.Reading.{has_array_along};
 ghost use Rattle.index_transform.specs.declared.error.ComposeError.{ComposeError};

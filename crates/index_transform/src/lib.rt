@@ -10,6 +10,7 @@ mod count;
 mod domain;
 mod edge;
 mod error;
+mod inside;
 mod map;
 mod reading;
 mod tighten;
