@@ -27,3 +27,5 @@ pub use walk::Walk;
 
 #[cfg(test)]
 mod tests;
+#[cfg(test)]
+mod tests_compose;
