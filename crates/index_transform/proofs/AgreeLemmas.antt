@@ -1,23 +1,23 @@
 -- What a composition and a tightened transform have of their parts.
-use Rattle.std.proofs.Common.{◌≡◌, ◌∙◌, zero, suc, ℕ, ◌+◌, ◌<◌, ◌==◌, Bool, true, false, cond, not, ◌&&◌, List, [], ◌∷◌, length, map, get_or, refl, sym, ap, subst, arith, ℤ, pos, ◌≤ℤ◌, Option, Some, None, Result, Ok, Err}
+use Rattle.std.proofs.Common.{◌≡◌, ◌∙◌, zero, suc, ℕ, ◌+◌, ◌<◌, ◌==◌, Bool, true, false, cond, not, List, [], ◌∷◌, length, map, get_or, refl, sym, ap, subst, arith, ℤ, pos, ◌≤ℤ◌, Option, Some, None, Result, Ok, Err}
 use Rattle.std.proofs.lemmas.Bool.Decides.{nat_tests}
 use Rattle.std.specs.List.{list_all, list_any, zip, position_from}
-use Rattle.index_intervals.specs.Bounds.{Bounds, is_index}
+use Rattle.index_intervals.specs.Bounds.{Bounds}
 use Rattle.index_transform.specs.declared.map.OutMap.{OutMap}
 use Rattle.index_transform.specs.declared.error.ComposeError.{ComposeError}
-use Rattle.index_transform.specs.declared.error.ComposeError.TheVariants.{Rank, Overflow, Outside}
+use Rattle.index_transform.specs.declared.error.ComposeError.TheVariants.{Rank}
 use Rattle.index_transform.specs.Maps.{is_map}
 use Rattle.index_transform.specs.Cells.{is_finite}
 use Rattle.index_transform.specs.Walks.{IsCell}
 use Rattle.index_transform.specs.Transforms.{DomainAndMaps, IsTransform}
 use Rattle.index_transform.specs.Values.{is_effective, map_value, value_at, first_outside}
-use Rattle.index_transform.specs.Reading.{has_array_along, depends_on, point}
-use Rattle.index_transform.specs.Tightening.{tightened, tight_dims, first_overflow_by, unless_overflow_by, unless_outside_by, on_dims, on_result, is_ordered, tighten_answer}
+use Rattle.index_transform.specs.Reading.{has_array_along, point}
+use Rattle.index_transform.specs.Tightening.{tightened, tight_dims, first_overflow_by, unless_overflow_by, unless_outside_by, on_dims, is_ordered}
 use Rattle.index_transform.specs.Inside.{first_outside_by, is_inside_by}
 use Rattle.index_transform.specs.Composing.{composed_map, closed, closed_along, closed_dims, joined}
-use Rattle.index_transform.specs.Agreeing.{reads_along, IsCovered, Agrees, GoesInto}
-use Rattle.index_transform.proofs.FiniteLemmas.{IsIn, IsWithinFor, value-inside, all-inside}
-use Rattle.index_transform.proofs.FitLemmas.{length-tight_dims, maps-tight}
+use Rattle.index_transform.specs.Agreeing.{Agrees, GoesInto}
+use Rattle.index_transform.proofs.FiniteLemmas.{IsIn, value-inside, all-inside}
+use Rattle.index_transform.proofs.FitLemmas.{maps-tight}
 use Rattle.index_transform.proofs.InsideLemmas.{both, and-true}
 use Rattle.index_transform.proofs.JoinLemmas.{length-closed_dims, closed_dims-at}
 use Rattle.index_transform.proofs.ValueLemmas.{values-closed, values-tight, values-composed}

@@ -1,19 +1,18 @@
 -- Reading an index array at the values of maps.
-use Rattle.std.proofs.Common.{◌≡◌, ◌≢◌, ◌∙◌, zero, suc, ℕ, ◌+◌, ◌*◌, ◌<◌, ◌==◌, Bool, true, false, cond, not, ◌&&◌, ◌||◌, List, [], ◌∷◌, ◌++◌, length, map, drop, get_or, refl, sym, ap, subst, arith, ℤ, pos, ◌+ℤ◌, ◌-ℤ◌, ◌*ℤ◌, ◌≤ℤ◌, int_le, nat_lt, unsigned_abs}
+use Rattle.std.proofs.Common.{◌≡◌, ◌≢◌, ◌∙◌, zero, suc, ℕ, ◌+◌, ◌<◌, ◌==◌, Bool, true, false, cond, ◌&&◌, ◌||◌, List, [], ◌∷◌, ◌++◌, length, map, drop, get_or, refl, sym, ap, subst, arith, ℤ, pos, ◌+ℤ◌, ◌-ℤ◌, ◌≤ℤ◌, int_le, nat_lt, unsigned_abs}
 use Rattle.std.proofs.lemmas.Int.{ints}
-use Rattle.std.proofs.lemmas.List.{get_or-map, length-map, length-drop}
+use Rattle.std.proofs.lemmas.List.{get_or-map, length-drop}
 use Rattle.std.proofs.lemmas.Bool.Decides.{nat_tests}
 use Rattle.std.proofs.Math.Seq.{drop-cons}
 use Rattle.std.specs.List.{list_all, zip, flat_map}
-use Rattle.index_intervals.specs.Bounds.{Bounds, is_index}
+use Rattle.index_intervals.specs.Bounds.{Bounds}
 use Rattle.index_transform.specs.declared.map.OutMap.{OutMap}
-use Rattle.index_transform.specs.declared.map.OutMap.TheVariants.{Constant, Strided, Indexed}
 use Rattle.index_transform.specs.Maps.{size_of}
 use Rattle.index_transform.specs.Cells.{counting, cells_of}
 use Rattle.index_transform.specs.Walks.{IsCell}
 use Rattle.index_transform.specs.Tightening.{is_ordered}
-use Rattle.index_transform.specs.Values.{entry_index, reaches_dim, reaches, entry_place, has_value, map_value}
-use Rattle.index_transform.specs.Reading.{is_read_along, read_along, read_dims, point, can_read}
+use Rattle.index_transform.specs.Values.{entry_index, reaches_dim, reaches, has_value, map_value}
+use Rattle.index_transform.specs.Reading.{is_read_along, read_dims, point, can_read}
 use Rattle.index_transform.proofs.EntryLemmas.{IsAlong, reaches-lengths}
 use Rattle.index_transform.proofs.InsideLemmas.{both}
 

@@ -14,7 +14,7 @@ use Rattle.index_transform.specs.Maps.{size_of, is_fixed, fits_dim, fits, are_en
 use Rattle.index_transform.specs.Cells.{counting, cells_of}
 use Rattle.index_transform.specs.Tightening.{tight_lower, tight_upper, interval_of, tight_dims, is_ordered}
 use Rattle.index_transform.specs.Values.{entry_index, entry_place, map_value}
-use Rattle.index_transform.specs.Reading.{has_array_along, depends_on, is_read_along, read_along, read_dims, read_sizes, read_entries, entry_over, point}
+use Rattle.index_transform.specs.Reading.{has_array_along, depends_on, is_read_along, read_along, read_dims, read_sizes, entry_over, point}
 use Rattle.index_transform.specs.Composing.{nowhere, strided_over, composed_map, closed, closed_along, closed_dims}
 use Rattle.index_transform.specs.Agreeing.{reads_along}
 use Rattle.index_transform.proofs.CellLemmas.{length-cells_of, length-flat_map, length-counting}

@@ -1,10 +1,9 @@
 -- A domain tightened by the intervals that its outputs go into.
-use Rattle.std.specs.Prelude.{ℕ, ◌+◌, ◌==◌, ℤ, pos, ◌+ℤ◌, ◌-ℤ◌, ◌*ℤ◌, int_lt, int_le, Bool, false, not, ◌&&◌, ◌||◌, if◌then◌else◌, List, [], ◌∷◌, length, fold, Option, Some, None, is_none, unwrap_or, slice_index_or, Result, Ok, Err}
-use Rattle.std.specs.Int.{int_max, int_min, is_negative}
-use Rattle.std.specs.List.{list_all, zip, position_from}
+use Rattle.std.specs.Prelude.{ℕ, ◌+◌, ◌==◌, ℤ, pos, ◌+ℤ◌, ◌-ℤ◌, int_lt, int_le, Bool, false, not, ◌&&◌, ◌||◌, if◌then◌else◌, List, [], ◌∷◌, length, fold, Option, Some, None, is_none, unwrap_or, slice_index_or, Result, Ok, Err}
+use Rattle.std.specs.Int.{int_max, int_min}
+use Rattle.std.specs.List.{zip, position_from}
 use Rattle.std.specs.Ordering.{int_eq}
 use Rattle.index_intervals.specs.Bounds.{Bounds, is_index, minus_infinity, plus_infinity}
-use Rattle.index_intervals.specs.Members.{effective_lo, effective_hi}
 use Rattle.index_transform.specs.declared.map.OutMap.{OutMap}
 use Rattle.index_transform.specs.declared.map.OutMap.TheVariants.{Constant, Strided, Indexed}
 use Rattle.index_transform.specs.declared.edge.Edge.{Edge}

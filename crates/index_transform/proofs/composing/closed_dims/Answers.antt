@@ -1,7 +1,7 @@
-use Rattle.std.proofs.Common.{◌≡◌, ◌∙◌, ◌<◌, ◌++◌, List, ap, sym, subst, arith, length, set, take, drop, rules}
+use Rattle.std.proofs.Common.{◌≡◌, ◌∙◌, ◌<◌, List, ap, sym, subst, arith, length, set}
 use Rattle.index_intervals.specs.Bounds.{Bounds}
-use Rattle.index_transform.specs.Composing.{closed_along, closed_dims}
-use Rattle.index_transform.proofs.JoinLemmas.{length-closed_dims, closed_dims-more, closed_dims-whole}
+use Rattle.index_transform.specs.Composing.{closed_along}
+use Rattle.index_transform.proofs.JoinLemmas.{closed_dims-more, closed_dims-whole}
 use Rattle.index_transform.proofs.WalkLemmas.{written_back}
 use Rattle.index_transform.proofs.composing.closed_dims.Goals as goal
 

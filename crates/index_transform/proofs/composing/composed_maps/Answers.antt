@@ -1,4 +1,3 @@
-use Rattle.std.proofs.Common.{◌≡◌}
 use Rattle.index_transform.proofs.ListLemmas.{position_from-none}
 use Rattle.index_transform.specs.Composing.{passes_word, is_too_large}
 use Rattle.index_transform.proofs.composing.composed_maps.Goals as goal

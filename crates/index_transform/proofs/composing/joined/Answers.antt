@@ -1,4 +1,4 @@
-use Rattle.std.proofs.Common.{◌≡◌, ◌∙◌, List, ℕ, ap, sym, map}
+use Rattle.std.proofs.Common.{◌∙◌, List, ap, map}
 use Rattle.index_intervals.specs.Bounds.{Bounds}
 use Rattle.index_transform.specs.declared.domain.Domain.{Domain}
 use Rattle.index_transform.specs.declared.map.OutMap.{OutMap}

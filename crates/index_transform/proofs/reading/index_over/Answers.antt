@@ -1,9 +1,9 @@
-use Rattle.std.proofs.Common.{◌≡◌, ◌<◌, ◌∙◌, ap, sym, subst, arith, rules, ℤ, ◌-ℤ◌, ◌≤ℤ◌, to_z, of_z, true, unsigned_abs}
+use Rattle.std.proofs.Common.{◌≡◌, ◌<◌, ap, sym, subst, arith, ℤ, ◌-ℤ◌, ◌≤ℤ◌, to_z, of_z, true, unsigned_abs}
 use Rattle.std.proofs.lemmas.Int.{ints}
 use Rattle.std.specs.Int.{w128}
 use Rattle.index_intervals.specs.Bounds.{Bounds}
 use Rattle.index_transform.specs.Values.{reaches_dim}
-use Rattle.index_transform.proofs.ReadLemmas.{reached_above, entry_index-other}
+use Rattle.index_transform.proofs.ReadLemmas.{reached_above}
 use Rattle.index_transform.proofs.reading.index_over.Goals as goal
 
 -- the value lies above the lower bound, by less than the size

@@ -1,6 +1,5 @@
-use Rattle.std.proofs.Common.{◌≡◌, ◌≢◌, ◌<◌, ◌+◌, ◌*◌, ◌==◌, ◌||◌, ◌∙◌, ap, sym, subst, arith, ℕ, ℤ, pos, map, drop, get_or, length, true}
+use Rattle.std.proofs.Common.{◌≡◌, ◌<◌, ◌+◌, ◌*◌, ◌==◌, ◌||◌, ◌∙◌, ap, sym, subst, arith, ℤ, pos, map, drop, get_or, length, true}
 use Rattle.std.proofs.lemmas.List.{length-map}
-use Rattle.index_transform.specs.declared.map.OutMap.{OutMap}
 use Rattle.index_transform.specs.Values.{entry_place, entry_index, map_value, has_value, reaches_dim}
 use Rattle.index_transform.proofs.EntryLemmas.{IsAlong, IsAlong-next, IsAlong-end, IsAlong-most, IsAlong-product, entry_place-below, reaches-lengths}
 use Rattle.index_transform.proofs.ListLemmas.{all-zip-at}

@@ -1,10 +1,8 @@
-use Rattle.std.proofs.Common.{◌≡◌, ◌∙◌, ◌++◌, ◌∷◌, [], List, ℕ, ℤ, pos, ap, sym, subst, rules, map, length, true, get_or, FitsSigned, w64, append_assoc}
+use Rattle.std.proofs.Common.{◌∙◌, ◌++◌, ◌∷◌, [], List, ℕ, ℤ, pos, ap, sym, subst, rules, map, length, get_or, FitsSigned, w64, append_assoc}
 use Rattle.std.proofs.lemmas.Int.{to_z-of_z}
 use Rattle.std.proofs.lemmas.List.{length-map}
-use Rattle.std.specs.List.{list_all}
 use Rattle.index_intervals.specs.Bounds.{Bounds}
-use Rattle.index_transform.specs.Cells.{cells_of}
-use Rattle.index_transform.specs.Walks.{IsCell, CellsLeft, lows}
+use Rattle.index_transform.specs.Walks.{CellsLeft}
 use Rattle.index_transform.specs.Reading.{entry_over}
 use Rattle.index_transform.proofs.ReadLemmas.{AreCells, AreCells-cells_of}
 use Rattle.index_transform.proofs.reading.read_entries.Goals as goal
