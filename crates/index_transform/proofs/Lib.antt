@@ -13,3 +13,4 @@ pub mod FiniteLemmas
 pub mod JoinLemmas
 pub mod ValueLemmas
 pub mod AgreeLemmas
+pub mod IdentityLemmas

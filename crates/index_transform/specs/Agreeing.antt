@@ -1,7 +1,8 @@
 -- How the values of composed and of tightened transforms agree with those of their parts.
-use Rattle.std.specs.Prelude.{◌≡◌, ℕ, ◌<◌, ℤ, pos, ◌≤ℤ◌, Bool, false, IsTrue, List, length, slice_index_or, None}
+use Rattle.std.specs.Prelude.{◌≡◌, ℕ, ◌+◌, ◌<◌, ℤ, pos, ◌≤ℤ◌, Bool, false, IsTrue, List, [], ◌∷◌, length, slice_index_or, None}
 use Rattle.std.specs.List.{list_all, list_any}
 use Rattle.index_intervals.specs.Bounds.{Bounds}
+use Rattle.index_transform.specs.declared.domain.Domain.{Domain}
 use Rattle.index_transform.specs.declared.map.OutMap.{OutMap}
 use Rattle.index_transform.specs.declared.map.OutMap.TheVariants.{Constant, Strided, Indexed}
 use Rattle.index_transform.specs.Cells.{is_finite}
@@ -31,3 +32,11 @@ Agrees t outer inner =
 -- the cells of a finite domain go into an outer domain: there each number is an effective member
 abbrev pub GoesInto : List Bounds → DomainAndMaps → List Bounds → Type 0
 GoesInto dims t outers = IsTrue (list_all is_finite dims) → (cell : List ℤ) → IsCell dims cell → first_outside outers (value_at t cell) ≡ None
+
+-- the identity over a domain: each output is the index along its dimension
+abbrev pub identity_maps : ℕ → List Bounds → List OutMap
+identity_maps dim [] = []
+identity_maps dim (d ∷ dims) = Strided (pos 0) (pos 1) dim ∷ identity_maps (dim + 1) dims
+
+abbrev pub identity_over : Domain → DomainAndMaps
+identity_over domain = record { domain = domain; maps = identity_maps 0 domain.dims }

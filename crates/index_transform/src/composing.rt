@@ -1,13 +1,12 @@
-ghost use Rattle.std.specs.Prelude.{◌≡◌, ◌≢◌, ◌≤◌, ◌<◌, ◌+ℤ◌, ◌*ℤ◌, ◌||◌, IsTrue, IfOk, IfErr, IfSome, Ok, Err, None, false, not, length, map, slice_index_or};
+ghost use Rattle.std.specs.Prelude.{◌≡◌, ◌≢◌, ◌≤◌, ◌<◌, ◌+ℤ◌, ◌*ℤ◌, ◌||◌, IsTrue, IfOk, IfErr, IfSome, Ok, Err, None, false, not, length, map};
 ghost use Rattle.std.specs.List.{list_all, list_any, position_from};
-ghost use Rattle.index_transform.specs.Maps.{is_map, is_plain};
-ghost use Rattle.index_transform.specs.Transforms.{DomainAndMaps};
+ghost use Rattle.index_transform.specs.Maps.{is_map};
 ghost use Rattle.index_transform.specs.Tightening.{are_bounds, on_dims};
 ghost use Rattle.index_transform.specs.Inside.{first_outside_by};
 ghost use Rattle.index_transform.specs.Agreeing.{Agrees, GoesInto};
 ghost use Rattle.index_transform.specs.Reading.{has_array_along};
 ghost use Rattle.index_transform.specs.declared.error.ComposeError.{ComposeError};
-ghost use Rattle.index_transform.specs.Composing.{nowhere, strided_over, composed_map, is_word, passes_over, passes_word, is_too_large, closed, closed_along, closed_dims, joined, joined_answer, composed};
+ghost use Rattle.index_transform.specs.Composing.{strided_over, composed_map, is_word, passes_over, passes_word, is_too_large, closed, closed_along, closed_dims, joined, composed};
 
 use crate::domain::Domain;
 use crate::error::ComposeError;
@@ -35,7 +34,7 @@ use std::alloc::{AllocError, Global};
 /// - `Outside` with the first inner output that has a number outside the outer effective interval.
 /// - `Overflow` with the first output whose offset or stride passes 64 bits.
 /// - `TooLarge` with the first output whose index array has more than 2^22 entries.
-/// - `Memory`, which may come before any of these but `Rank`.
+/// - `Memory`, which may come before another is seen.
 ///
 /// TensorStore, "Index space", "Index transform".
 pub fn compose(

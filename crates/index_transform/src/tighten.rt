@@ -1,14 +1,12 @@
-ghost use Rattle.std.specs.Prelude.{◌≡◌, ◌≢◌, ◌≤◌, ◌<◌, ◌⊎◌, ◌-ℤ◌, int_lt, if◌then◌else◌, unwrap_or, None, IfOk, IfErr, IfSome, OnOk, Ok, Err, true, pos, not, ◌+ℤ◌, ◌*ℤ◌, [], length, IsTrue, option_to_list};
+ghost use Rattle.std.specs.Prelude.{◌≡◌, ◌≢◌, ◌≤◌, ◌<◌, ◌⊎◌, ◌-ℤ◌, int_lt, if◌then◌else◌, unwrap_or, None, IfOk, IfErr, IfSome, OnOk, Ok, Err, true, pos, ◌+ℤ◌, [], length, IsTrue, option_to_list};
 ghost use Rattle.std.specs.List.{list_all};
 ghost use Rattle.index_transform.specs.Maps.{is_plain, is_map};
-ghost use Rattle.index_intervals.specs.Bounds.{is_index, IsIndex, minus_infinity, plus_infinity};
+ghost use Rattle.index_intervals.specs.Bounds.{IsIndex, minus_infinity, plus_infinity};
 ghost use Rattle.std.specs.Option.{ForSome};
-ghost use Rattle.index_intervals.specs.Members.{effective_lo, effective_hi};
-ghost use Rattle.index_transform.specs.Values.{is_effective};
 ghost use Rattle.index_transform.specs.Edges.{preimage_lower, preimage_upper};
 ghost use Rattle.index_transform.specs.declared.error.ComposeError.{ComposeError};
 ghost use Rattle.index_transform.specs.Tightening.{tightened, tight_lower, tight_upper, preimages, preimages_at, met_from, greater_edge, lesser_edge, passes, overflows_at, overflows_by, first_overflow_by, tight_dims, interval_of, is_ordered, are_bounds};
-ghost use Rattle.index_transform.specs.Inside.{goes_down, end_inside, are_ends_inside, is_inside_by, first_outside_by};
+ghost use Rattle.index_transform.specs.Inside.{first_outside_by};
 
 use crate::domain::Domain;
 use crate::edge::Edge;
@@ -22,7 +20,8 @@ use std::alloc::{AllocError, Global};
 impl Transform {
     ghost use Rattle.index_transform.specs.declared.error.ComposeError.{ComposeError};
     ghost use Rattle.std.specs.Prelude.{List, ℤ};
-    ghost use Rattle.index_transform.specs.Agreeing.{GoesInto};
+    ghost use Rattle.index_transform.specs.Agreeing.{GoesInto, identity_over};
+    ghost use Rattle.index_transform.specs.Composing.{composed};
     ghost use Rattle.index_transform.specs.Tightening.{tighten_answer};
     ghost use Rattle.index_transform.specs.Values.{value_at};
 
@@ -45,6 +44,7 @@ impl Transform {
         ensures unchanged { IfErr result (λ e. self.new ≡ self.old) }
         ensures values { OnOk result ((index : List ℤ) → value_at self.new index ≡ value_at self.old index) }
         ensures inside { OnOk result (GoesInto self.new.domain.dims self.new outer.now.dims) }
+        ensures identity { OnOk result (IfOk (composed (identity_over outer.now) self.old) (λ t. t ≡ self.new)) }
     {
         let dims = tightened(
             alloc,
