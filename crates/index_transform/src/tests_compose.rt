@@ -262,28 +262,26 @@ fn offsets_and_strides_fit_64_bits(rt: HostRuntime) -> Result<(), Fail> {
     let alloc = rt.alloc();
     let fits = Along(0, 1, 0);
     let steep = Along(0, i64::MAX, 0);
-    let rows: [(&[Form], Form, Option<ComposeError>); 5] = [
-        (
-            &[fits, fits, steep],
-            Along(2, 1, 0),
-            Some(ComposeError::Overflow { output: 2 }),
-        ),
-        (
-            &[fits, steep],
-            Along(0, 2, 0),
-            Some(ComposeError::Overflow { output: 1 }),
-        ),
-        (
-            &[Along(1, i64::MAX, 0)],
-            Fixed(1),
-            Some(ComposeError::Overflow { output: 0 }),
-        ),
-        (&[steep], Fixed(1), None),
-        (&[Along(i64::MIN, -1, 0)], fits, None),
+    let over = Some(ComposeError::Overflow { output: 0 });
+    let rows = [
+        (steep, Along(2, 1, 0), over),
+        (steep, Along(0, 2, 0), over),
+        (Along(1, i64::MAX, 0), Fixed(1), over),
+        (steep, Fixed(1), None),
+        (Along(i64::MIN, -1, 0), fits, None),
     ];
     for (outer, inner, want) in rows {
-        assert_eq!(rt; refusal(alloc, (&[NINE], outer), (&[TWO], &[inner]))?, want);
+        assert_eq!(rt;
+            refusal(alloc, (&[NINE], &[outer]), (&[TWO], &[inner]))?,
+            want
+        );
     }
+    let third = refusal(
+        alloc,
+        (&[NINE], &[fits, fits, steep]),
+        (&[TWO], &[Along(2, 1, 0)]),
+    )?;
+    assert_eq!(rt; third, Some(ComposeError::Overflow { output: 2 }));
     Ok(())
 }
 
