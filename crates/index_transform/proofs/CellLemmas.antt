@@ -10,12 +10,12 @@ use Rattle.index_transform.specs.declared.error.CountError.TheVariants.{TooMany}
 use Rattle.index_transform.specs.Maps.{size_of}
 use Rattle.index_transform.specs.Cells.{counting, members_of, cells_of, counted_from}
 
-length-counting : (x : ℤ) (n : ℕ) → length (counting x n) ≡ n
+pub length-counting : (x : ℤ) (n : ℕ) → length (counting x n) ≡ n
 length-counting x zero = refl
 length-counting x (suc n) = ap suc (length-counting (x +ℤ pos 1) n)
 
 -- one cell per member and cell of the rest
-length-flat_map : (cells : List (List ℤ)) (xs : List ℤ)
+pub length-flat_map : (cells : List (List ℤ)) (xs : List ℤ)
     → length (flat_map (λ x. map (λ cell. x ∷ cell) cells) xs) ≡ length xs * length cells
 length-flat_map cells [] = omega arith
 length-flat_map cells (x ∷ xs) =

@@ -5,7 +5,8 @@ use Rattle.index_intervals.specs.Bounds.{Bounds}
 use Rattle.index_transform.specs.declared.edge.Edge.{Edge}
 use Rattle.index_transform.specs.declared.map.OutMap.{OutMap}
 use Rattle.index_transform.specs.declared.map.OutMap.TheVariants.{Constant, Strided, Indexed}
-use Rattle.index_transform.specs.Tightening.{met_from, preimages, preimages_at, passes, end_inside, are_ends_inside}
+use Rattle.index_transform.specs.Tightening.{met_from, preimages, preimages_at, passes}
+use Rattle.index_transform.specs.Inside.{end_inside, are_ends_inside}
 use Rattle.std.specs.List.{zip, position_from}
 use Rattle.std.specs.Int.RustNames.{int_lt}
 

@@ -19,7 +19,7 @@ not-true true e = cc
 not-true false e = refl
 
 -- explicit finite bounds stay
-tight-fixed : (k : ℕ) (d : Bounds) (outers : List Bounds) (maps : List OutMap) → is_fixed d ≡ true → is_ordered d ≡ true
+pub tight-fixed : (k : ℕ) (d : Bounds) (outers : List Bounds) (maps : List OutMap) → is_fixed d ≡ true → is_ordered d ≡ true
     → interval_of (tight_lower k d outers maps) (tight_upper k d outers maps) ≡ d
 tight-fixed k d outers maps f o =
     let q = both (not d.lo_implicit && not d.hi_implicit && is_index d.lo) (is_index d.hi) f in

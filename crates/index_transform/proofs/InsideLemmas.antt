@@ -19,7 +19,7 @@ pub and-true : (s t : Bool) → s ≡ true → t ≡ true → (s && t) ≡ true
 and-true s t e f = rw e f
 
 -- an index between explicit bounds is one of so many
-reaches_between : (d : Bounds) (n : ℕ) (x : ℤ) → (n == 1) ≡ false → n ≡ size_of d → int_le d.lo x ≡ true → int_le x d.hi ≡ true → reaches_dim d n x ≡ true
+pub reaches_between : (d : Bounds) (n : ℕ) (x : ℤ) → (n == 1) ≡ false → n ≡ size_of d → int_le d.lo x ≡ true → int_le x d.hi ≡ true → reaches_dim d n x ≡ true
 reaches_between d n x e s l h =
     let m : nat_lt (unsigned_abs (x -ℤ d.lo)) n ≡ true = grind (arith, ints, nat_tests) in
     rw (e, l, m) refl

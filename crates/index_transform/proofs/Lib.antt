@@ -7,3 +7,10 @@ pub mod WalkLemmas
 pub mod EdgeLemmas
 pub mod TightLemmas
 pub mod FitLemmas
+pub mod NumberLemmas
+pub mod ReadLemmas
+pub mod FiniteLemmas
+pub mod JoinLemmas
+pub mod ValueLemmas
+pub mod AgreeLemmas
+pub mod IdentityLemmas

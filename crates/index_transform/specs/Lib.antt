@@ -1,6 +1,10 @@
+pub mod Agreeing
 pub mod Cells
+pub mod Composing
 pub mod Edges
+pub mod Inside
 pub mod Maps
+pub mod Reading
 pub mod Tightening
 pub mod Transforms
 pub mod Values

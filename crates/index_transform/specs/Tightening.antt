@@ -1,10 +1,9 @@
 -- A domain tightened by the intervals that its outputs go into.
-use Rattle.std.specs.Prelude.{ℕ, ◌+◌, ◌==◌, ℤ, pos, ◌+ℤ◌, ◌-ℤ◌, ◌*ℤ◌, int_lt, int_le, Bool, false, not, ◌&&◌, ◌||◌, if◌then◌else◌, List, [], ◌∷◌, length, fold, Option, Some, None, is_none, unwrap_or, slice_index_or, Result, Ok, Err}
-use Rattle.std.specs.Int.{int_max, int_min, is_negative}
-use Rattle.std.specs.List.{list_all, zip, position_from}
+use Rattle.std.specs.Prelude.{ℕ, ◌+◌, ◌==◌, ℤ, pos, ◌+ℤ◌, ◌-ℤ◌, int_lt, int_le, Bool, false, not, ◌&&◌, ◌||◌, if◌then◌else◌, List, [], ◌∷◌, length, fold, Option, Some, None, is_none, unwrap_or, slice_index_or, Result, Ok, Err}
+use Rattle.std.specs.Int.{int_max, int_min}
+use Rattle.std.specs.List.{zip, position_from}
 use Rattle.std.specs.Ordering.{int_eq}
 use Rattle.index_intervals.specs.Bounds.{Bounds, is_index, minus_infinity, plus_infinity}
-use Rattle.index_intervals.specs.Members.{effective_lo, effective_hi}
 use Rattle.index_transform.specs.declared.map.OutMap.{OutMap}
 use Rattle.index_transform.specs.declared.map.OutMap.TheVariants.{Constant, Strided, Indexed}
 use Rattle.index_transform.specs.declared.edge.Edge.{Edge}
@@ -13,7 +12,7 @@ use Rattle.index_transform.specs.declared.error.ComposeError.TheVariants.{Rank, 
 use Rattle.index_transform.specs.declared.domain.Domain.{Domain}
 use Rattle.index_transform.specs.Transforms.{DomainAndMaps}
 use Rattle.index_transform.specs.Edges.{lower_edge, upper_edge, preimage_lower, preimage_upper}
-use Rattle.index_transform.specs.Values.{is_effective}
+use Rattle.index_transform.specs.Inside.{first_outside_by}
 
 -- the greater of two lower edges; it is implicit where each of the two that attains it is
 abbrev pub greater_at : Edge → Edge → Option ℤ → Option ℤ → Edge
@@ -114,30 +113,6 @@ overflows_by inners outers maps outer (Indexed offset stride sizes entries) = fa
 abbrev pub first_overflow_by : List Bounds → List Bounds → List OutMap → Option ℕ
 first_overflow_by inners outers maps = position_from (λ p. overflows_by inners outers maps p.0 p.1) 0 (zip outers maps)
 
--- an infinite end goes to minus infinity by this stride
-abbrev pub goes_down : ℤ → ℤ → Bool
-goes_down stride bound = if is_negative stride then int_lt (pos 0) bound else int_lt bound (pos 0)
-
--- an end of the tightened interval goes to a number of the outer interval, or to an infinity that it has
-abbrev pub end_inside : Bounds → ℤ → ℤ → ℤ → Bool
-end_inside outer offset stride bound =
-    if is_index bound then is_effective outer (offset +ℤ stride *ℤ bound)
-    else (if goes_down stride bound then not (is_index (effective_lo outer)) else not (is_index (effective_hi outer)))
-
--- every number from the interval goes to one of the outer interval
-abbrev pub are_ends_inside : Bounds → Bounds → ℤ → ℤ → Bool
-are_ends_inside dim outer offset stride =
-    int_lt dim.hi dim.lo || (end_inside outer offset stride dim.lo && end_inside outer offset stride dim.hi)
-
--- every number of the map lies in the outer interval, as indexing goes
-abbrev pub is_inside_by : List Bounds → Bounds → OutMap → Bool
-is_inside_by dims outer (Constant offset) = is_effective outer offset
-is_inside_by dims outer (Strided offset stride dim) = are_ends_inside (slice_index_or dims dim outer) outer offset stride
-is_inside_by dims outer (Indexed offset stride sizes entries) = list_all (λ x. is_effective outer (offset +ℤ stride *ℤ x)) entries
-
-abbrev pub first_outside_by : List Bounds → List Bounds → List OutMap → Option ℕ
-first_outside_by dims outers maps = position_from (λ p. not (is_inside_by dims p.0 p.1)) 0 (zip outers maps)
-
 -- the tightened dimensions, or the first reason against them
 abbrev pub unless_overflow_by : Option ℕ → Result (List Bounds) ComposeError → Result (List Bounds) ComposeError
 unless_overflow_by None answer = answer
@@ -156,6 +131,11 @@ tightened inners outers maps =
 -- the bounds cross by one at most
 abbrev pub is_ordered : Bounds → Bool
 is_ordered dim = int_le dim.lo (dim.hi +ℤ pos 1)
+
+-- the bounds are in range, too
+abbrev pub are_bounds : Bounds → Bool
+are_bounds dim =
+    int_le minus_infinity dim.lo && int_lt dim.lo plus_infinity && int_lt minus_infinity dim.hi && int_le dim.hi plus_infinity && is_ordered dim
 
 -- the transform on the tightened domain; labels and maps stay
 abbrev pub on_dims : DomainAndMaps → List Bounds → DomainAndMaps

@@ -5,16 +5,20 @@
 //! each call gives.
 #![tactic(auto)]
 
+mod composing;
 mod count;
 mod domain;
 mod edge;
 mod error;
+mod inside;
 mod map;
+mod reading;
 mod tighten;
 mod transform;
 mod value;
 mod walk;
 
+pub use composing::compose;
 pub use domain::Domain;
 pub use error::{AtError, ComposeError, CountError, TransformError};
 pub use map::OutMap;
@@ -23,3 +27,5 @@ pub use walk::Walk;
 
 #[cfg(test)]
 mod tests;
+#[cfg(test)]
+mod tests_compose;

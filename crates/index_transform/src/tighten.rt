@@ -1,26 +1,29 @@
-ghost use Rattle.std.specs.Prelude.{◌≡◌, ◌≢◌, ◌≤◌, ◌<◌, ◌⊎◌, ◌-ℤ◌, int_lt, if◌then◌else◌, unwrap_or, None, IfOk, IfErr, IfSome, OnOk, Ok, Err, true, pos, not, ◌+ℤ◌, ◌*ℤ◌, [], length, IsTrue, option_to_list};
+ghost use Rattle.std.specs.Prelude.{◌≡◌, ◌≢◌, ◌≤◌, ◌<◌, ◌⊎◌, ◌-ℤ◌, int_lt, if◌then◌else◌, unwrap_or, None, IfOk, IfErr, IfSome, OnOk, Ok, Err, true, pos, ◌+ℤ◌, [], length, IsTrue, option_to_list};
 ghost use Rattle.std.specs.List.{list_all};
 ghost use Rattle.index_transform.specs.Maps.{is_plain, is_map};
-ghost use Rattle.index_intervals.specs.Bounds.{is_index, IsIndex, minus_infinity, plus_infinity};
+ghost use Rattle.index_intervals.specs.Bounds.{IsIndex, minus_infinity, plus_infinity};
 ghost use Rattle.std.specs.Option.{ForSome};
-ghost use Rattle.index_intervals.specs.Members.{effective_lo, effective_hi};
-ghost use Rattle.index_transform.specs.Values.{is_effective};
 ghost use Rattle.index_transform.specs.Edges.{preimage_lower, preimage_upper};
 ghost use Rattle.index_transform.specs.declared.error.ComposeError.{ComposeError};
-ghost use Rattle.index_transform.specs.Tightening.{tightened, tight_lower, tight_upper, preimages, preimages_at, met_from, greater_edge, lesser_edge, passes, overflows_at, overflows_by, goes_down, end_inside, are_ends_inside, is_inside_by, first_overflow_by, first_outside_by, tight_dims, interval_of, is_ordered};
+ghost use Rattle.index_transform.specs.Tightening.{tightened, tight_lower, tight_upper, preimages, preimages_at, met_from, greater_edge, lesser_edge, passes, overflows_at, overflows_by, first_overflow_by, tight_dims, interval_of, is_ordered, are_bounds};
+ghost use Rattle.index_transform.specs.Inside.{first_outside_by};
 
 use crate::domain::Domain;
 use crate::edge::Edge;
 use crate::error::ComposeError;
+use crate::inside::first_outside;
 use crate::map::OutMap;
 use crate::transform::Transform;
-use crate::value::{is_effective, scaled};
 use index_intervals::{INFINITY, Interval, is_index};
 use std::alloc::{AllocError, Global};
 
 impl Transform {
     ghost use Rattle.index_transform.specs.declared.error.ComposeError.{ComposeError};
+    ghost use Rattle.std.specs.Prelude.{List, ℤ};
+    ghost use Rattle.index_transform.specs.Agreeing.{GoesInto, identity_over};
+    ghost use Rattle.index_transform.specs.Composing.{composed};
     ghost use Rattle.index_transform.specs.Tightening.{tighten_answer};
+    ghost use Rattle.index_transform.specs.Values.{value_at};
 
     /// Tightens the domain to the indices whose output numbers lie in the outer domain. Labels and maps stay.
     ///
@@ -39,6 +42,9 @@ impl Transform {
         ensures ok { OnOk result (tighten_answer self.old outer.now ≡ Ok self.new) }
         ensures err { IfErr result (λ e. e ≢ ComposeError.Memory → tighten_answer self.old outer.now ≡ Err e) }
         ensures unchanged { IfErr result (λ e. self.new ≡ self.old) }
+        ensures values { OnOk result ((index : List ℤ) → value_at self.new index ≡ value_at self.old index) }
+        ensures inside { OnOk result (GoesInto self.new.domain.dims self.new outer.now.dims) }
+        ensures identity { OnOk result (IfOk (composed (identity_over outer.now) self.old) (λ t. t ≡ self.new)) }
     {
         let dims = tightened(
             alloc,
@@ -226,82 +232,6 @@ fn overflows_by(
     }
 }
 
-// Whether a number is an effective member of the interval.
-fn admits(outer: &Interval, x: i128) -> bool
-    ensures { result ≡ is_effective outer.now x }
-{
-    is_index(x) && is_effective(outer, x as i64)
-}
-
-// Whether an infinite end goes to minus infinity by this stride.
-fn goes_down(stride: i64, bound: i64) -> bool
-    ensures { result ≡ goes_down stride bound }
-{
-    if stride < 0 { bound > 0 } else { bound < 0 }
-}
-
-fn is_unlimited_below(outer: &Interval) -> bool
-    ensures { result ≡ not (is_index (effective_lo outer.now)) }
-{
-    outer.lo_implicit || outer.lo == -INFINITY
-}
-
-fn is_unlimited_above(outer: &Interval) -> bool
-    ensures { result ≡ not (is_index (effective_hi outer.now)) }
-{
-    outer.hi_implicit || outer.hi == INFINITY
-}
-
-// Whether an end of a tightened interval goes to a number of the outer interval, or to an infinity that it has.
-fn end_inside(outer: &Interval, offset: i64, stride: i64, bound: i64) -> bool
-    ensures { result ≡ end_inside outer.now offset stride bound }
-{
-    if is_index(bound.into()) {
-        admits(outer, scaled(offset, stride, bound))
-    } else if goes_down(stride, bound) {
-        is_unlimited_below(outer)
-    } else {
-        is_unlimited_above(outer)
-    }
-}
-
-// Whether every number from the interval goes to one of the outer interval.
-fn are_ends_inside(dim: &Interval, outer: &Interval, offset: i64, stride: i64) -> bool
-    ensures { result ≡ are_ends_inside dim.now outer.now offset stride }
-{
-    dim.hi < dim.lo
-        || end_inside(outer, offset, stride, dim.lo) && end_inside(outer, offset, stride, dim.hi)
-}
-
-// Whether every number of the map lies in the outer interval, as indexing goes.
-fn is_inside_by(dims: &[Interval], outer: &Interval, map: &OutMap) -> bool
-    requires { IsTrue (is_map dims.now map.now) }
-    ensures { result ≡ is_inside_by dims.now outer.now map.now }
-{
-    match map {
-        OutMap::Constant { offset } => admits(outer, (*offset).into()),
-        OutMap::Strided {
-            offset,
-            stride,
-            dim,
-        } => are_ends_inside(&dims[*dim as usize], outer, *offset, *stride),
-        OutMap::Indexed {
-            offset,
-            stride,
-            entries,
-            ..
-        } => are_inside(outer, *offset, *stride, entries.items()),
-    }
-}
-
-fn are_inside(outer: &Interval, offset: i64, stride: i64, entries: &[i64]) -> bool
-    ensures { result ≡ list_all (λ x. is_effective outer.now (offset +ℤ stride *ℤ x)) entries.now }
-{
-    entries
-        .iter()
-        .all(|x| admits(outer, scaled(offset, stride, *x)))
-}
-
 // The first output by which a bound of the domain would pass the range of indices.
 fn first_overflow(inners: &[Interval], outers: &[Interval], maps: &[OutMap]) -> Option<usize>
     requires rank { length outers.now ≡ length maps.now }
@@ -318,23 +248,8 @@ fn first_overflow(inners: &[Interval], outers: &[Interval], maps: &[OutMap]) -> 
     None
 }
 
-// The first output that leaves the outer interval.
-fn first_outside(dims: &[Interval], outers: &[Interval], maps: &[OutMap]) -> Option<usize>
-    requires rank { length outers.now ≡ length maps.now }
-    requires fit { IsTrue (list_all (is_map dims.now) maps.now) }
-    ensures value { result ≡ first_outside_by dims.now outers.now maps.now }
-    ensures bound { IfSome result (λ output. output < length maps.now) }
-{
-    for (j, map) in maps.iter().enumerate() {
-        if !is_inside_by(dims, &outers[j], map) {
-            return Some(j);
-        }
-    }
-    None
-}
-
 // The tightened dimensions, or the first reason against them. The maps go from them too.
-fn tightened(
+pub(crate) fn tightened(
     alloc: Global,
     inners: &[Interval],
     outers: &[Interval],
@@ -348,6 +263,10 @@ fn tightened(
     ensures err { IfErr result (λ e. e ≢ ComposeError.Memory → tightened inners.now outers.now maps.now ≡ Err e) }
     ensures fit { IfOk result (λ dims. IsTrue (list_all (is_map dims.items) maps.now)) }
     ensures rank { IfOk result (λ dims. length dims.items ≡ length inners.now) }
+    ensures outer_rank { OnOk result (length maps.now ≡ length outers.now) }
+    ensures inside { IfOk result (λ dims. first_outside_by dims.items outers.now maps.now ≡ None) }
+    ensures bounds { IfOk result (λ dims. IsTrue (list_all are_bounds dims.items)) }
+    ensures ordered { OnOk result (list_all is_ordered inners.now ≡ true) }
 {
     if maps.len() != outers.len() {
         return Err(ComposeError::Rank);
@@ -379,6 +298,7 @@ fn tight_dims(
     requires fits { first_overflow_by inners.now outers.now maps.now ≡ None }
     ensures dims { IfOk result (λ dims. dims.items ≡ tight_dims 0 inners.now outers.now maps.now) }
     ensures ordered { OnOk result (list_all is_ordered inners.now ≡ true) }
+    ensures bounds { IfOk result (λ dims. IsTrue (list_all are_bounds dims.items)) }
 {
     let mut dims = Vec::with_capacity(alloc, inners.len())?;
     for (k, inner) in inners.iter().enumerate() {
@@ -394,7 +314,8 @@ fn tight_dims(
 fn interval_of(lower: Edge, upper: Edge) -> Interval
     requires lower { ForSome lower.at IsIndex }
     requires upper { ForSome upper.at IsIndex }
-    ensures { result ≡ interval_of lower upper }
+    ensures value { result ≡ interval_of lower upper }
+    ensures bounds { IsTrue (are_bounds result) }
 {
     let lo = bound_of(lower.at, -INFINITY);
     let hi = bound_of(upper.at, INFINITY);

@@ -79,6 +79,17 @@ impl Transform {
         self.maps.items()
     }
 
+    // The transform of a domain and maps that keep the rules.
+    pub(crate) fn of(domain: Domain, maps: Vec<OutMap>) -> Transform
+        requires { IsTransform (record { domain = domain; maps = maps.items }) }
+        ensures { result ≡ record { domain = domain; maps = maps.items } }
+    {
+        Transform {
+            domain,
+            maps: List::wrap(maps),
+        }
+    }
+
     // Puts other dimensions in place of the domain's.
     pub(crate) fn set_dims(&mut self, dims: Vec<Interval>)
         requires rank { length dims.items ≡ length self.old.domain.dims }

@@ -34,9 +34,16 @@ impl Walk {
         requires { IsTrue (list_all is_finite domain.now.dims) }
         ensures { IfOk result (λ walk. walk ≡ record { rank = length domain.now.dims; cells = cells_of domain.now.dims }) }
     {
-        let dims = Vec::from_slice(alloc, domain.dims.items())?;
-        let next = lower_bounds(alloc, domain.dims.items())?;
-        let ended = has_empty(domain.dims.items());
+        Walk::over(alloc, domain.dims.items())
+    }
+
+    pub(crate) fn over(alloc: Global, dims: &[Interval]) -> Result<Walk, AllocError>
+        requires { IsTrue (list_all is_finite dims.now) }
+        ensures { IfOk result (λ walk. walk ≡ record { rank = length dims.now; cells = cells_of dims.now }) }
+    {
+        let next = lower_bounds(alloc, dims)?;
+        let ended = has_empty(dims);
+        let dims = Vec::from_slice(alloc, dims)?;
         Ok(Walk { dims, next, ended })
     }
 
@@ -57,7 +64,7 @@ impl Walk {
     }
 }
 
-fn lower_bounds(alloc: Global, dims: &[Interval]) -> Result<Vec<i64>, AllocError>
+pub(crate) fn lower_bounds(alloc: Global, dims: &[Interval]) -> Result<Vec<i64>, AllocError>
     ensures { IfOk result (λ los. los.items ≡ lows dims.now) }
 {
     dims.iter().map(|dim| dim.lo).collect(alloc)

@@ -2,7 +2,7 @@ use Rattle.std.proofs.Common.{◌≡◌, ap, arith, to_z, of_z, w64}
 use Rattle.std.proofs.lemmas.Int.{ints}
 use Rattle.index_intervals.specs.Bounds.{Bounds}
 use Rattle.index_transform.proofs.EdgeLemmas.{ends-both, ends-first}
-use Rattle.index_transform.proofs.tighten.are_ends_inside.Goals as goal
+use Rattle.index_transform.proofs.inside.are_ends_inside.Goals as goal
 
 pub returns-then-end_inside : goal.returns-then-end_inside
 returns-then-end_inside c =

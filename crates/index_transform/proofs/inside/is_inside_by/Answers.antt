@@ -3,9 +3,9 @@ use Rattle.std.proofs.lemmas.Int.{ints}
 use Rattle.std.proofs.lemmas.Bool.Decides.{nat_tests}
 use Rattle.index_intervals.specs.Bounds.{Bounds}
 use Rattle.index_transform.specs.declared.map.OutMap.{OutMap}
-use Rattle.index_transform.specs.Tightening.{are_ends_inside, is_inside_by}
+use Rattle.index_transform.specs.Inside.{are_ends_inside, is_inside_by}
 use Rattle.index_transform.proofs.EdgeLemmas.{get_or-inside}
-use Rattle.index_transform.proofs.tighten.is_inside_by.Goals as goal
+use Rattle.index_transform.proofs.inside.is_inside_by.Goals as goal
 
 pub returns-in-Strided : goal.returns-in-Strided
 returns-in-Strided c =
