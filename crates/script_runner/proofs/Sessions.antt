@@ -1,5 +1,5 @@
 -- What calls of the state make of a session.
-use Rattle.std.proofs.Common.{◌≡◌, ℕ, ◌+◌, ◌<◌, ◌≤◌, List, [], ◌∷◌, ◌++◌, length, map, Option, Some, None, Bool, true, false, cond, inl, inr, refl, sym, ap, subst, ◌∙◌, arith, eq-eqb, eqb-true, length-append}
+use Rattle.std.proofs.Common.{◌≡◌, ℕ, ◌+◌, ◌<◌, ◌≤◌, List, [], ◌∷◌, ◌++◌, length, map, codes, Option, Some, None, Bool, true, false, cond, inl, inr, refl, sym, ap, subst, ◌∙◌, arith, eq-eqb, eqb-true, length-append}
 use Rattle.std.specs.Prelude.{◌==◌, count_by, unwrap_or}
 use Rattle.std.specs.Str.{bytes_eq}
 use Rattle.std.specs.FinMap as finmap
@@ -17,13 +17,14 @@ use Rattle.shared_state.specs.declared.event.Mode.{Mode}
 use Rattle.shared_state.specs.declared.event.Kind.TheVariants.{Opened}
 use Rattle.shared_state.specs.Legal.{is_opening}
 use Rattle.shared_state.specs.Joint.{IsJoint}
+use Rattle.shared_state.specs.Counting.{IsCounted}
 use Rattle.shared_state.specs.Writes.{read_values}
 use Rattle.shared_state.specs.Content.{world_after}
 use Rattle.shared_state.specs.Chunks.{chunk_key}
 use Rattle.shared_state.specs.Reads.{IsNoChunk, IsDamagedIn}
 use Rattle.shared_state.specs.Paste.{IsWholeArray}
 use Rattle.shared_state.specs.Outcomes.{made}
-use Rattle.shared_state.specs.Calls.{Adds, opened, done_write, fault}
+use Rattle.shared_state.specs.Calls.{Adds, opened, done_write, fault, mount_of}
 use Rattle.shared_state.proofs.Tests.{true_or_false}
 use Rattle.shared_state.proofs.Histories.{known_after-more}
 use Rattle.shared_state.proofs.Known.{known_good}
@@ -37,7 +38,7 @@ use Rattle.script_runner.specs.Kept.{IsReady, IsOverEmpty, IsArray, IsTurn, IsFa
 
 -- an array stays what it is where the same arrays are known
 array_kept : (events later : History) (array : ArrayRef) → ((a : ℕ) → known_after later a ≡ known_after events a) → IsArray events array → IsArray later array
-array_kept events later array same h = record { known = h.known; is = same array.number ∙ h.is; ref = h.ref; shape = h.shape }
+array_kept events later array same h = record { known = h.known; is = same array.number ∙ h.is; ref = h.ref; shape = h.shape; mount = h.mount }
 
 pub ready_faulted : {contents now : Option Contents} {events later : History} {event : ℕ} (names : Names) → IsReady contents events names → IsOverEmpty now later → IsFault events later event → IsReady now later names
 ready_faulted {contents} {now} {events} {later} {event} names r consistent f = record {
@@ -68,7 +69,7 @@ ready_done {contents} {now} {events} {later} {event} line mode info words names 
 
 -- an array that is opened, and what was bound before
 module _ (contents now : Option Contents) (events later : History) (names : Names) (info : ArrayInfo) (event : ℕ) (r : IsReady contents events names) (consistent : IsOverEmpty now later) (adds : Adds events later (opened 0 info) event)
-    (number : info.number ≡ count_by is_opening events) where
+    (number : info.number ≡ count_by is_opening events) (home : mount_of info.home ≡ codes "memory") where
   older : (array : ArrayRef) → IsArray events array → IsArray later array
   older array h =
       let below : array.number < count_by is_opening events = known_below finmap.empty array.number events r.consistent.legal h.known h.is in
@@ -82,6 +83,7 @@ module _ (contents now : Option Contents) (events later : History) (names : Name
             ∙ known_kept events (opened 0 info) array.number h.known h.is (λ i e. ap (λ (j : ArrayInfo). j.number == array.number) (opened_same i info e) ∙ other);
         ref = h.ref;
         shape = h.shape;
+        mount = h.mount;
       } where
         opened_same : (i j : ArrayInfo) → Opened j ≡ Opened i → i ≡ j
         opened_same i j e = cc
@@ -94,6 +96,7 @@ module _ (contents now : Option Contents) (events later : History) (names : Name
         is = ap (λ es. known_after es info.number) adds.events ∙ known_after-more events (opened 0 info) info.number ∙ ap (λ (t : Bool). cond t (Some known) (known_after events info.number)) (eq-eqb info.number info.number refl);
         ref = refl;
         shape = refl;
+        mount = home;
       }
 
   joint_opened : IsJoint later
@@ -169,3 +172,8 @@ rank_small contents events array consistent h =
     let stored = as_metadata h.known good.stored in
     let shape : array.shape ≡ (meta_of h.known.info.home).shape = ap (λ (r : ArrayRef). r.shape) (sym h.ref) ∙ stored.shape in
     subst (λ s. length s ≤ 32) (sym shape) stored.valid.shape.rank
+
+-- no event, and no change
+pub counted_start : (start : Contents) (told : Option ℕ) → IsCounted start told told []
+counted_start start None = tt
+counted_start start (Some n) = omega arith

@@ -1,5 +1,5 @@
 -- How a session's fields stand for what has happened.
-use Rattle.std.specs.Prelude.{◌≡◌, ℕ, List, [], Option, Some}
+use Rattle.std.specs.Prelude.{◌≡◌, ◌<◌, ◌⊎◌, codes, ℕ, List, [], Option, Some}
 use Rattle.std.specs.FinMap as finmap
 use Rattle.kv_face.specs.Store.{Contents}
 use Rattle.shared_state.specs.History.{History}
@@ -7,17 +7,19 @@ use Rattle.shared_state.specs.declared.array.ArrayRef.{ArrayRef}
 use Rattle.shared_state.specs.Arrays.{Known, known_after, ref_of}
 use Rattle.shared_state.specs.Joint.{IsJoint}
 use Rattle.shared_state.specs.Store.{IsConsistent}
-use Rattle.shared_state.specs.Calls.{Adds, fault}
+use Rattle.shared_state.specs.Calls.{Adds, fault, mount_of}
 use Rattle.script_runner.specs.Session.{Names, Session, Turn}
+use Rattle.script_runner.specs.Failing.{failing}
 use Rattle.script_lines.specs.declared.answer.Body.{Body}
 use Rattle.script_lines.specs.declared.answer.Body.TheVariants as body
 
--- the array is known, and is as it was opened
+-- the array is known, is as it was opened, and lies in memory
 pub record IsArray (events : History) (array : ArrayRef) : Type 0 where
   pub known : Known
   pub is : known_after events array.number ≡ Some known
   pub ref : ref_of known.info ≡ array
   pub shape : known.shape ≡ array.shape
+  pub mount : mount_of known.info.home ≡ codes "memory"
 
 -- the store holds what happened over an empty one
 abbrev pub IsOverEmpty : Option Contents → History → Type 0
@@ -43,9 +45,9 @@ pub record IsTurn (turn : Turn) (b : Body) (events : History) (names : Names) : 
   pub body : b ≡ turn.body
   pub after : session_of events names ≡ turn.after
 
--- the answer says that the store failed, by this event
-abbrev pub IsFailed : Body → ℕ → Type 0
-IsFailed b event = (events : Option (List ℕ)) × (b ≡ body.StoreFailed event [] events)
+-- the answer is the turn's, or, where the count of faults rose, that of the turn at which the store fails
+abbrev pub Comes : Session → Option (List ℕ) → Turn → Body → History → Names → ℕ → ℕ → Type 0
+Comes s listed turn b events names before now = IsTurn turn b events names ⊎ (IsTurn (failing s listed turn) b events names × (before < now))
 
 -- the answer says why a line has no form
 abbrev pub IsBadLine : Body → Option (List ℕ) → Type 0

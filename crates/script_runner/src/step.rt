@@ -1,5 +1,5 @@
 // What each line of a script does.
-ghost use Rattle.std.specs.Prelude.{◌≡◌, ◌≢◌, ◌≤◌, ◌<◌, ◌^◌, ◌+◌, ◌∷◌, [], ℕ, List, length, replicate, pos, Option, None, Some, IfOk, codes, true, option_and_then};
+ghost use Rattle.std.specs.Prelude.{◌≡◌, ◌≢◌, ◌≤◌, ◌<◌, ◌^◌, ◌+◌, ◌∷◌, [], ℕ, List, length, replicate, pos, Option, None, Some, if◌then◌else◌, IfOk, codes, true, option_and_then};
 ghost use Rattle.std.specs.List.{IsDistinct};
 ghost use Rattle.std.specs.Str.{bytes_eq};
 ghost use Rattle.indexmap.specs.IndexMap.{get_by_text};
@@ -8,13 +8,16 @@ ghost use Rattle.kv_face.specs.Store.{are_together, keys_of};
 ghost use Rattle.kv_face.specs.declared.change.Change.{Change as ChangeOf};
 ghost use Rattle.serde_json.specs.View.{view};
 ghost use Rattle.shared_state.specs.Joint.{IsJoint};
+ghost use Rattle.shared_state.specs.Counting.{IsCounted};
+ghost use Rattle.std.specs.FinMap as finmap;
 ghost use Rattle.shared_state.specs.Outcomes.{making_outcome};
 ghost use Rattle.script_lines.specs.Line.{command_of_line};
 ghost use Rattle.script_lines.specs.NestedWords.{words_of};
 ghost use Rattle.script_lines.specs.Refusals.{bad_line_of, refused_line};
 ghost use Rattle.script_runner.specs.Limits.{too_many};
 ghost use Rattle.script_runner.specs.Session.{Names as NamesOf, open_turn, write_turn, values_body, in_memory, turn_of, stays, unless_many};
-ghost use Rattle.script_runner.specs.Kept.{IsReady, IsArray, IsOverEmpty, IsTurn, IsFailed, IsBadLine, session_of};
+ghost use Rattle.script_runner.specs.Failing.{listed_by, Leaves};
+ghost use Rattle.script_runner.specs.Kept.{IsReady, IsArray, IsOverEmpty, Comes, IsBadLine, session_of};
 
 use crate::limits::too_many;
 use crate::session::{Session, bind};
@@ -55,7 +58,7 @@ fn origin(alloc: Global, rank: usize) -> Result<Index, AllocError>
 }
 
 fn failed(alloc: Global, event: u64, opens: bool) -> Body
-    ensures { IsFailed result event }
+    ensures { result ≡ Body.StoreFailed event [] (if opens then Some [] else None) }
 {
     let events = if opens {
         Some(List::wrap(Vec::new(alloc)))
@@ -124,10 +127,13 @@ fn open<K: KvStore>(
 ) -> Body
     requires names { K.names session.old.state.store ≡ None }
     requires ready { IsReady (K.contents session.old.state.store) session.old.state.events (get_by_text session.old.names) }
-    ensures turn { result ≢ Body.Memory → K.faults session.new.state.store ≡ K.faults session.old.state.store
-        → IsTurn (open_turn (session_of session.old.state.events (get_by_text session.old.names)) name path meta (making_outcome session.old.state.events (in_memory path)))
-        result session.new.state.events (get_by_text session.new.names) }
-    ensures failed { (event : ℕ) → IsFailed result event → K.faults session.old.state.store < K.faults session.new.state.store }
+    ensures turn { let s = session_of session.old.state.events (get_by_text session.old.names) in
+        result ≢ Body.Memory → Comes s (Some []) (open_turn s name path meta (making_outcome session.old.state.events (in_memory path)))
+        result session.new.state.events (get_by_text session.new.names) (K.faults session.old.state.store) (K.faults session.new.state.store) }
+    ensures memory { let s = session_of session.old.state.events (get_by_text session.old.names) in
+        result ≡ Body.Memory → Leaves s (open_turn s name path meta (making_outcome session.old.state.events (in_memory path))) session.new.state.events }
+    ensures counted { (before : Option ℕ) → IsCounted finmap.empty before (K.change_count session.old.state.store) session.old.state.events
+        → IsCounted finmap.empty before (K.change_count session.new.state.store) session.new.state.events }
     ensures ready { IsReady (K.contents session.new.state.store) session.new.state.events (get_by_text session.new.names) }
     ensures faults { K.faults session.old.state.store ≤ K.faults session.new.state.store }
     ensures prefixes { K.prefixes session.new.state.store ≡ K.prefixes session.old.state.store }
@@ -174,9 +180,13 @@ fn write<K: KvStore>(
     requires together { (cs : List ChangeOf) → IsDistinct bytes_eq (keys_of cs) → are_together (K.prefixes state.old.store) cs 0 ≡ true }
     requires array { IsArray state.old.events array.now }
     requires small { cell_count array.now.shape ≤ 2 ^ 22 }
-    ensures turn { result ≢ Body.Memory → K.faults state.new.store ≡ K.faults state.old.store → (names : NamesOf)
-        → IsTurn (write_turn (session_of state.old.events names) line array.now (words_of array.now.dtype array.now.shape (view values.now))) result state.new.events names }
-    ensures failed { (event : ℕ) → IsFailed result event → K.faults state.old.store < K.faults state.new.store }
+    ensures turn { result ≢ Body.Memory → (names : NamesOf)
+        → Comes (session_of state.old.events names) None (write_turn (session_of state.old.events names) line array.now (words_of array.now.dtype array.now.shape (view values.now)))
+        result state.new.events names (K.faults state.old.store) (K.faults state.new.store) }
+    ensures memory { result ≡ Body.Memory → (names : NamesOf)
+        → Leaves (session_of state.old.events names) (write_turn (session_of state.old.events names) line array.now (words_of array.now.dtype array.now.shape (view values.now))) state.new.events }
+    ensures counted { (before : Option ℕ) → IsCounted finmap.empty before (K.change_count state.old.store) state.old.events
+        → IsCounted finmap.empty before (K.change_count state.new.store) state.new.events }
     ensures ready { (names : NamesOf) → IsReady (K.contents state.old.store) state.old.events names → IsReady (K.contents state.new.store) state.new.events names }
     ensures faults { K.faults state.old.store ≤ K.faults state.new.store }
     ensures prefixes { K.prefixes state.new.store ≡ K.prefixes state.old.store }
@@ -201,9 +211,12 @@ fn read<K: KvStore>(alloc: Global, state: &mut State<K>, array: &ArrayRef) -> Bo
     requires small { cell_count array.now.shape ≤ 2 ^ 22 }
     requires consistent { IsOverEmpty (K.contents state.old.store) state.old.events }
     requires joint { IsJoint state.old.events }
-    ensures turn { result ≢ Body.Memory → K.faults state.new.store ≡ K.faults state.old.store → (names : NamesOf)
-        → IsTurn (stays (session_of state.old.events names) (values_body state.old.events array.now)) result state.new.events names }
-    ensures failed { (event : ℕ) → IsFailed result event → K.faults state.old.store < K.faults state.new.store }
+    ensures turn { result ≢ Body.Memory → (names : NamesOf)
+        → Comes (session_of state.old.events names) None (stays (session_of state.old.events names) (values_body state.old.events array.now))
+        result state.new.events names (K.faults state.old.store) (K.faults state.new.store) }
+    ensures memory { result ≡ Body.Memory → state.new.events ≡ state.old.events }
+    ensures counted { (before : Option ℕ) → IsCounted finmap.empty before (K.change_count state.old.store) state.old.events
+        → IsCounted finmap.empty before (K.change_count state.new.store) state.new.events }
     ensures ready { (names : NamesOf) → IsReady (K.contents state.old.store) state.old.events names → IsReady (K.contents state.new.store) state.new.events names }
     ensures faults { K.faults state.old.store ≤ K.faults state.new.store }
     ensures prefixes { K.prefixes state.new.store ≡ K.prefixes state.old.store }
@@ -242,9 +255,13 @@ pub(crate) fn step<K: KvStore>(
     requires names { K.names session.old.state.store ≡ None }
     requires together { (cs : List ChangeOf) → IsDistinct bytes_eq (keys_of cs) → are_together (K.prefixes session.old.state.store) cs 0 ≡ true }
     requires ready { IsReady (K.contents session.old.state.store) session.old.state.events (get_by_text session.old.names) }
-    ensures turn { result ≢ Body.Memory → K.faults session.new.state.store ≡ K.faults session.old.state.store
-        → IsTurn (turn_of (session_of session.old.state.events (get_by_text session.old.names)) line (command_of_line bytes.now)) result session.new.state.events (get_by_text session.new.names) }
-    ensures failed { (event : ℕ) → IsFailed result event → K.faults session.old.state.store < K.faults session.new.state.store }
+    ensures turn { let s = session_of session.old.state.events (get_by_text session.old.names) in
+        result ≢ Body.Memory → Comes s (listed_by (command_of_line bytes.now)) (turn_of s line (command_of_line bytes.now))
+        result session.new.state.events (get_by_text session.new.names) (K.faults session.old.state.store) (K.faults session.new.state.store) }
+    ensures memory { let s = session_of session.old.state.events (get_by_text session.old.names) in
+        result ≡ Body.Memory → Leaves s (turn_of s line (command_of_line bytes.now)) session.new.state.events }
+    ensures counted { (before : Option ℕ) → IsCounted finmap.empty before (K.change_count session.old.state.store) session.old.state.events
+        → IsCounted finmap.empty before (K.change_count session.new.state.store) session.new.state.events }
     ensures ready { IsReady (K.contents session.new.state.store) session.new.state.events (get_by_text session.new.names) }
     ensures faults { K.faults session.old.state.store ≤ K.faults session.new.state.store }
     ensures prefixes { K.prefixes session.new.state.store ≡ K.prefixes session.old.state.store }

@@ -1,14 +1,15 @@
 // The top call.
-ghost use Rattle.std.specs.Prelude.{◌≡◌, ◌≢◌, ◌<◌, ◌≤◌, ◌^◌, ◌++◌, ◌⊎◌, ◌↔◌, ◌==◌, if◌then◌else◌, ℕ, List, [], length, None, Some, true, OnOk, IfOk, option_map, string_bytes};
+ghost use Rattle.std.specs.Prelude.{◌≡◌, ◌≢◌, ◌<◌, ◌≤◌, ◌^◌, ◌++◌, ◌⊎◌, ◌↔◌, ◌==◌, if◌then◌else◌, ℕ, List, [], length, None, Some, true, OnOk, OnErr, IfOk, option_map, string_bytes};
 ghost use Rattle.std.specs.List.{IsDistinct, list_all};
 ghost use Rattle.std.specs.Str.{bytes_eq};
 ghost use Rattle.std.specs.FinMap as finmap;
 ghost use Rattle.indexmap.specs.IndexMap.{get_by_text};
 ghost use Rattle.kv_face.specs.Store.{are_together, keys_of};
 ghost use Rattle.kv_face.specs.declared.change.Change.{Change as ChangeOf};
+ghost use Rattle.shared_state.specs.Counting.{IsCounted};
 ghost use Rattle.script_lines.specs.AnswerText.{text_of};
 ghost use Rattle.script_lines.specs.Status.{status_of, is_ok_answer};
-ghost use Rattle.script_runner.specs.Solo.{single_session};
+ghost use Rattle.script_runner.specs.Failing.{IsWholeRun, IsCutRun, AreRuns};
 ghost use Rattle.script_runner.specs.Kept.{IsReady, IsOverEmpty};
 ghost use Rattle.script_runner.specs.Outside.{WhereTold, Rises, HasRisen, IsPartOf};
 ghost use Rattle.script_runner.specs.Top.{name_of, named_script, HasAnswers, answers_in, IsSoloRun};
@@ -56,10 +57,9 @@ fn run_lines<K: KvStore>(
     requires answers { progress.old.answers.items ≡ [] }
     requires bound { get_by_text progress.old.session.names ≡ (λ name. None) }
     requires events { progress.old.session.state.events ≡ [] }
-    ensures answers { OnOk result (K.faults progress.new.session.state.store ≡ K.faults progress.old.session.state.store
-        → progress.new.answers.items ≡ (single_session script.now).answers) }
-    ensures events { OnOk result (K.faults progress.new.session.state.store ≡ K.faults progress.old.session.state.store
-        → progress.new.session.state.events ≡ (single_session script.now).session.events) }
+    ensures run { OnOk result (IsWholeRun script.now (K.faults progress.old.session.state.store) (K.faults progress.new.session.state.store) progress.new.answers.items progress.new.session.state.events) }
+    ensures cut { OnErr result (IsCutRun script.now (K.faults progress.old.session.state.store) (K.faults progress.new.session.state.store) progress.new.answers.items progress.new.session.state.events) }
+    ensures counted { IsCounted finmap.empty (K.change_count progress.old.session.state.store) (K.change_count progress.new.session.state.store) progress.new.session.state.events }
     ensures log { IsBegunLog script.now progress.new.answers.items }
     ensures whole { OnOk result (IsWholeLog script.now progress.new.answers.items) }
     ensures ready { IsReady (K.contents progress.new.session.state.store) progress.new.session.state.events (get_by_text progress.new.session.names) }
@@ -147,6 +147,8 @@ fn run_session<O: Sink, K: KvStore>(
     requires empty { K.contents store ≡ Some finmap.empty }
     ensures solo { HasAnswers result.0.status → K.faults result.1 ≡ K.faults store
         → WhereTold (O.content sink.old) (λ before. IsSoloRun script.now result.0 before (O.content sink.new)) }
+    ensures runs { AreRuns script.now result.0.status (K.faults store) (K.faults result.1) result.0.history result.0.logs }
+    ensures changes { IsCounted finmap.empty (K.change_count store) (K.change_count result.1) result.0.history }
     ensures log { AreLogs script.now result.0.status result.0.logs }
     ensures answers { HasAnswers result.0.status → result.0.status ≡ status_of (answers_in result.0.logs) }
     ensures written { HasAnswers result.0.status → WhereTold (O.content sink.old) (λ before. O.content sink.new ≡ Some (before ++ text_of (answers_in result.0.logs))) }
@@ -224,6 +226,12 @@ pub fn run<S: Scripts, O: Sink, K: KvStore>(
     // Without a fault of the store, what was written and what happened is what one session on plain arrays gives.
     ensures solo { (name : List ℕ) → named_script words.now ≡ Some name → HasAnswers result.0.status → K.faults result.1 ≡ K.faults store
         → WhereTold (S.content scripts.old name) (λ script. WhereTold (O.content sink.old) (λ before. IsSoloRun script result.0 before (O.content sink.new))) }
+    // Under every status the log and the history are those of the session at some of whose lines the store failed, at no more
+    // of them than its count of faults rose by. Only where memory was wanting do they end before the script does.
+    ensures runs { (name : List ℕ) → named_script words.now ≡ Some name
+        → WhereTold (S.content scripts.old name) (λ script. AreRuns script result.0.status (K.faults store) (K.faults result.1) result.0.history result.0.logs) }
+    // The store's number of changes, where it tells it, rose by one for each event that changes the store.
+    ensures changes { IsCounted finmap.empty (K.change_count store) (K.change_count result.1) result.0.history }
     // Under every status the log answers lines in order; all of them where memory was there.
     ensures log { (name : List ℕ) → named_script words.now ≡ Some name
         → WhereTold (S.content scripts.old name) (λ script. AreLogs script result.0.status result.0.logs) }

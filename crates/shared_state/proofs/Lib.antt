@@ -12,6 +12,7 @@ pub mod Pasting
 pub mod Storing
 pub mod Known
 pub mod Untouched
+pub mod Moments
 pub mod Plain
 pub mod Apart
 pub mod Reading
@@ -20,5 +21,6 @@ pub mod Keeping
 pub mod Openings
 pub mod Indexing
 pub mod Listing
+pub mod Counting
 pub mod Fetching
 pub mod Gathering

@@ -11,7 +11,7 @@ pub and_true : (a b : Bool) → (a && b) ≡ true → (a ≡ true) × (b ≡ tru
 and_true true b e = (refl, e)
 and_true false b e = absurd (cc)
 
-equal_test : (a b : ℕ) → a ≡ b → (a == b) ≡ true
+pub equal_test : (a b : ℕ) → a ≡ b → (a == b) ≡ true
 equal_test a b e = eq-eqb a b e
 
 pub equal_or_not : (a b : ℕ) → (a ≡ b) ⊎ (a ≢ b)

@@ -47,7 +47,7 @@ content_untouched start h e x t = content_after-more start h e x ∙ ap (λ b. c
 pub content_touched : (start : Contents) (h : History) (e : Event) (x : Cell) → touches h e (chunk_of h x) ≡ true → content_after start (h ++ e ∷ []) x ≡ word_by start h e.kind x (content_after start h x)
 content_touched start h e x t = content_after-more start h e x ∙ ap (λ b. cond b (word_by start h e.kind x (content_after start h x)) (content_after start h x)) t
 
-chunk_array : (known : Option Known) (x : Cell) → (chunk_in known x).array ≡ x.array
+pub chunk_array : (known : Option Known) (x : Cell) → (chunk_in known x).array ≡ x.array
 chunk_array None x = refl
 chunk_array (Some k) x = refl
 

@@ -12,6 +12,7 @@ pub mod Catalog
 pub mod Found
 pub mod Joint
 pub mod Store
+pub mod Counting
 pub mod State
 pub mod Index
 pub mod Grid

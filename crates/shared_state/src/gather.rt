@@ -48,6 +48,7 @@ pub(crate) fn gather<K: KvStore>(
         × ((k : Known) → known_after state.old.events array ≡ Some k → Adds state.old.events state.new.events (fault owner (mount_of k.info.home)) event) }
     ensures faults { K.faults state.old.store ≤ K.faults state.new.store }
     ensures contents { K.contents state.new.store ≡ K.contents state.old.store }
+    ensures change_count { K.change_count state.new.store ≡ K.change_count state.old.store }
     ensures prefixes { K.prefixes state.new.store ≡ K.prefixes state.old.store }
     ensures names { K.names state.new.store ≡ K.names state.old.store }
 {

@@ -1,10 +1,10 @@
-ghost use Rattle.std.specs.Prelude.{◌≡◌, ◌≢◌, ◌≤◌, ◌<◌, ◌^◌, ◌++◌, ◌∷◌, [], ℕ, List, length, All, Some, None, IsSome, IfSome, count_by, IfOk, IfErr, OnOk, OnErr, IsErrOf, true};
+ghost use Rattle.std.specs.Prelude.{◌≡◌, ◌≢◌, ◌≤◌, ◌<◌, ◌^◌, ◌++◌, ◌∷◌, [], ℕ, List, length, All, Some, None, IsSome, IfSome, Option, count_by, IfOk, IfErr, OnOk, OnErr, IsErrOf, true};
 ghost use Rattle.std.specs.List.{IsDistinct};
 ghost use Rattle.std.specs.Str.{bytes_eq};
 ghost use Rattle.cells.specs.Numbers.{IsWord};
 ghost use Rattle.cells.specs.Places.{cell_count};
 ghost use Rattle.kv_face.specs.declared.change.Change.{Change as ChangeOf};
-ghost use Rattle.kv_face.specs.Store.{Contents, HasCause, after, keys_of, are_together};
+ghost use Rattle.kv_face.specs.Store.{Contents, HasCause, OneMore, after, keys_of, are_together};
 ghost use Rattle.shared_state.specs.declared.error.Damage.{Damage as DamageOf};
 ghost use Rattle.std.specs.FinMap as finmap;
 ghost use Rattle.shared_state.specs.Arrays.{Known, known_after, chunk_shape, ref_of};
@@ -13,6 +13,7 @@ ghost use Rattle.shared_state.specs.Legal.{is_opening};
 ghost use Rattle.shared_state.specs.Outcomes.{making_outcome, path_taken, exists, made};
 ghost use Rattle.shared_state.specs.Calls.{Adds, opened, done_write, plain, fault, mount_of, new_info};
 ghost use Rattle.shared_state.specs.Store.{IsConsistent};
+ghost use Rattle.shared_state.specs.Counting.{IsCounted};
 ghost use Rattle.shared_state.specs.Grid.{grid_of};
 ghost use Rattle.shared_state.specs.Paste.{IsWholeArray};
 ghost use Rattle.shared_state.specs.Reads.{HasContent, IsDamaged, IsDamagedIn};
@@ -122,6 +123,7 @@ impl<K: KvStore> State<K> {
             × ((k : Known) → known_after self.old.events array ≡ Some k → Adds self.old.events self.new.events (fault owner (mount_of k.info.home)) event) }
         ensures faults { K.faults self.old.store ≤ K.faults self.new.store }
         ensures contents { K.contents self.new.store ≡ K.contents self.old.store }
+        ensures change_count { K.change_count self.new.store ≡ K.change_count self.old.store }
         ensures prefixes { K.prefixes self.new.store ≡ K.prefixes self.old.store }
         ensures names { K.names self.new.store ≡ K.names self.old.store }
     {
@@ -167,6 +169,7 @@ impl<K: KvStore> State<K> {
             × ((k : Known) → known_after self.old.events array ≡ Some k → Adds self.old.events self.new.events (fault owner (mount_of k.info.home)) event) }
         ensures faults { K.faults self.old.store ≤ K.faults self.new.store }
         ensures contents { K.contents self.new.store ≡ K.contents self.old.store }
+        ensures change_count { K.change_count self.new.store ≡ K.change_count self.old.store }
         ensures prefixes { K.prefixes self.new.store ≡ K.prefixes self.old.store }
         ensures names { K.names self.new.store ≡ K.names self.old.store }
     {
@@ -213,6 +216,8 @@ impl<K: KvStore> State<K> {
         ensures memory { result ≡ Err WriteNowError.Memory → self.new.events ≡ self.old.events }
         ensures consistent { (start : Contents) → IsConsistent start (K.contents self.old.store) self.old.events
             → IsConsistent start (K.contents self.new.store) self.new.events }
+        ensures counted { (start : Contents) (before : Option ℕ) → IsCounted start before (K.change_count self.old.store) self.old.events
+            → IsCounted start before (K.change_count self.new.store) self.new.events }
         ensures faults { K.faults self.old.store ≤ K.faults self.new.store }
         ensures prefixes { K.prefixes self.new.store ≡ K.prefixes self.old.store }
         ensures names { K.names self.new.store ≡ K.names self.old.store }
@@ -264,6 +269,9 @@ impl<K: KvStore> State<K> {
         ensures consistent { (start : Contents) → IsConsistent start (K.contents self.old.store) self.old.events
             → finmap.get start (metadata_key (Home.Zarr mount.now path.now meta)) ≡ None
             → IsConsistent start (K.contents self.new.store) self.new.events }
+        ensures counted { (start : Contents) (before : Option ℕ) → IsCounted start before (K.change_count self.old.store) self.old.events
+            → finmap.get start (metadata_key (Home.Zarr mount.now path.now meta)) ≡ None
+            → IsCounted start before (K.change_count self.new.store) self.new.events }
         ensures faults { K.faults self.old.store ≤ K.faults self.new.store }
         ensures prefixes { K.prefixes self.new.store ≡ K.prefixes self.old.store }
         ensures names { K.names self.new.store ≡ K.names self.old.store }
@@ -306,6 +314,9 @@ impl<K: KvStore> State<K> {
         ensures consistent { (start : Contents) → IsConsistent start (K.contents self.old.store) self.old.events
             → finmap.get start (metadata_key (Home.Zarr mount.now path.now meta)) ≡ None
             → IsConsistent start (K.contents self.new.store) self.new.events }
+        ensures counted { (start : Contents) (before : Option ℕ) → IsCounted start before (K.change_count self.old.store) self.old.events
+            → finmap.get start (metadata_key (Home.Zarr mount.now path.now meta)) ≡ None
+            → IsCounted start before (K.change_count self.new.store) self.new.events }
         ensures faults { K.faults self.old.store ≤ K.faults self.new.store }
         ensures prefixes { K.prefixes self.new.store ≡ K.prefixes self.old.store }
         ensures names { K.names self.new.store ≡ K.names self.old.store }
@@ -348,6 +359,9 @@ fn apply_all<K: KvStore>(store: &mut K, changes: &[Change]) -> Result<(), KvErro
     requires together { are_together (K.prefixes store.old) changes.now 0 ≡ true }
     ensures done { OnOk result ((m : Contents) → K.contents store.old ≡ Some m → K.contents store.new ≡ Some (after m changes.now)) }
     ensures err { OnErr result (K.contents store.new ≡ K.contents store.old) }
+    ensures one_more { OnOk result (0 < length changes.now → OneMore (K.change_count store.old) (K.change_count store.new)) }
+    ensures no_more { OnOk result (length changes.now ≡ 0 → K.change_count store.new ≡ K.change_count store.old) }
+    ensures count_err { OnErr result (K.change_count store.new ≡ K.change_count store.old) }
     ensures prefixes { K.prefixes store.new ≡ K.prefixes store.old }
     ensures names { K.names store.new ≡ K.names store.old }
     ensures cause { HasCause (K.faults store.old) (K.faults store.new) (IsErrOf result KvError.Failed) }

@@ -1,13 +1,16 @@
-use Rattle.std.proofs.Common.{Err, ◌≡◌, ap, subst, sym, ◌∙◌, refl, codes}
+use Rattle.std.proofs.Common.{Err, Some, ◌≡◌, [], true, inr, ap, subst, sym, ◌∙◌, refl, codes}
 use Rattle.std.specs.Prelude.{IfSome, count_by}
 use Rattle.std.specs.FinMap as finmap
 use Rattle.indexmap.specs.IndexMap.{get_by_text}
 use Rattle.shared_state.specs.Arrays.{ref_of}
 use Rattle.shared_state.specs.Calls.{Adds, opened, new_info}
 use Rattle.shared_state.specs.Legal.{is_opening}
-use Rattle.script_runner.specs.Session.{Names, bind}
-use Rattle.script_runner.specs.Kept.{IsReady}
+use Rattle.script_lines.specs.Status.{is_ok_body}
+use Rattle.shared_state.specs.Outcomes.{making_outcome}
+use Rattle.script_runner.specs.Session.{Names, bind, open_turn, in_memory}
+use Rattle.script_runner.specs.Kept.{IsReady, session_of}
 use Rattle.script_runner.proofs.Sessions.{ready_opened, ready_bound, ready_faulted, ready_with}
+use Rattle.script_runner.proofs.Turns.{failed_turn}
 use Rattle.script_runner.proofs.step.open.Goals as goal
 
 pub returns-then-not-bind-clause-ready : goal.returns-then-not-bind-clause-ready
@@ -20,7 +23,7 @@ returns-then-not-bind-clause-ready g c =
     let adds : Adds before later (opened 0 info) c.in-Some.event = subst (λ e. IfSome e (Adds before later (opened 0 info))) c.in-Some.is o.1 in
     let consistent = c.open_zarr.ensures.consistent finmap.empty c.requires.ready.consistent (finmap.get-empty _ _) in
     subst (λ (ns : Names). IsReady (g.K.KvStore.contents c.open_zarr.new.self.store) later ns) (sym (c.bind.ensures.kept c.if-not-bind.true))
-    (ready_opened _ _ before later names info c.in-Some.event c.requires.ready consistent adds refl)
+    (ready_opened _ _ before later names info c.in-Some.event c.requires.ready consistent adds refl refl)
 
 pub returns-in-Ok-open_zarr-clause-ready : goal.returns-in-Ok-open_zarr-clause-ready
 returns-in-Ok-open_zarr-clause-ready g c =
@@ -33,7 +36,7 @@ returns-in-Ok-open_zarr-clause-ready g c =
     let consistent = c.open_zarr.ensures.consistent finmap.empty c.requires.ready.consistent (finmap.get-empty _ _) in
     let now : get_by_text c.bind.new.names ≡ bind names c.args.name (ref_of info) = c.bind.ensures.bound c.if-not-bind.false ∙ (λ i. bind names (c.into_inner.ensures i) (o.0 i)) in
     subst (λ (ns : Names). IsReady (g.K.KvStore.contents c.open_zarr.new.self.store) later ns) (sym now)
-    (ready_bound _ _ before later names info c.in-Some.event c.requires.ready consistent adds refl c.args.name)
+    (ready_bound _ _ before later names info c.in-Some.event c.requires.ready consistent adds refl refl c.args.name)
 
 pub returns-in-Err-StoreFailed-clause-ready : goal.returns-in-Err-StoreFailed-clause-ready
 returns-in-Err-StoreFailed-clause-ready g c =
@@ -43,3 +46,14 @@ returns-in-Err-StoreFailed-clause-ready g c =
 pub returns-clause-ready : goal.returns-clause-ready
 returns-clause-ready g c =
     ready_with (get_by_text c.args.session.now.names) c.requires.ready (c.open_zarr.ensures.consistent finmap.empty c.requires.ready.consistent (finmap.get-empty _ _)) (c.in-Err-Memory.ensures.memory (ap Err c.in-Err-Memory.field-0-is))
+
+pub returns-in-Err-StoreFailed-clause-turn : goal.returns-in-Err-StoreFailed-clause-turn
+returns-in-Err-StoreFailed-clause-turn g c = λ able.
+    let before = c.args.session.now.state.events in
+    let names = get_by_text c.args.session.now.names in
+    let s = session_of before names in
+    let f = c.in-Err-StoreFailed.ensures.failed c.in-Err-StoreFailed.event (ap Err c.in-Err-StoreFailed.field-0-is) in
+    let turn = open_turn s c.args.name c.args.path c.args.meta (making_outcome before (in_memory c.args.path)) in
+    let path : in_memory c.items-3.result.now ≡ in_memory c.args.path = ap in_memory c.items-3.ensures in
+    let ok : is_ok_body turn.body ≡ true = ap (λ o. is_ok_body (open_turn s c.args.name c.args.path c.args.meta o).body) (ap (making_outcome before) (sym path) ∙ f.2) in
+    inr (failed_turn s (Some []) turn c.failed.result c.open_zarr.new.self.events c.in-Err-StoreFailed.event ok c.failed.ensures f.1, f.0)

@@ -5,13 +5,17 @@ use Rattle.script_lines.specs.Script.{lines_left}
 use Rattle.indexmap.specs.IndexMap.{get_by_text}
 use Rattle.script_runner.specs.Logged.{IsBegunLog, numbers_behind}
 use Rattle.script_runner.specs.Progress.{IsUnderWay}
+use Rattle.std.specs.FinMap as finmap
+use Rattle.shared_state.specs.Counting.{IsCounted}
+use Rattle.script_runner.proofs.Sessions.{counted_start}
 use Rattle.script_runner.proofs.Lines.{past_blank, past_line, at_start, short_more}
 use Rattle.script_runner.proofs.Logs.{HasAnswered, none_answered, line_answered, blank_passed, one_more_line}
 use Rattle.script_runner.proofs.top.run_lines.Goals as goal
 
 pub loop-rest-init : goal.loop-rest-init
 loop-rest-init g c = record {
-  solo = λ same. at_start c.args.script.now _ _ _ c.requires.answers c.requires.events c.requires.bound;
+  under = at_start c.args.script.now (g.K.KvStore.faults c.args.progress.now.session.state.store) _ _ _ c.requires.answers c.requires.events c.requires.bound;
+  counted = subst (IsCounted finmap.empty (g.K.KvStore.change_count c.args.progress.now.session.state.store) (g.K.KvStore.change_count c.args.progress.now.session.state.store)) (sym c.requires.events) (counted_start finmap.empty (g.K.KvStore.change_count c.args.progress.now.session.state.store));
   log = none_answered c.args.script.now c.args.progress.now.answers.items c.requires.answers;
   ready = c.requires.ready;
   later = omega arith;
@@ -25,14 +29,12 @@ loop-rest-preserved-in_ok-push-2 g c =
     let old = c.loop-rest.progress.session in
     let new = c.step-body.new.session in
     record {
-      solo = λ same.
-          let mid : g.K.KvStore.faults old.state.store ≡ g.K.KvStore.faults c.args.progress.now.session.state.store = omega (arith, c.step-body.ensures.faults, c.loop-rest.invariant.later, same) in
-          let end : g.K.KvStore.faults new.state.store ≡ g.K.KvStore.faults old.state.store = same ∙ sym mid in
-          let s = subst (λ r. IsUnderWay c.args.script.now (option_copied r) c.loop-rest.progress.answers.items c.loop-rest.line old.state.events (get_by_text old.names)) c.in-Some.is (c.loop-rest.invariant.solo mid) in
-          let turn = c.step-body.ensures.turn c.in_default-body.not-Memory end in
-          let next = past_line c.args.script.now c.in-Some.bytes.now c.cut.result.0.now (option_copied c.cut.result.1) c.loop-rest.progress.answers.items c.loop-rest.line old.state.events (get_by_text old.names)
-          c.step-body.result new.state.events (get_by_text new.names) s c.cut.ensures.lines (sym c.is_blank.ensures ∙ c.if-not-is_blank.true) turn in
-          subst (λ a. IsUnderWay c.args.script.now (option_copied c.cut.result.1) a (c.loop-rest.line + 1) new.state.events (get_by_text new.names)) (sym c.in_ok-push-2.ensures.items) next;
+      under =
+          let s = subst (λ r. IsUnderWay c.args.script.now (option_copied r) (g.K.KvStore.faults c.args.progress.now.session.state.store) (g.K.KvStore.faults old.state.store) c.loop-rest.progress.answers.items c.loop-rest.line old.state.events (get_by_text old.names)) c.in-Some.is c.loop-rest.invariant.under in
+          let next = past_line c.args.script.now c.in-Some.bytes.now c.cut.result.0.now (option_copied c.cut.result.1) _ _ c.loop-rest.progress.answers.items c.loop-rest.line old.state.events (get_by_text old.names)
+          (g.K.KvStore.faults new.state.store) c.step-body.result new.state.events (get_by_text new.names) s c.cut.ensures.lines (sym c.is_blank.ensures ∙ c.if-not-is_blank.true) c.step-body.ensures.faults (c.step-body.ensures.turn c.in_default-body.not-Memory) in
+          subst (λ a. IsUnderWay c.args.script.now (option_copied c.cut.result.1) (g.K.KvStore.faults c.args.progress.now.session.state.store) (g.K.KvStore.faults new.state.store) a (c.loop-rest.line + 1) new.state.events (get_by_text new.names)) (sym c.in_ok-push-2.ensures.items) next;
+      counted = c.step-body.ensures.counted (g.K.KvStore.change_count c.args.progress.now.session.state.store) c.loop-rest.invariant.counted;
       log =
           let h = subst (λ r. HasAnswered c.args.script.now (option_copied r) c.loop-rest.line c.loop-rest.progress.answers.items) c.in-Some.is c.loop-rest.invariant.log in
           let next = line_answered c.args.script.now c.in-Some.bytes.now c.cut.result.0.now (option_copied c.cut.result.1) c.loop-rest.line c.loop-rest.progress.answers.items
@@ -49,9 +51,10 @@ pub loop-rest-preserved : goal.loop-rest-preserved
 loop-rest-preserved g c =
     let old = c.loop-rest.progress.session in
     record {
-      solo = λ same.
-          let s = subst (λ r. IsUnderWay c.args.script.now (option_copied r) c.loop-rest.progress.answers.items c.loop-rest.line old.state.events (get_by_text old.names)) c.in-Some.is (c.loop-rest.invariant.solo same) in
-          past_blank c.args.script.now c.in-Some.bytes.now c.cut.result.0.now (option_copied c.cut.result.1) c.loop-rest.progress.answers.items c.loop-rest.line old.state.events (get_by_text old.names) s c.cut.ensures.lines (sym c.is_blank.ensures ∙ c.if-not-is_blank.false);
+      under =
+          let s = subst (λ r. IsUnderWay c.args.script.now (option_copied r) (g.K.KvStore.faults c.args.progress.now.session.state.store) (g.K.KvStore.faults old.state.store) c.loop-rest.progress.answers.items c.loop-rest.line old.state.events (get_by_text old.names)) c.in-Some.is c.loop-rest.invariant.under in
+          past_blank c.args.script.now c.in-Some.bytes.now c.cut.result.0.now (option_copied c.cut.result.1) _ _ c.loop-rest.progress.answers.items c.loop-rest.line old.state.events (get_by_text old.names) s c.cut.ensures.lines (sym c.is_blank.ensures ∙ c.if-not-is_blank.false);
+      counted = c.loop-rest.invariant.counted;
       log =
           let h = subst (λ r. HasAnswered c.args.script.now (option_copied r) c.loop-rest.line c.loop-rest.progress.answers.items) c.in-Some.is c.loop-rest.invariant.log in
           blank_passed c.args.script.now c.in-Some.bytes.now c.cut.result.0.now (option_copied c.cut.result.1) c.loop-rest.line c.loop-rest.progress.answers.items h c.cut.ensures.lines (sym c.is_blank.ensures ∙ c.if-not-is_blank.false);

@@ -79,6 +79,7 @@ loop-q-preserved g c = record {
       (subst (λ cs. IsPasted c.args.shape.now c.args.sizes.now c.index_of.new.out cs c.loop-q.words c.paste.new.words) c.words.ensures.value c.paste.ensures.pasted) (c.loop-q.invariant.filled start consistent k is);
   events = c.in-Ok.ensures.ok ∙ c.loop-q.invariant.events;
   contents = c.fetch.ensures.contents ∙ c.loop-q.invariant.contents;
+  change_count = c.fetch.ensures.change_count ∙ c.loop-q.invariant.change_count;
   faults = omega (arith, c.fetch.ensures.faults, c.loop-q.invariant.faults);
   prefixes = c.fetch.ensures.prefixes ∙ c.loop-q.invariant.prefixes;
   names = c.fetch.ensures.names ∙ c.loop-q.invariant.names;

@@ -16,6 +16,7 @@ invariant-loop-q g l = record {
       → IsFilledTo start l.fn.state.events l.array l.shape l.sizes l.q l.words;
   events : l.state.events ≡ l.fn.state.events;
   contents : g.K.KvStore.contents l.state.store ≡ g.K.KvStore.contents l.fn.state.store;
+  change_count : g.K.KvStore.change_count l.state.store ≡ g.K.KvStore.change_count l.fn.state.store;
   faults : g.K.KvStore.faults l.fn.state.store ≤ g.K.KvStore.faults l.state.store;
   prefixes : g.K.KvStore.prefixes l.state.store ≡ g.K.KvStore.prefixes l.fn.state.store;
   names : g.K.KvStore.names l.state.store ≡ g.K.KvStore.names l.fn.state.store;

@@ -1,6 +1,7 @@
-use Rattle.std.proofs.Common.{◌≡◌, ◌<◌, ℕ, List, Option, Result, Ok, Err, ◌++◌, ◌∷◌, [], sym, ap, subst, ◌∙◌, refl, Some, length, rules, false, cond}
+use Rattle.std.proofs.Common.{◌≡◌, ◌<◌, ℕ, List, Option, Result, Ok, Err, ◌++◌, ◌∷◌, [], sym, ap, subst, ◌∙◌, refl, Some, length, rules, arith, false, cond}
 use Rattle.std.specs.Str.{bytes_eq}
 use Rattle.std.specs.FinMap as finmap
+use Rattle.kv_face.specs.Store.{OneMore}
 use Rattle.shared_state.specs.Chunks.{metadata_key}
 use Rattle.shared_state.specs.Index.{IsIndexed}
 use Rattle.shared_state.specs.Catalog.{IsCatalog, text_at}
@@ -11,6 +12,7 @@ use Rattle.shared_state.specs.declared.array.ArrayInfo.{ArrayInfo}
 use Rattle.shared_state.proofs.Histories.{known_after-more}
 use Rattle.shared_state.proofs.Indexing.{indexed_same, indexed_open}
 use Rattle.shared_state.proofs.Listing.{catalog_same, catalog_more, catalog_back, is_made, apart_of_made}
+use Rattle.shared_state.proofs.Counting.{counted_open, counted_fault}
 use Rattle.shared_state.proofs.Fetching.{one_distinct, opening_of, consistent_open, consistent_fault}
 use Rattle.shared_state.specs.declared.state.Opening.{Opening}
 use Rattle.shared_state.specs.declared.error.OpenError.{OpenError}
@@ -110,3 +112,22 @@ returns-in-Err-Failed-clause-failed g c = λ event e.
       subst (λ (st : StateOf g.row.K.Denot). g.K.KvStore.faults st.store < g.K.KvStore.faults c.apply_all.new.store) c.self.view_is (search rules),
       record { events = grown ∙ ap (λ m. c.args.self.now.events ++ fault c.args.owner m ∷ []) c.in_ok-mount.ensures; numbered = sym number ∙ c.add-event-in-Err-Failed.ensures.number },
     )
+
+pub returns-in-Ok-clause-counted : goal.returns-in-Ok-clause-counted
+returns-in-Ok-clause-counted g c = λ start before counted none.
+    let i = c.in_ok-info.info in
+    let same = ap (λ (s : StateOf g.row.K.Denot). s.events) c.self.view_is in
+    let told = ap (λ (s : StateOf g.row.K.Denot). g.K.KvStore.change_count s.store) c.self.view_is in
+    let later = g.K.KvStore.change_count c.apply_all.new.store in
+    let one : length c.deref.result.now ≡ 1 = ap length (c.deref.ensures.value ∙ c.in_ok-changes.ensures) in
+    let grown : c.add-event.new.events.items ≡ c.args.self.now.events ++ opened c.args.owner i ∷ [] = c.add-event.ensures.items ∙ ap (λ es. es ++ opened c.args.owner i ∷ []) (c.in_ok-reserve.ensures.items ∙ same) in
+    counted_open start before (g.K.KvStore.change_count c.args.self.now.store) later c.args.self.now.events c.add-event.new.events.items c.args.owner i counted (ap (λ (j : ArrayInfo). finmap.get start (metadata_key j.home)) c.in_ok-info.ensures.info ∙ none)
+    (subst (λ n. OneMore n later) told (c.in-Ok.ensures.one_more (omega (arith, one)))) grown
+
+pub returns-in-Err-Failed-clause-counted : goal.returns-in-Err-Failed-clause-counted
+returns-in-Err-Failed-clause-counted g c = λ start before counted none.
+    let e = fault c.args.owner c.in_ok-mount.mount in
+    let same = ap (λ (s : StateOf g.row.K.Denot). s.events) c.self.view_is in
+    let grown : c.add-event-in-Err-Failed.new.events.items ≡ c.args.self.now.events ++ e ∷ [] = c.add-event-in-Err-Failed.ensures.items ∙ ap (λ es. es ++ e ∷ []) (c.in_ok-reserve.ensures.items ∙ same) in
+    counted_fault start before (g.K.KvStore.change_count c.args.self.now.store) (g.K.KvStore.change_count c.apply_all.new.store) c.args.self.now.events c.add-event-in-Err-Failed.new.events.items c.args.owner c.in_ok-mount.mount counted
+    (c.in-Err-Failed.ensures.count_err ∙ ap (λ (s : StateOf g.row.K.Denot). g.K.KvStore.change_count s.store) c.self.view_is) grown
