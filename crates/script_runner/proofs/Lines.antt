@@ -1,6 +1,6 @@
 -- From line to line.
 use Rattle.std.proofs.Common.{◌≡◌, ℕ, ◌+◌, ◌<◌, ◌≤◌, ◌^◌, List, [], ◌∷◌, ◌++◌, append-nil, append_assoc, Option, Some, None, Bool, true, false, cond, ◌⊎◌, inl, inr, refl, sym, ap, subst, ◌∙◌, length, Bor, arith}
-use Rattle.std.specs.Prelude.{IfSome, MatchOption, fold}
+use Rattle.std.specs.Prelude.{IfSome, MatchOption, OnErr, OnOk, IsErr, Result, Ok, Err, fold}
 use Rattle.std.proofs.lemmas.List.{map-append}
 use Rattle.std.proofs.lemmas.List.Sums.{fold-append}
 use Rattle.shared_state.specs.History.{History}
@@ -16,11 +16,11 @@ use Rattle.script_runner.specs.Kept.{session_of, IsTurn, Comes}
 use Rattle.script_runner.specs.Progress.{IsUnderWay}
 
 failures-more : (attempts : List Attempt) (a : Attempt) → failures (attempts ++ a ∷ []) ≡ failures attempts + failures (a ∷ [])
-failures-more [] a = refl
-failures-more (b ∷ attempts) a = by_flag b.fails where
-  by_flag : (f : Bool) → cond f (failures (attempts ++ a ∷ []) + 1) (failures (attempts ++ a ∷ [])) ≡ cond f (failures attempts + 1) (failures attempts) + failures (a ∷ [])
-  by_flag true = let h = failures-more attempts a in omega (arith, h)
-  by_flag false = failures-more attempts a
+failures-more [] a = omega arith
+failures-more (b ∷ attempts) a = by_flag b.fails (failures-more attempts a) where
+  by_flag : (f : Bool) → failures (attempts ++ a ∷ []) ≡ failures attempts + failures (a ∷ []) → cond f (failures (attempts ++ a ∷ []) + 1) (failures (attempts ++ a ∷ [])) ≡ cond f (failures attempts + 1) (failures attempts) + failures (a ∷ [])
+  by_flag true h = omega (arith, h)
+  by_flag false h = h
 
 run_of-more : (attempts : List Attempt) (a : Attempt) → run_of (attempts ++ a ∷ []) ≡ after_attempt (run_of attempts) a
 run_of-more attempts a = fold-append after_attempt begun attempts (a ∷ [])
@@ -128,10 +128,10 @@ whole_run script before now answers line events names s = record {
 -- lines at none of which the store fails
 unfailing_from : (attempts : List Attempt) (r : Run) → failures attempts ≡ 0 → fold after_attempt r attempts ≡ fold (after_line turn_of) r (lines_tried attempts)
 unfailing_from [] r none = refl
-unfailing_from (a ∷ attempts) r none = by_flag a.fails none where
-  by_flag : (f : Bool) → cond f (failures attempts + 1) (failures attempts) ≡ 0 → fold after_attempt (after_line (turn_under f) r a.line) attempts ≡ fold (after_line turn_of) (after_line turn_of r a.line) (lines_tried attempts)
-  by_flag true e = absurd (omega (arith, e))
-  by_flag false e = unfailing_from attempts (after_line turn_of r a.line) e
+unfailing_from (a ∷ attempts) r none = by_flag a.fails (λ q e. unfailing_from attempts q e) none where
+  by_flag : (f : Bool) → ((q : Run) → failures attempts ≡ 0 → fold after_attempt q attempts ≡ fold (after_line turn_of) q (lines_tried attempts)) → cond f (failures attempts + 1) (failures attempts) ≡ 0 → fold after_attempt (after_line (turn_under f) r a.line) attempts ≡ fold (after_line turn_of) (after_line turn_of r a.line) (lines_tried attempts)
+  by_flag true later e = absurd (omega (arith, e))
+  by_flag false later e = later (after_line turn_of r a.line) e
 
 pub unfailing : (script : List ℕ) (before now : ℕ) (log : List Answer) (history : History) → now ≡ before → (h : IsWholeRun script before now log history) → run_of h.attempts ≡ single_session script
 unfailing script before now log history same h =
@@ -148,6 +148,15 @@ at_start script before answers events names a e b = record {
   session_is = λ i. session_of (e i) (b i);
   counted = omega arith;
 }
+
+-- what holds where a call failed
+pub on_err : {A E P : Type 0} (r : Result A E) → P → OnErr r P
+on_err (Ok a) p = tt
+on_err (Err e) p = p
+
+pub not_ok : {A E : Type 0} (P : Type 0) (r : Result A E) → IsErr r → OnOk r P
+not_ok P (Ok a) err = absurd (cc)
+not_ok P (Err e) err = tt
 
 -- the number of a line stays small
 pub short_more : (line n : ℕ) (after : Option (Bor (List ℕ))) → line + n < 2 ^ 62 → IfSome after (λ r. length r.now < n) → MatchOption after (line + 1 < 2 ^ 63) (λ r. line + 1 + length r.now < 2 ^ 62)

@@ -2,13 +2,15 @@
 use Rattle.std.proofs.Common.{◌≡◌, ◌≢◌, ◌<◌, ℕ, ◌+◌, List, [], ◌∷◌, ◌++◌, length, codes, Bool, true, cond, Option, Some, None, ◌⊎◌, inl, inr, refl, sym, ap, subst, ◌∙◌}
 use Rattle.shared_state.specs.History.{History}
 use Rattle.shared_state.specs.declared.array.ArrayRef.{ArrayRef}
-use Rattle.shared_state.specs.Calls.{Adds, fault}
+use Rattle.shared_state.specs.Calls.{Adds, fault, opened}
+use Rattle.shared_state.specs.Outcomes.{Outcome, made}
+use Rattle.zarr_chunks.specs.Metadata.{Metadata}
 use Rattle.shared_state.proofs.Known.{length-more}
 use Rattle.script_lines.specs.Status.{is_ok_body}
 use Rattle.script_lines.specs.declared.answer.Body.{Body}
 use Rattle.script_lines.specs.declared.answer.Body.TheVariants as body
 use Rattle.script_runner.specs.Limits.{too_many}
-use Rattle.script_runner.specs.Session.{Names, Session, Turn, at_bound, unless_many, stays}
+use Rattle.script_runner.specs.Session.{Names, Session, Turn, at_bound, unless_many, stays, info_of, open_turn}
 use Rattle.script_runner.specs.Failing.{fault_turn, failing, Leaves}
 use Rattle.script_runner.specs.Kept.{IsTurn, Comes, session_of}
 
@@ -33,12 +35,17 @@ failed_turn s listed turn b later event ok is adds =
     })
 
 -- the same turn by another name
-pub comes_same : {s : Session} {listed given : Option (List ℕ)} {turn other : Turn} {b : Body} {events : History} {names : Names} {before now : ℕ} → listed ≡ given → turn ≡ other → Comes s listed turn b events names before now → Comes s given other b events names before now
-comes_same {s} {listed} {given} {turn} {other} {b} {events} {names} {before} {now} l t h = subst (λ g. Comes s g other b events names before now) l (subst (λ u. Comes s listed u b events names before now) t h)
+pub comes_same : (s : Session) (listed : Option (List ℕ)) {given : Option (List ℕ)} {turn other : Turn} {b : Body} {events : History} {names : Names} {before now : ℕ} → listed ≡ given → turn ≡ other → Comes s listed turn b events names before now → Comes s given other b events names before now
+comes_same s listed {given} {turn} {other} {b} {events} {names} {before} {now} l t h = subst (λ g. Comes s g other b events names before now) l (subst (λ u. Comes s listed u b events names before now) t h)
 
-pub leaves_same : {s : Session} {turn other : Turn} {events : History} → turn ≡ other → Leaves s turn events → Leaves s other events
-leaves_same {s} {turn} {other} {events} t h = subst (λ u. Leaves s u events) t h
+pub leaves_same : (s : Session) (turn : Turn) {other : Turn} {events : History} → turn ≡ other → Leaves s turn events → Leaves s other events
+leaves_same s turn {other} {events} t h = subst (λ u. Leaves s u events) t h
 
 -- a turn that stays
-pub comes_stays : {s : Session} {listed : Option (List ℕ)} {b : Body} {before now : ℕ} → Comes s listed (stays s b) b s.events s.names before now
-comes_stays = inl (record { body = refl; after = refl })
+pub comes_stays : (s : Session) (listed : Option (List ℕ)) {b : Body} {before now : ℕ} → Comes s listed (stays s b) b s.events s.names before now
+comes_stays s listed = inl (record { body = refl; after = refl })
+
+-- an array that was made
+pub leaves_made : (events later : History) (names : Names) (name path : List ℕ) (m : Metadata) (outcome : Outcome) → later ≡ events ++ opened 0 (info_of events path m) ∷ [] → outcome ≡ made
+    → Leaves (session_of events names) (open_turn (session_of events names) name path m outcome) later
+leaves_made events later names name path m outcome grown is = inr (grown ∙ ap (λ o. (open_turn (session_of events names) name path m o).after.events) (sym is))

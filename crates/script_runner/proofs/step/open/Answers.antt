@@ -1,4 +1,4 @@
-use Rattle.std.proofs.Common.{Err, Some, ◌≡◌, [], true, inr, ap, subst, sym, ◌∙◌, refl, codes}
+use Rattle.std.proofs.Common.{Err, Some, ◌≡◌, ◌++◌, ◌∷◌, [], true, rules, inr, ap, subst, sym, ◌∙◌, refl, codes}
 use Rattle.std.specs.Prelude.{IfSome, count_by}
 use Rattle.std.specs.FinMap as finmap
 use Rattle.indexmap.specs.IndexMap.{get_by_text}
@@ -6,11 +6,12 @@ use Rattle.shared_state.specs.Arrays.{ref_of}
 use Rattle.shared_state.specs.Calls.{Adds, opened, new_info}
 use Rattle.shared_state.specs.Legal.{is_opening}
 use Rattle.script_lines.specs.Status.{is_ok_body}
+use Rattle.script_lines.specs.declared.answer.Body.TheVariants as body
 use Rattle.shared_state.specs.Outcomes.{making_outcome}
-use Rattle.script_runner.specs.Session.{Names, bind, open_turn, in_memory}
+use Rattle.script_runner.specs.Session.{Names, bind, info_of, open_turn, in_memory}
 use Rattle.script_runner.specs.Kept.{IsReady, session_of}
 use Rattle.script_runner.proofs.Sessions.{ready_opened, ready_bound, ready_faulted, ready_with}
-use Rattle.script_runner.proofs.Turns.{failed_turn}
+use Rattle.script_runner.proofs.Turns.{failed_turn, leaves_made}
 use Rattle.script_runner.proofs.step.open.Goals as goal
 
 pub returns-then-not-bind-clause-ready : goal.returns-then-not-bind-clause-ready
@@ -56,4 +57,35 @@ returns-in-Err-StoreFailed-clause-turn g c = λ able.
     let turn = open_turn s c.args.name c.args.path c.args.meta (making_outcome before (in_memory c.args.path)) in
     let path : in_memory c.items-3.result.now ≡ in_memory c.args.path = ap in_memory c.items-3.ensures in
     let ok : is_ok_body turn.body ≡ true = ap (λ o. is_ok_body (open_turn s c.args.name c.args.path c.args.meta o).body) (ap (making_outcome before) (sym path) ∙ f.2) in
-    inr (failed_turn s (Some []) turn c.failed.result c.open_zarr.new.self.events c.in-Err-StoreFailed.event ok c.failed.ensures f.1, f.0)
+    let is : c.failed.result ≡ body.StoreFailed c.in-Err-StoreFailed.event [] (Some []) = search rules in
+    inr (failed_turn s (Some []) turn c.failed.result c.open_zarr.new.self.events c.in-Err-StoreFailed.event ok is f.1, f.0)
+
+pub returns-then-not-bind-clause-counted : goal.returns-then-not-bind-clause-counted
+returns-then-not-bind-clause-counted g c = λ before counted. c.open_zarr.ensures.counted finmap.empty before counted (finmap.get-empty _ _)
+
+pub returns-in-Ok-open_zarr-clause-counted : goal.returns-in-Ok-open_zarr-clause-counted
+returns-in-Ok-open_zarr-clause-counted g c = λ before counted. c.open_zarr.ensures.counted finmap.empty before counted (finmap.get-empty _ _)
+
+pub returns-in-Err-StoreFailed-clause-counted : goal.returns-in-Err-StoreFailed-clause-counted
+returns-in-Err-StoreFailed-clause-counted g c = λ before counted. c.open_zarr.ensures.counted finmap.empty before counted (finmap.get-empty _ _)
+
+pub returns-clause-counted : goal.returns-clause-counted
+returns-clause-counted g c = λ before counted. c.open_zarr.ensures.counted finmap.empty before counted (finmap.get-empty _ _)
+
+pub returns-then-not-bind-clause-memory : goal.returns-then-not-bind-clause-memory
+returns-then-not-bind-clause-memory g c = λ wanting.
+    let before = c.args.session.now.state.events in
+    let later = c.open_zarr.new.self.events in
+    let info = new_info (count_by is_opening before) (codes "memory") c.items-3.result.now c.args.meta in
+    let adds : Adds before later (opened 0 info) c.in-Some.event = subst (λ e. IfSome e (Adds before later (opened 0 info))) c.in-Some.is c.in-Ok-open_zarr.ensures.opened.1 in
+    leaves_made before later (get_by_text c.args.session.now.names) c.args.name c.args.path c.args.meta (making_outcome before (in_memory c.args.path))
+    (adds.events ∙ ap (λ p. before ++ opened 0 (info_of before p c.args.meta) ∷ []) c.items-3.ensures) (ap (λ p. making_outcome before (in_memory p)) (sym c.items-3.ensures) ∙ c.in-Ok-open_zarr.ensures.made)
+
+pub returns-in-Ok-open_zarr-clause-memory : goal.returns-in-Ok-open_zarr-clause-memory
+returns-in-Ok-open_zarr-clause-memory g c = λ wanting.
+    let before = c.args.session.now.state.events in
+    let later = c.open_zarr.new.self.events in
+    let info = new_info (count_by is_opening before) (codes "memory") c.items-3.result.now c.args.meta in
+    let adds : Adds before later (opened 0 info) c.in-Some.event = subst (λ e. IfSome e (Adds before later (opened 0 info))) c.in-Some.is c.in-Ok-open_zarr.ensures.opened.1 in
+    leaves_made before later (get_by_text c.args.session.now.names) c.args.name c.args.path c.args.meta (making_outcome before (in_memory c.args.path))
+    (adds.events ∙ ap (λ p. before ++ opened 0 (info_of before p c.args.meta) ∷ []) c.items-3.ensures) (ap (λ p. making_outcome before (in_memory p)) (sym c.items-3.ensures) ∙ c.in-Ok-open_zarr.ensures.made)

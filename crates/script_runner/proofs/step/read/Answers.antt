@@ -1,4 +1,4 @@
-use Rattle.std.proofs.Common.{Err, None, inl, inr, refl, ap, subst, ◌∙◌, length}
+use Rattle.std.proofs.Common.{◌≡◌, [], rules, Err, None, inl, inr, refl, ap, subst, ◌∙◌, length}
 use Rattle.std.specs.Prelude.{replicate, pos}
 use Rattle.std.specs.FinMap as finmap
 use Rattle.shared_state.specs.Calls.{Adds, fault, mount_of}
@@ -6,6 +6,7 @@ use Rattle.script_lines.specs.declared.answer.Body.TheVariants as body
 use Rattle.script_runner.specs.Session.{stays, values_body}
 use Rattle.script_runner.specs.Kept.{session_of}
 use Rattle.script_runner.proofs.Turns.{failed_turn}
+use Rattle.shared_state.proofs.Counting.{counted_fault}
 use Rattle.script_runner.proofs.Sessions.{ready_fault, read_words, not_damaged}
 use Rattle.script_runner.proofs.step.read.Goals as goal
 
@@ -27,7 +28,15 @@ returns-in-Err-StoreFailed-clause-turn g c = λ able names.
     let s = session_of c.args.state.now.events names in
     let f = c.in-Err-StoreFailed.ensures.failed c.in-Err-StoreFailed.event (ap Err c.in-Err-StoreFailed.field-0-is) in
     let adds = subst (λ m. Adds c.args.state.now.events c.read_now.new.self.events (fault 0 m) c.in-Err-StoreFailed.event) array.mount (f.1 array.known array.is) in
-    inr (failed_turn s None (stays s (values_body c.args.state.now.events c.args.array.now)) c.failed.result c.read_now.new.self.events c.in-Err-StoreFailed.event refl c.failed.ensures adds, f.0)
+    let is : c.failed.result ≡ body.StoreFailed c.in-Err-StoreFailed.event [] None = search rules in
+    inr (failed_turn s None (stays s (values_body c.args.state.now.events c.args.array.now)) c.failed.result c.read_now.new.self.events c.in-Err-StoreFailed.event refl is adds, f.0)
+
+pub returns-in-Err-StoreFailed-clause-counted : goal.returns-in-Err-StoreFailed-clause-counted
+returns-in-Err-StoreFailed-clause-counted g c = λ before counted.
+    let array = c.requires.array in
+    let f = c.in-Err-StoreFailed.ensures.failed c.in-Err-StoreFailed.event (ap Err c.in-Err-StoreFailed.field-0-is) in
+    counted_fault finmap.empty before (g.K.KvStore.change_count c.args.state.now.store) (g.K.KvStore.change_count c.read_now.new.self.store) c.args.state.now.events c.read_now.new.self.events 0 (mount_of array.known.info.home) counted
+    c.read_now.ensures.change_count (f.1 array.known array.is).events
 
 pub returns-in-Err-StoreFailed-clause-ready : goal.returns-in-Err-StoreFailed-clause-ready
 returns-in-Err-StoreFailed-clause-ready g c = λ names r.

@@ -17,3 +17,12 @@ returns-in-Err-StoreFailed-clause-ready g c = λ names r.
 
 pub returns-clause-ready : goal.returns-clause-ready
 returns-clause-ready g c = λ names r. ready_with names r (c.write_now.ensures.consistent finmap.empty r.consistent) (c.in-Err-Memory-write_now.ensures.memory (ap Err c.in-Err-Memory-write_now.field-0-is))
+
+pub returns-in-Ok-write_now-clause-counted : goal.returns-in-Ok-write_now-clause-counted
+returns-in-Ok-write_now-clause-counted g c = λ before counted. c.write_now.ensures.counted finmap.empty before counted
+
+pub returns-in-Err-StoreFailed-clause-counted : goal.returns-in-Err-StoreFailed-clause-counted
+returns-in-Err-StoreFailed-clause-counted g c = λ before counted. c.write_now.ensures.counted finmap.empty before counted
+
+pub returns-clause-counted : goal.returns-clause-counted
+returns-clause-counted g c = λ before counted. c.write_now.ensures.counted finmap.empty before counted
