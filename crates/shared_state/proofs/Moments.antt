@@ -1,5 +1,5 @@
 -- Two moments of a history between which nothing touches a chunk.
-use Rattle.std.proofs.Common.{◌≡◌, ℕ, ◌+◌, ◌≤◌, List, [], ◌∷◌, ◌++◌, append-nil, append_assoc, length, Bool, true, false, cond, Option, Some, ◌⊎◌, inl, inr, refl, sym, ap, subst, ◌∙◌, arith, length-append}
+use Rattle.std.proofs.Common.{◌≡◌, ℕ, ◌+◌, ◌≤◌, [], ◌∷◌, ◌++◌, append-nil, append_assoc, length, Bool, false, cond, Option, Some, inl, inr, refl, sym, ap, subst, ◌∙◌, arith, length-append}
 use Rattle.std.specs.Prelude.{◌==◌}
 use Rattle.kv_face.specs.Store.{Contents}
 use Rattle.shared_state.specs.declared.event.Kind.{Kind}
@@ -11,8 +11,7 @@ use Rattle.shared_state.specs.Chunks.{Chunk, chunk_of, chunk_in}
 use Rattle.shared_state.specs.Touch.{touches, touches_by, generation_of}
 use Rattle.shared_state.specs.Content.{content_after}
 use Rattle.shared_state.proofs.Tests.{true_or_false}
-use Rattle.shared_state.proofs.Histories.{each_history, known_after-more, generation_of-more}
-use Rattle.shared_state.proofs.Known.{length-more}
+use Rattle.shared_state.proofs.Histories.{each_history, known_after-more}
 use Rattle.shared_state.proofs.Untouched.{content_untouched, generation_touched, generation_untouched, chunk_array}
 
 -- each cell of the chunk is in it at both moments, and has the same word
