@@ -11,7 +11,7 @@ use Rattle.script_lines.specs.declared.answer.Body.{Body}
 use Rattle.script_lines.specs.declared.answer.Body.TheVariants as memory
 use Rattle.script_runner.specs.Session.{Names, Session, turn_of}
 use Rattle.script_runner.specs.Solo.{Run, after_line, answered, begun, single_session}
-use Rattle.script_runner.specs.Failing.{Attempt, turn_under, failing, listed_by, after_attempt, run_of, lines_tried, failures, IsWholeRun, IsCutLog, IsCutRun, Leaves}
+use Rattle.script_runner.specs.Failing.{Attempt, turn_under, listed_by, after_attempt, run_of, lines_tried, failures, IsWholeRun, IsCutLog, IsCutRun, Leaves}
 use Rattle.script_runner.specs.Kept.{session_of, IsTurn, Comes}
 use Rattle.script_runner.specs.Progress.{IsUnderWay}
 

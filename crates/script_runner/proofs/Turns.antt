@@ -1,5 +1,5 @@
 -- The turn of a line that names an array, and of one at which the store fails.
-use Rattle.std.proofs.Common.{◌≡◌, ◌≢◌, ◌<◌, ℕ, ◌+◌, List, [], ◌∷◌, ◌++◌, length, codes, Bool, true, cond, Option, Some, None, ◌⊎◌, inl, inr, refl, sym, ap, subst, ◌∙◌}
+use Rattle.std.proofs.Common.{◌≡◌, ℕ, ◌+◌, List, [], ◌∷◌, ◌++◌, length, codes, Bool, true, cond, Option, Some, None, inl, inr, refl, sym, ap, subst, ◌∙◌}
 use Rattle.shared_state.specs.History.{History}
 use Rattle.shared_state.specs.declared.array.ArrayRef.{ArrayRef}
 use Rattle.shared_state.specs.Calls.{Adds, fault, opened}

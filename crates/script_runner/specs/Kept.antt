@@ -1,5 +1,5 @@
 -- How a session's fields stand for what has happened.
-use Rattle.std.specs.Prelude.{◌≡◌, ◌<◌, ◌⊎◌, codes, ℕ, List, [], Option, Some}
+use Rattle.std.specs.Prelude.{◌≡◌, ◌<◌, ◌⊎◌, codes, ℕ, List, Option, Some}
 use Rattle.std.specs.FinMap as finmap
 use Rattle.kv_face.specs.Store.{Contents}
 use Rattle.shared_state.specs.History.{History}
