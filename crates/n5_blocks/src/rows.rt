@@ -23,33 +23,33 @@ pub(crate) fn read_rows(
 ) -> Result<(), AllocError>
     requires within { AreWithin block.now sizes.now }
     requires cells { 0 < cell_count block.now }
+    requires volume { cell_count block.now ≤ 2 ^ 24 }
     requires room { from + stride * cell_count sizes.now + byte_count dtype ≤ length elements.now + stride }
     requires stride { stride * cell_count block.now ≤ 2 ^ 27 }
     requires small { length elements.now ≤ 2 ^ 27 }
     ensures { OnOk result (out.new.items
         ≡ out.old.items ++ words_of_rows dtype block.now sizes.now stride from elements.now) }
 {
-    match (block, sizes) {
-        ([most, block @ ..], [size, sizes @ ..]) => {
-            for i in 0..*size as usize {
-                read_rows(
-                    dtype,
-                    block,
-                    sizes,
-                    stride * *size as usize,
-                    from + i * stride,
-                    elements,
-                    out,
-                )?;
-            }
-            put_zeros(*most - *size, block, out)
-        }
-        _ => {
-            let end = from + byte_count(dtype);
-            out.push(take_word(dtype, true, &elements[from..end]))?;
-            Ok(())
-        }
+    let [size, sizes_behind @ ..] = sizes else {
+        let end = from + byte_count(dtype);
+        out.push(take_word(dtype, true, &elements[from..end]))?;
+        return Ok(());
+    };
+    let [most, block_behind @ ..] = block else {
+        unreachable!();
+    };
+    for i in 0..*size as usize {
+        read_rows(
+            dtype,
+            block_behind,
+            sizes_behind,
+            stride * *size as usize,
+            from + i * stride,
+            elements,
+            out,
+        )?;
     }
+    put_zeros(*most - *size, block_behind, out)
 }
 
 // Appends rows of these sizes, of zeros.
@@ -61,7 +61,7 @@ fn put_zeros(rows: u64, sizes: &[u64], out: &mut Vec<u64>) -> Result<(), AllocEr
         return Ok(());
     }
     let count = rows as usize * cells_of(sizes);
-    for _ in 0..count {
+    for _place in 0..count {
         out.push(0)?;
     }
     Ok(())
@@ -87,23 +87,24 @@ pub(crate) fn write_rows(
     ensures { OnOk result (out.new.items
         ≡ out.old.items ++ elements_of_rows dtype block.now sizes.now stride from words.now) }
 {
-    match (block, sizes) {
-        ([most, block @ ..], [size, sizes @ ..]) => {
-            for i in 0..*size as usize {
-                write_rows(
-                    dtype,
-                    block,
-                    sizes,
-                    stride * *most as usize,
-                    from + i * stride,
-                    words,
-                    out,
-                )?;
-            }
-            Ok(())
-        }
-        _ => put_element(dtype, words[from], out),
+    let [size, sizes_behind @ ..] = sizes else {
+        return put_element(dtype, words[from], out);
+    };
+    let [most, block_behind @ ..] = block else {
+        unreachable!();
+    };
+    for i in 0..*size as usize {
+        write_rows(
+            dtype,
+            block_behind,
+            sizes_behind,
+            stride * *most as usize,
+            from + i * stride,
+            words,
+            out,
+        )?;
     }
+    Ok(())
 }
 
 /// Appends the bytes of a word.

@@ -1,5 +1,5 @@
 // The rules of sizes.
-ghost use Rattle.std.specs.Prelude.{◌≡◌, ◌↔◌, ◌≤◌, ◌-◌, ◌^◌, IsTrue, nat_le};
+ghost use Rattle.std.specs.Prelude.{◌≡◌, ◌↔◌, ◌≤◌, ◌-◌, ◌^◌, EachIndex, IsTrue, nat_le, slice_index};
 ghost use Rattle.std.specs.List.{list_all};
 ghost use Rattle.n5_blocks.specs.Metadata.{IsDimensions, IsBlockShape};
 ghost use Rattle.n5_blocks.specs.Read.{are_dimensions, are_block_sizes};
@@ -41,13 +41,15 @@ pub fn is_block_shape(block: &[u64]) -> bool
 }
 
 fn are_at_least(sizes: &[u64], least: u64) -> bool
-    ensures { result ≡ list_all (λ size. nat_le least size) sizes.now }
+    ensures value { result ≡ list_all (λ size. nat_le least size) sizes.now }
+    ensures meaning { IsTrue result ↔ EachIndex sizes.now (λ k. least ≤ slice_index sizes.now k) }
 {
     sizes.iter().all(|size| least <= *size)
 }
 
 fn are_at_most(sizes: &[u64], most: u64) -> bool
-    ensures { result ≡ list_all (λ size. nat_le size most) sizes.now }
+    ensures value { result ≡ list_all (λ size. nat_le size most) sizes.now }
+    ensures meaning { IsTrue result ↔ EachIndex sizes.now (λ k. slice_index sizes.now k ≤ most) }
 {
     sizes.iter().all(|size| *size <= most)
 }
