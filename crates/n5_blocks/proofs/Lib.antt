@@ -1,2 +1,5 @@
 pub mod RowSteps
 pub mod SizeLaws
+pub mod TestLaws
+pub mod FormLaws
+pub mod ReadLaws
