@@ -3,3 +3,4 @@ pub mod SizeLaws
 pub mod TestLaws
 pub mod FormLaws
 pub mod ReadLaws
+pub mod MetadataLaws
