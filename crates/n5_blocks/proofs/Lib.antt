@@ -4,3 +4,8 @@ pub mod TestLaws
 pub mod FormLaws
 pub mod ReadLaws
 pub mod MetadataLaws
+pub mod RowLaws
+pub mod ElementLaws
+pub mod FaultLaws
+pub mod HeaderLaws
+pub mod BlockLaws

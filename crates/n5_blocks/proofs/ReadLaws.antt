@@ -72,8 +72,8 @@ described d m is =
     let dimensions = dimensions_checked (sizes_at (codes "dimensions") d) one.0 one.1 in
     let block = block_checked (length one.0) (sizes_at (codes "blockSize") d) two.0 two.1 in
     let same : record { dimensions = one.0; block = two.0; dtype = three.0 } ≡ m = ok_only _ m four.2 in
-    subst (λ n. IsMetadata n × Describes d n) same
-    (record {
+    subst (λ n. IsMetadata n × Describes d n) same (
+      record {
         dimensions = IsDimensions-from_test one.0 dimensions.1;
         ranks = eqb-true (length two.0) (length one.0) block.1;
         block = IsBlockShape-from_test two.0 block.2;
@@ -83,7 +83,8 @@ described d m is =
         block = sizes_found (get (codes "blockSize") d) two.0 block.0;
         dtype = text_found (get (codes "dataType") d) (type_name three.0) (dtype_checked (text_in (codes "dataType") d) three.0 three.1);
         compression = compression_found (get (codes "compression") d) (compression_checked (compression_in d) four.0 four.1);
-      })
+      },
+    )
 
 -- bytes that give metadata spell it
 pub SpellsMetadata-from_data : (bytes : List ℕ) (d : Data) (m : Metadata) → data_of bytes ≡ Some d → metadata_of_data (Some d) ≡ Ok m → SpellsMetadata m bytes
@@ -148,8 +149,10 @@ metadata_of-SpellsMetadata bytes m spells =
     let it = spells.described.2 in
     ap metadata_of_data spells.described.1
     ∙ then_from (is_some (as_object d)) (metadata_of_members d) (Err NotJson) (object_from_member (codes "dataType") d _ it.dtype)
-    ∙ rw (ap checked_dimensions (sizes_read (get (codes "dimensions") d) m.dimensions it.dimensions) ∙ dimensions_pass m.dimensions spells.rules.dimensions,
-        ap (checked_block (length m.dimensions)) (sizes_read (get (codes "blockSize") d) m.block it.block) ∙ block_passes (length m.dimensions) m.block spells.rules.ranks spells.rules.block,
-        ap (λ o. checked_dtype (option_and_then as_str o)) it.dtype ∙ dtype_passes m.dtype,
-        ap (λ o. checked_compression (option_and_then (text_in (codes "type")) o)) it.compression.1 ∙ ap (λ o. checked_compression (option_and_then as_str o)) it.compression.2 ∙ compression_passes)
-      refl
+    ∙ rw (
+      ap checked_dimensions (sizes_read (get (codes "dimensions") d) m.dimensions it.dimensions) ∙ dimensions_pass m.dimensions spells.rules.dimensions,
+      ap (checked_block (length m.dimensions)) (sizes_read (get (codes "blockSize") d) m.block it.block) ∙ block_passes (length m.dimensions) m.block spells.rules.ranks spells.rules.block,
+      ap (λ o. checked_dtype (option_and_then as_str o)) it.dtype ∙ dtype_passes m.dtype,
+      ap (λ o. checked_compression (option_and_then (text_in (codes "type")) o)) it.compression.1 ∙ ap (λ o. checked_compression (option_and_then as_str o)) it.compression.2 ∙ compression_passes,
+    )
+    refl

@@ -4,7 +4,6 @@ use Rattle.std.specs.List.{flat_map, range_with_len}
 use Rattle.cells.specs.Bytes.{byte_count, word_bytes, word_of_bytes}
 use Rattle.cells.specs.Places.{cell_count}
 use Rattle.cells.specs.declared.dtype.Dtype.{Dtype}
-use Rattle.n5_blocks.specs.Metadata.{Metadata}
 use Rattle.n5_blocks.specs.Faults.{header_len, sizes_in}
 
 -- the word of the element that begins at a byte
@@ -28,6 +27,6 @@ elements_of_rows dtype [] (size ∷ sizes) stride from words = []
 elements_of_rows dtype (most ∷ block) (size ∷ sizes) stride from words =
     flat_map (λ i. elements_of_rows dtype block sizes (stride * most) (from + i * stride) words) (range_with_len 0 size)
 
--- the words of a block's cells in C order
-abbrev pub block_words : Metadata → List ℕ → List ℕ
-block_words m bytes = words_of_rows m.dtype m.block (sizes_in (length m.block) bytes) (byte_count m.dtype) 0 (drop (header_len (length m.block)) bytes)
+-- the words of a block's cells in C order, as bytes store them
+abbrev pub block_words : Dtype → List ℕ → List ℕ → List ℕ
+block_words dtype block bytes = words_of_rows dtype block (sizes_in (length block) bytes) (byte_count dtype) 0 (drop (header_len (length block)) bytes)

@@ -1,9 +1,9 @@
-ghost use Rattle.std.specs.Prelude.{◌≡◌, ◌≢◌, ◌↔◌, ℕ, ◌≤◌, ◌<◌, ◌^◌, ◌++◌, IfOk, IfErr, OnOk, Some, length, reverse, slice_index};
+ghost use Rattle.std.specs.Prelude.{◌≡◌, ◌≢◌, ◌↔◌, ℕ, ◌≤◌, ◌<◌, ◌^◌, ◌++◌, IfOk, IfErr, OnOk, Some, None, length, reverse, slice_index};
 ghost use Rattle.cells.specs.Numbers.{IsWord};
 ghost use Rattle.cells.specs.Places.{cell_count};
 ghost use Rattle.n5_blocks.specs.Metadata.{IsBlockShape};
 ghost use Rattle.n5_blocks.specs.Block.{AreWithin, StoresCells, SpellsBlock, header, word_at};
-ghost use Rattle.n5_blocks.specs.Faults.{block_fault};
+ghost use Rattle.n5_blocks.specs.Faults.{block_fault, cells_fault};
 ghost use Rattle.n5_blocks.specs.Rows.{block_words, elements_of_rows};
 ghost use Rattle.n5_blocks.specs.declared.error.BlockError.{BlockError};
 
@@ -34,7 +34,7 @@ pub fn decode(alloc: Global, m: &N5Meta, bytes: &[u8]) -> Result<Dense, BlockErr
     if let Some(fault) = block_fault(m, bytes) {
         return Err(fault);
     }
-    let Ok(words) = read_words(alloc, m, bytes) else {
+    let Ok(words) = read_words(alloc, m.dtype, m.block.items(), bytes) else {
         return Err(BlockError::Memory);
     };
     let Ok(shape) = Vec::from_slice(alloc, m.block.items()) else {
@@ -58,20 +58,26 @@ pub fn encode(alloc: Global, m: &N5Meta, d: &Dense) -> Result<Vec<u8>, AllocErro
 }
 
 // The words of a block's cells in C order.
-fn read_words(alloc: Global, m: &N5Meta, bytes: &[u8]) -> Result<Vec<u64>, AllocError>
-    requires { block_fault m.now bytes.now ≡ None }
-    ensures { IfOk result (λ words. words.items ≡ block_words m.now bytes.now) }
+fn read_words(
+    alloc: Global,
+    dtype: Dtype,
+    block: &[u64],
+    bytes: &[u8],
+) -> Result<Vec<u64>, AllocError>
+    requires rank { length block.now ≤ 32 }
+    requires block { IsBlockShape block.now }
+    requires sound { cells_fault dtype block.now bytes.now ≡ None }
+    ensures { IfOk result (λ words. words.items ≡ block_words dtype block.now bytes.now) }
 {
-    let block = m.block.items();
+    let elements = &bytes[header_len(block.len())..];
     let buffer = sizes_in(block.len(), bytes);
     let sizes = &buffer[..block.len()];
-    let elements = &bytes[header_len(block.len())..];
     let mut words = Vec::with_capacity(alloc, cells_of(block))?;
     read_rows(
-        m.dtype,
+        dtype,
         block,
         sizes,
-        byte_count(m.dtype),
+        byte_count(dtype),
         0,
         elements,
         &mut words,

@@ -41,6 +41,6 @@ returns t c =
     let end : c.loop-i.i ≡ get_or c.args.sizes.now 0 0 = omega arith in
     on_ok_weaker c.put_zeros.result
     (rows_and_more (λ i. words_of_rows c.args.dtype (behind c.args.block.now) (behind c.args.sizes.now) (c.args.stride * get_or c.args.sizes.now 0 0) (c.args.from + i * c.args.stride) c.args.elements.now)
-        c.args.out.now.items c.loop-i.out.items c.put_zeros.new.out.items _ _ c.loop-i.i (get_or c.args.sizes.now 0 0) c.loop-i.invariant end
-        (words_of_all_rows c.args.dtype c.args.block.now c.args.sizes.now c.args.stride c.args.from c.args.elements.now (omega arith) (omega arith)))
+    c.args.out.now.items c.loop-i.out.items c.put_zeros.new.out.items _ _ c.loop-i.i (get_or c.args.sizes.now 0 0) c.loop-i.invariant end
+    (words_of_all_rows c.args.dtype c.args.block.now c.args.sizes.now c.args.stride c.args.from c.args.elements.now (omega arith) (omega arith)))
     c.put_zeros.ensures

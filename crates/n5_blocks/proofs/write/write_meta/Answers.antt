@@ -25,5 +25,5 @@ returns-clause-reads_back c =
     let shallow : depth (view c.in_ok-value.value) ≤ max_depth = subst (λ d. depth d ≤ max_depth) (sym c.in_ok-value.ensures) (depth-metadata c.args.m.now) in
     IfOk-weaker c.compact.result _ _
     (λ bytes reads. metadata_of-SpellsMetadata bytes.items c.args.m.now
-        (record { rules = subst IsMetadata c.m.view_is c.m.invariant; described = (metadata_data c.args.m.now, reads shallow ∙ ap Some c.in_ok-value.ensures, Describes-metadata c.args.m.now) }))
+    (record { rules = subst IsMetadata c.m.view_is c.m.invariant; described = (metadata_data c.args.m.now, reads shallow ∙ ap Some c.in_ok-value.ensures, Describes-metadata c.args.m.now) }))
     c.compact.ensures.reads_back

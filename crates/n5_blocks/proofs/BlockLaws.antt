@@ -1,0 +1,55 @@
+-- Bytes without a fault spell a block, and what they spell.
+use Rattle.std.proofs.Common.{◌≡◌, ℕ, zero, suc, ◌+◌, ◌*◌, ◌-◌, ◌<◌, ◌≤◌, ◌^◌, List, [], ◌∷◌, ◌++◌, length, get_or, take, drop, reverse, true, None, refl, sym, ap, subst, ◌∙◌, arith, zero-add, mul_comm}
+use Rattle.std.proofs.Math.Nat.{mul-le-mul_left}
+use Rattle.std.proofs.lemmas.List.{length-drop}
+use Rattle.cells.specs.Numbers.{IsWord}
+use Rattle.cells.specs.Bytes.{byte_count, word_bytes}
+use Rattle.cells.specs.Places.{cell_count, IsInside, c_place, f_place}
+use Rattle.cells.specs.declared.dtype.Dtype.{Dtype}
+use Rattle.cells.proofs.ByteLaws.{IsWord-word_of_bytes}
+use Rattle.cells.proofs.PlaceLaws.{f_place-lt}
+use Rattle.n5_blocks.specs.Metadata.{Metadata}
+use Rattle.n5_blocks.specs.Block.{element_bytes, header, AreElements, AreWithin, StoresCells, SpellsBlock}
+use Rattle.n5_blocks.specs.Faults.{header_len, sizes_in, block_fault}
+use Rattle.n5_blocks.specs.Rows.{word_in, words_of_rows, block_words}
+use Rattle.n5_blocks.proofs.SizeLaws.{Fit, fit_from_within}
+use Rattle.n5_blocks.proofs.FaultLaws.{AreSound, IsWhole, length-sizes_in, sound_from_no_fault, whole_from_no_fault}
+use Rattle.n5_blocks.proofs.HeaderLaws.{small-drop, bytes_of_part, bytes-header}
+use Rattle.n5_blocks.proofs.RowLaws.{get_or-words_of_rows, get_or-lacking}
+
+-- elements that fill their bytes are the elements of the words that are read from them
+elements-words_of_rows : (dtype : Dtype) (block sizes elements : List ℕ) → Fit block sizes → ((i : ℕ) → get_or elements i 0 < 256) → length elements ≡ cell_count sizes * byte_count dtype
+    → AreElements dtype sizes elements (λ index. get_or (words_of_rows dtype block sizes (byte_count dtype) 0 elements) (c_place block index) 0)
+elements-words_of_rows dtype block sizes elements fit small full = record {
+  count = full;
+  elements = λ index within. sym (ap (word_bytes dtype true) (here index within) ∙ bytes_of_part dtype elements (f_place sizes index * byte_count dtype) small (fits index within));
+  are_words = λ index within. subst (IsWord dtype) (sym (here index within)) (IsWord-word_of_bytes dtype true (take (byte_count dtype) (drop (f_place sizes index * byte_count dtype) elements)));
+}
+  where
+    here : (index : List ℕ) → IsInside sizes index → get_or (words_of_rows dtype block sizes (byte_count dtype) 0 elements) (c_place block index) 0 ≡ word_in dtype elements (f_place sizes index * byte_count dtype)
+    here index within =
+        get_or-words_of_rows dtype block sizes index (byte_count dtype) 0 elements fit within
+        ∙ ap (word_in dtype elements) (zero-add (byte_count dtype * f_place sizes index) ∙ mul_comm (byte_count dtype) (f_place sizes index))
+    fits : (index : List ℕ) → IsInside sizes index → f_place sizes index * byte_count dtype + byte_count dtype ≤ length elements
+    fits index within =
+        let less = f_place-lt sizes index within in
+        let rows : byte_count dtype * (f_place sizes index + 1) ≤ byte_count dtype * cell_count sizes = mul-le-mul_left (byte_count dtype) (omega arith) in
+        omega (arith, rows, full)
+
+-- bytes without a fault spell a block
+pub SpellsBlock-from_no_fault : (m : Metadata) (bytes : List ℕ) → ((i : ℕ) → get_or bytes i 0 < 256) → block_fault m bytes ≡ None
+    → SpellsBlock m bytes (λ index. get_or (block_words m.dtype m.block bytes) (c_place m.block index) 0)
+SpellsBlock-from_no_fault m bytes small none =
+    let whole = whole_from_no_fault m bytes none in
+    let rank = length m.block in
+    let sizes = sizes_in rank bytes in
+    let sound = sound_from_no_fault m.dtype m.block bytes whole.cells in
+    let fit = fit_from_within m.block sizes sound.within in
+    let elements = drop (header_len rank) bytes in
+    let full : length elements ≡ cell_count sizes * byte_count m.dtype = rw length-drop (omega (arith, sound.count)) in
+    record { stored = (sizes, record {
+      within = sound.within;
+      parts = (elements, bytes-header bytes rank small sound.header whole.mode whole.rank (length-sizes_in rank bytes),
+          elements-words_of_rows m.dtype m.block sizes elements fit (small-drop (header_len rank) bytes small) full);
+      lacking = λ index within lacking. get_or-lacking m.dtype m.block sizes index (byte_count m.dtype) 0 elements fit within lacking;
+    }) }
