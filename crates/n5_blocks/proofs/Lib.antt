@@ -9,3 +9,5 @@ pub mod ElementLaws
 pub mod FaultLaws
 pub mod HeaderLaws
 pub mod BlockLaws
+pub mod Backwards
+pub mod WriteLaws
