@@ -1,5 +1,5 @@
 -- Bytes without a fault spell a block, and what they spell.
-use Rattle.std.proofs.Common.{◌≡◌, ℕ, zero, suc, ◌+◌, ◌*◌, ◌-◌, ◌<◌, ◌≤◌, ◌^◌, List, [], ◌∷◌, ◌++◌, length, get_or, take, drop, reverse, true, None, refl, sym, ap, subst, ◌∙◌, arith, zero-add, mul_comm}
+use Rattle.std.proofs.Common.{◌≡◌, ℕ, ◌+◌, ◌*◌, ◌<◌, ◌≤◌, ◌^◌, List, length, get_or, take, drop, true, None, sym, ap, subst, ◌∙◌, arith, zero-add, mul_comm}
 use Rattle.std.proofs.Math.Nat.{mul-le-mul_left}
 use Rattle.std.proofs.lemmas.List.{length-drop}
 use Rattle.std.specs.Prelude.{All}
@@ -11,11 +11,11 @@ use Rattle.cells.specs.declared.dtype.Dtype.{Dtype}
 use Rattle.cells.proofs.ByteLaws.{IsWord-word_of_bytes}
 use Rattle.cells.proofs.PlaceLaws.{f_place-lt}
 use Rattle.n5_blocks.specs.Metadata.{Metadata, IsMetadata}
-use Rattle.n5_blocks.specs.Block.{element_bytes, header, AreElements, AreWithin, StoresCells, SpellsBlock, word_at}
+use Rattle.n5_blocks.specs.Block.{AreElements, SpellsBlock, word_at}
 use Rattle.n5_blocks.specs.Faults.{header_len, sizes_in, block_fault}
 use Rattle.n5_blocks.specs.Rows.{word_in, words_of_rows, block_words}
 use Rattle.n5_blocks.proofs.SizeLaws.{Fit, fit_from_within}
-use Rattle.n5_blocks.proofs.FaultLaws.{AreSound, IsWhole, length-sizes_in, sound_from_no_fault, whole_from_no_fault}
+use Rattle.n5_blocks.proofs.FaultLaws.{length-sizes_in, sound_from_no_fault, whole_from_no_fault}
 use Rattle.n5_blocks.proofs.HeaderLaws.{small-drop, bytes_of_part, bytes-header}
 use Rattle.n5_blocks.proofs.RowLaws.{get_or-words_of_rows, get_or-lacking, length-words_of_rows, All-words_of_rows}
 
@@ -32,6 +32,7 @@ elements-words_of_rows dtype block sizes elements fit small full = record {
     here index within =
         get_or-words_of_rows dtype block sizes index (byte_count dtype) 0 elements fit within
         ∙ ap (word_in dtype elements) (zero-add (byte_count dtype * f_place sizes index) ∙ mul_comm (byte_count dtype) (f_place sizes index))
+
     fits : (index : List ℕ) → IsInside sizes index → f_place sizes index * byte_count dtype + byte_count dtype ≤ length elements
     fits index within =
         let less = f_place-lt sizes index within in
@@ -49,12 +50,20 @@ SpellsBlock-from_no_fault m bytes small none =
     let fit = fit_from_within m.block sizes sound.within in
     let elements = drop (header_len rank) bytes in
     let full : length elements ≡ cell_count sizes * byte_count m.dtype = rw length-drop (omega (arith, sound.count)) in
-    record { stored = (sizes, record {
-      within = sound.within;
-      parts = (elements, bytes-header bytes rank small sound.header whole.mode whole.rank (length-sizes_in rank bytes),
-          elements-words_of_rows m.dtype m.block sizes elements fit (small-drop (header_len rank) bytes small) full);
-      lacking = λ index within lacking. get_or-lacking m.dtype m.block sizes index (byte_count m.dtype) 0 elements fit within lacking;
-    }) }
+    record {
+      stored = (
+        sizes,
+        record {
+          within = sound.within;
+          parts = (
+            elements,
+            bytes-header bytes rank small sound.header whole.mode whole.rank (length-sizes_in rank bytes),
+            elements-words_of_rows m.dtype m.block sizes elements fit (small-drop (header_len rank) bytes small) full,
+          );
+          lacking = λ index within lacking. get_or-lacking m.dtype m.block sizes index (byte_count m.dtype) 0 elements fit within lacking;
+        },
+      );
+    }
 
 -- the words of a block stand in its shape
 pub IsDense-block_words : (m : Metadata) (bytes shape words : List ℕ) → IsMetadata m → block_fault m bytes ≡ None → shape ≡ m.block → words ≡ block_words m.dtype m.block bytes

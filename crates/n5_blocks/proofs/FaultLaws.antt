@@ -1,18 +1,17 @@
 -- What holds of bytes without a fault.
-use Rattle.std.proofs.Common.{◌≡◌, ℕ, ◌+◌, ◌*◌, ◌<◌, ◌≤◌, ◌^◌, List, length, take, drop, Bool, true, false, Option, Some, None, refl, sym, ap, ◌∙◌, arith}
+use Rattle.std.proofs.Common.{◌≡◌, ℕ, ◌+◌, ◌*◌, ◌≤◌, ◌^◌, List, length, drop, Bool, true, false, Option, Some, None, refl, ap, ◌∙◌, arith}
 use Rattle.std.specs.Prelude.{nat_lt, ◌==◌, if◌then◌else◌}
 use Rattle.std.specs.Option.{option_or}
 use Rattle.std.proofs.Math.Nat.{mul-le-mul}
 use Rattle.std.proofs.lemmas.Bool.{ltb-false, eqb-true}
-use Rattle.std.proofs.lemmas.List.{length-drop, length-take-le}
+use Rattle.std.proofs.lemmas.List.{length-drop}
 use Rattle.std.proofs.lemmas.List.FromFn.{length-map-range_with_len}
 use Rattle.cells.specs.Bytes.{byte_count}
 use Rattle.cells.specs.Places.{cell_count}
 use Rattle.cells.specs.declared.dtype.Dtype.{Dtype}
-use Rattle.n5_blocks.specs.Metadata.{Metadata, IsBlockShape}
+use Rattle.n5_blocks.specs.Metadata.{Metadata}
 use Rattle.n5_blocks.specs.Block.{AreWithin}
 use Rattle.n5_blocks.specs.Faults.{mode_in, rank_in, header_len, size_in, sizes_in, size_fault, length_fault, cells_fault, block_fault}
-use Rattle.n5_blocks.specs.declared.error.BlockError.{BlockError}
 use Rattle.n5_blocks.specs.declared.error.BlockError.TheVariants.{WrongLength}
 use Rattle.n5_blocks.proofs.SizeLaws.{none_from_if, within_from_no_fault, cell_count-within}
 

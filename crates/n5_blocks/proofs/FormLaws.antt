@@ -1,9 +1,9 @@
 -- Members of JSON objects, and the values that they hold.
-use Rattle.std.proofs.Common.{◌≡◌, ℕ, List, [], ◌∷◌, map, codes, Bool, true, false, cond, Option, Some, None, option_map, refl, sym, ap, ◌∙◌}
+use Rattle.std.proofs.Common.{◌≡◌, ℕ, List, [], ◌∷◌, map, Bool, true, false, cond, Option, Some, None, option_map, refl, sym, ap, ◌∙◌}
 use Rattle.std.specs.Prelude.{option_and_then}
 use Rattle.std.specs.List.{find}
 use Rattle.serde_json.specs.Data.{Data, Items, null, boolean, number, string, array, object, unsigned, negative, float, no_items, item}
-use Rattle.serde_json.specs.Find.{get, as_str, as_number, as_u64}
+use Rattle.serde_json.specs.Find.{as_str, as_number, as_u64}
 use Rattle.serde_json.specs.View.{items_of}
 use Rattle.json_forms.specs.Numbers.{natural}
 use Rattle.json_forms.specs.Lists.{list_of, data_list, all_of, u64_list}

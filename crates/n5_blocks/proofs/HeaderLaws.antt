@@ -1,17 +1,16 @@
 -- A header and the numbers in it.
-use Rattle.std.proofs.Common.{◌≡◌, ℕ, zero, suc, ◌+◌, ◌*◌, ◌-◌, ◌<◌, ◌≤◌, ◌^◌, List, [], ◌∷◌, ◌++◌, map, length, get_or, take, drop, true, refl, sym, ap, subst, ◌∙◌, arith, zero-add, add-zero, append-nil, append_assoc, length-append}
-use Rattle.std.specs.List.{flat_map, range_with_len}
-use Rattle.std.proofs.Math.Seq.{take-add, take-append_seam, drop-append_seam}
+use Rattle.std.proofs.Common.{◌≡◌, ℕ, zero, suc, ◌+◌, ◌*◌, ◌<◌, ◌≤◌, List, [], ◌∷◌, ◌++◌, length, get_or, take, drop, true, refl, sym, ap, ◌∙◌, arith, zero-add, append-nil}
+use Rattle.std.specs.List.{flat_map}
+use Rattle.std.proofs.Math.Seq.{take-add}
 use Rattle.std.proofs.lemmas.Grind.{flat_map-append}
 use Rattle.std.proofs.lemmas.List.{length-drop, length-take-le, drop-drop, take-append-drop, get_or-drop}
 use Rattle.std.proofs.lemmas.List.FromFn.{map-range_with_len_more}
 use Rattle.cells.specs.Bytes.{byte_count, word_bytes, word_of_bytes}
 use Rattle.cells.specs.declared.dtype.Dtype.{Dtype}
 use Rattle.cells.specs.declared.dtype.Dtype.TheVariants.{U16, U32}
-use Rattle.cells.proofs.ByteLaws.{length-word_bytes, word_of_bytes-word_bytes, word_bytes-word_of_bytes}
+use Rattle.cells.proofs.ByteLaws.{word_bytes-word_of_bytes}
 use Rattle.n5_blocks.specs.Block.{header}
 use Rattle.n5_blocks.specs.Faults.{mode_in, rank_in, header_len, size_in, sizes_in}
-use Rattle.n5_blocks.proofs.RowLaws.{length-rows}
 
 pub small-drop : (k : ℕ) (bytes : List ℕ) → ((i : ℕ) → get_or bytes i 0 < 256) → (i : ℕ) → get_or (drop k bytes) i 0 < 256
 small-drop k bytes small i = rw get_or-drop (small (k + i))
@@ -53,9 +52,9 @@ bytes-header bytes rank small fits mode is ranks =
     let second : take 2 (drop 2 bytes) ≡ word_bytes U16 true (length (sizes_in rank bytes)) = sym (bytes_of_part U16 bytes 2 small (omega arith)) ∙ ap (word_bytes U16 true) (is ∙ sym ranks) in
     let third : take (4 * rank) (drop 4 bytes) ≡ flat_map (word_bytes U32 true) (sizes_in rank bytes) = sym (size_bytes bytes small rank fits) in
     let front : take (2 + 2 + 4 * rank) bytes ≡ header (sizes_in rank bytes) =
-        take-add (2 + 2) (4 * rank) bytes
-        ∙ ap (λ l. l ++ take (4 * rank) (drop 4 bytes)) (take-add 2 2 bytes)
-        ∙ ap (λ l. (l ++ take 2 (drop 2 bytes)) ++ take (4 * rank) (drop 4 bytes)) first
-        ∙ ap (λ l. (word_bytes U16 true 0 ++ l) ++ take (4 * rank) (drop 4 bytes)) second
-        ∙ ap (λ l. (word_bytes U16 true 0 ++ word_bytes U16 true (length (sizes_in rank bytes))) ++ l) third in
+    take-add (2 + 2) (4 * rank) bytes
+    ∙ ap (λ l. l ++ take (4 * rank) (drop 4 bytes)) (take-add 2 2 bytes)
+    ∙ ap (λ l. (l ++ take 2 (drop 2 bytes)) ++ take (4 * rank) (drop 4 bytes)) first
+    ∙ ap (λ l. (word_bytes U16 true 0 ++ l) ++ take (4 * rank) (drop 4 bytes)) second
+    ∙ ap (λ l. (word_bytes U16 true 0 ++ word_bytes U16 true (length (sizes_in rank bytes))) ++ l) third in
     sym (take-append-drop (header_len rank) bytes) ∙ ap (λ l. l ++ drop (header_len rank) bytes) front

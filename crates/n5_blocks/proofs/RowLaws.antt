@@ -1,22 +1,21 @@
 -- What stands in rows, and where.
-use Rattle.std.proofs.Common.{◌≡◌, ℕ, zero, suc, ◌+◌, ◌*◌, ◌-◌, ◌<◌, ◌≤◌, ◌⊎◌, List, [], ◌∷◌, ◌++◌, length, get_or, take, drop, replicate, true, inl, inr, ⊎_elim, refl, sym, ap, subst, ◌∙◌, arith, length-append, zero-add}
+use Rattle.std.proofs.Common.{◌≡◌, ℕ, zero, suc, ◌+◌, ◌*◌, ◌-◌, ◌<◌, ◌≤◌, List, [], ◌∷◌, ◌++◌, length, get_or, take, drop, replicate, true, ⊎_elim, refl, sym, ap, ◌∙◌, arith, length-append, zero-add}
 use Rattle.std.specs.Prelude.{All}
 use Rattle.std.specs.List.{flat_map, range_with_len}
 use Rattle.std.proofs.Math.Nat.{suc-mul, mul-le-mul_left}
-use Rattle.std.proofs.Math.Seq.{drop-append-add}
 use Rattle.std.proofs.Math.ListN.{get_or-append, length-replicate}
 use Rattle.std.proofs.lemmas.Bool.{cases_lt}
-use Rattle.std.proofs.lemmas.List.{get_or-append-add, length-take-le, take-append-le, length-drop}
+use Rattle.std.proofs.lemmas.List.{get_or-append-add, length-take-le}
 use Rattle.std.proofs.lemmas.List.Concat.{get_or-flat_map}
 use Rattle.std.proofs.lemmas.List.Elements.{All-append, All-replicate}
 use Rattle.std.proofs.lemmas.List.FromFn.{length-range_with_len, get_or-range_with_len}
 use Rattle.cells.specs.Numbers.{IsWord}
-use Rattle.cells.specs.Bytes.{byte_count, word_bytes}
+use Rattle.cells.specs.Bytes.{byte_count}
 use Rattle.cells.specs.Places.{cell_count, IsInside, c_place, f_place}
 use Rattle.cells.specs.declared.dtype.Dtype.{Dtype}
-use Rattle.cells.proofs.ByteLaws.{length-word_bytes, IsWord-word_of_bytes}
+use Rattle.cells.proofs.ByteLaws.{IsWord-word_of_bytes}
 use Rattle.cells.proofs.PlaceLaws.{c_place-lt}
-use Rattle.n5_blocks.specs.Rows.{word_in, words_of_rows, elements_of_rows}
+use Rattle.n5_blocks.specs.Rows.{word_in, words_of_rows}
 use Rattle.n5_blocks.proofs.SizeLaws.{Fit, IsWord-zero}
 
 -- rows of one length

@@ -1,5 +1,5 @@
 -- Stored sizes that fit a block.
-use Rattle.std.proofs.Common.{◌≡◌, ℕ, zero, suc, ◌+◌, ◌*◌, ◌<◌, ◌≤◌, ◌^◌, List, [], ◌∷◌, ◌++◌, length, get_or, take, drop, reverse, Bool, true, false, Option, Some, None, cond, refl, sym, ap, ◌∙◌, arith}
+use Rattle.std.proofs.Common.{◌≡◌, ℕ, zero, suc, ◌+◌, ◌<◌, ◌≤◌, ◌^◌, List, [], ◌∷◌, ◌++◌, length, get_or, take, drop, reverse, Bool, true, false, Option, Some, None, refl, arith}
 use Rattle.std.proofs.Math.Nat.{mul-le-mul}
 use Rattle.std.proofs.lemmas.Bool.{ltb-false}
 use Rattle.std.proofs.lemmas.Int.{ints}
@@ -12,7 +12,6 @@ use Rattle.cells.specs.declared.dtype.Dtype.TheVariants.{I8, U8, I16, U16, I32, 
 use Rattle.std.specs.Prelude.{nat_lt, if◌then◌else◌}
 use Rattle.n5_blocks.specs.Block.{AreWithin}
 use Rattle.n5_blocks.specs.Faults.{header_len, size_in, size_fault}
-use Rattle.n5_blocks.specs.declared.error.BlockError.{BlockError}
 
 -- where a first choice is taken or another, and there is nothing, the other was taken and is nothing
 pub none_from_if : {A : Type 0} (b : Bool) (x : A) (o : Option A) → (if b then Some x else o) ≡ None → (b ≡ false) × (o ≡ None)

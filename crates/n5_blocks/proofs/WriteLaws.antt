@@ -1,5 +1,5 @@
 -- A header and rows of elements store cells.
-use Rattle.std.proofs.Common.{◌≡◌, ℕ, ◌+◌, ◌*◌, ◌<◌, List, ◌++◌, length, get_or, reverse, true, refl, sym, ap, subst, ◌∙◌, arith, zero-add}
+use Rattle.std.proofs.Common.{◌≡◌, ℕ, ◌+◌, ◌*◌, List, ◌++◌, length, get_or, reverse, true, sym, ap, subst, ◌∙◌, arith}
 use Rattle.std.specs.Prelude.{All}
 use Rattle.std.proofs.lemmas.List.Elements.{All-get_or}
 use Rattle.cells.specs.Numbers.{IsWord}
@@ -33,8 +33,10 @@ elements-backwards dtype block sizes words within full are = record {
   where
     fit : Fit (reverse block) (reverse sizes)
     fit = fit_from_within (reverse block) (reverse sizes) (within-reverse block sizes within)
+
     in_block : (index : List ℕ) → IsInside sizes index → IsInside block index
     in_block index inside = inside-fit block sizes index (fit_from_within block sizes within) inside
+
     place : (index : List ℕ) → IsInside sizes index → 0 + 1 * f_place (reverse block) (reverse index) ≡ c_place block index
     place index inside = (let one : 0 + 1 * f_place (reverse block) (reverse index) ≡ f_place (reverse block) (reverse index) = omega arith in one) ∙ f_place-reverse block index (in_block index inside)
 
@@ -55,10 +57,10 @@ pub StoresCells-dense : (m : Metadata) (bytes block sizes words : List ℕ) (d :
     → StoresCells m m.block bytes (word_at d)
 StoresCells-dense m bytes block sizes words d dense kind shape block_is sizes_is words_is is =
     let written : bytes ≡ header m.block ++ elements_of_rows m.dtype (reverse m.block) (reverse m.block) 1 0 d.words =
-        is
-        ∙ ap (λ s. header s ++ elements_of_rows m.dtype (reverse block) (reverse s) 1 0 words) sizes_is
-        ∙ ap (λ b. header m.block ++ elements_of_rows m.dtype (reverse b) (reverse m.block) 1 0 words) block_is
-        ∙ ap (λ w. header m.block ++ elements_of_rows m.dtype (reverse m.block) (reverse m.block) 1 0 w) words_is in
+    is
+    ∙ ap (λ s. header s ++ elements_of_rows m.dtype (reverse block) (reverse s) 1 0 words) sizes_is
+    ∙ ap (λ b. header m.block ++ elements_of_rows m.dtype (reverse b) (reverse m.block) 1 0 words) block_is
+    ∙ ap (λ w. header m.block ++ elements_of_rows m.dtype (reverse m.block) (reverse m.block) 1 0 w) words_is in
     let words_are : All (IsWord m.dtype) d.words = subst (λ t. All (IsWord t) d.words) kind dense.of_dtype in
     subst (λ s. StoresCells m m.block bytes (λ index. get_or d.words (c_place s index) 0)) (sym shape)
     (StoresCells-from_rows m m.block d.words bytes (within-same m.block) (dense.full ∙ ap cell_count shape) words_are (λ index inside outside. absurd (outside inside)) written)

@@ -1,8 +1,8 @@
 -- The grammar of a block's bytes.
-use Rattle.std.specs.Prelude.{◌≡◌, ℕ, ◌+◌, ◌*◌, ◌<◌, ◌≤◌, ◌++◌, true, List, length, take, drop, slice_index}
+use Rattle.std.specs.Prelude.{◌≡◌, ℕ, ◌*◌, ◌<◌, ◌≤◌, ◌++◌, true, List, length, take, drop, slice_index}
 use Rattle.std.specs.List.{flat_map}
 use Rattle.cells.specs.Numbers.{IsWord}
-use Rattle.cells.specs.Bytes.{byte_count, word_bytes, word_of_bytes}
+use Rattle.cells.specs.Bytes.{byte_count, word_bytes}
 use Rattle.cells.specs.Dense.{DenseCells}
 use Rattle.cells.specs.Places.{cell_count, IsInside, c_place, f_place}
 use Rattle.cells.specs.declared.dtype.Dtype.{Dtype}

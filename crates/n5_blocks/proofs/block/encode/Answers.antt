@@ -1,4 +1,4 @@
-use Rattle.std.proofs.Common.{◌≡◌, ap, sym, subst, ◌∙◌}
+use Rattle.std.proofs.Common.{ap, sym, subst, ◌∙◌}
 use Rattle.std.proofs.lemmas.Result.{IfOk-weaker}
 use Rattle.n5_blocks.specs.Metadata.{Metadata}
 use Rattle.n5_blocks.specs.Block.{StoresCells, word_at}
@@ -11,5 +11,5 @@ returns c =
     let shape = c.requires.shape ∙ ap (λ (m : Metadata). m.block) (sym c.m.view_is) in
     IfOk-weaker c.write_block.result _ _
     (λ bytes is. subst (λ m. StoresCells m m.block bytes.items (word_at c.args.d.now)) c.m.view_is
-        (StoresCells-dense _ bytes.items c.items.result.now c.items-2.result.now c.words.result.now c.args.d.now c.words.ensures.well_formed kind shape c.items.ensures c.items-2.ensures c.words.ensures.value is))
+    (StoresCells-dense _ bytes.items c.items.result.now c.items-2.result.now c.words.result.now c.args.d.now c.words.ensures.well_formed kind shape c.items.ensures c.items-2.ensures c.words.ensures.value is))
     c.write_block.ensures

@@ -1,8 +1,6 @@
-use Rattle.std.proofs.Common.{◌≡◌, ◌+◌, ◌*◌, ◌≤◌, ◌++◌, length, get_or, replicate, ap, ◌∙◌, arith, append_assoc}
-use Rattle.std.specs.List.{flat_map}
+use Rattle.std.proofs.Common.{◌≡◌, ◌+◌, ◌*◌, ◌≤◌, length, get_or, arith}
 use Rattle.std.proofs.lemmas.Result.{on_ok_weaker}
 use Rattle.cells.specs.Bytes.{byte_count}
-use Rattle.cells.specs.Places.{cell_count}
 use Rattle.n5_blocks.specs.Rows.{words_of_rows}
 use Rattle.n5_blocks.proofs.RowSteps.{behind, reads_row, rows_more, rows_and_more, zeros_fit, behind_fits, words_of_all_rows}
 use Rattle.n5_blocks.proofs.rows.+read_rows.Goals as goal

@@ -1,4 +1,4 @@
-use Rattle.std.proofs.Common.{◌≡◌, ◌+◌, ◌*◌, ◌≤◌, length, get_or, arith}
+use Rattle.std.proofs.Common.{◌≡◌, ◌+◌, ◌*◌, length, get_or, arith}
 use Rattle.n5_blocks.specs.Rows.{elements_of_rows}
 use Rattle.n5_blocks.proofs.RowSteps.{behind, writes_row, rows_more, all_rows, elements_of_all_rows}
 use Rattle.n5_blocks.proofs.rows.+write_rows.Goals as goal

@@ -1,13 +1,11 @@
-use Rattle.std.proofs.Common.{◌≡◌, ◌≤◌, ap, subst, sym, ◌∙◌, List, ℕ, Some}
+use Rattle.std.proofs.Common.{◌≤◌, ap, subst, sym, ◌∙◌, Some}
 use Rattle.std.proofs.lemmas.Result.{IfOk-weaker}
 use Rattle.serde_json.specs.Data.{depth}
 use Rattle.serde_json.specs.Read.{max_depth}
 use Rattle.serde_json.specs.View.{view}
 use Rattle.serde_json.specs.Written.{has_float}
-use Rattle.json_forms.specs.Bytes.{data_of}
 use Rattle.n5_blocks.specs.Metadata.{IsMetadata}
 use Rattle.n5_blocks.specs.Written.{metadata_data}
-use Rattle.n5_blocks.specs.Described.{SpellsMetadata}
 use Rattle.n5_blocks.proofs.MetadataLaws.{has_float-metadata, depth-metadata, Describes-metadata}
 use Rattle.n5_blocks.proofs.ReadLaws.{metadata_of-SpellsMetadata}
 use Rattle.n5_blocks.proofs.write.write_meta.Goals as goal
