@@ -15,7 +15,7 @@ use Rattle.n5_blocks.proofs.SizeLaws.{Fit}
 use Rattle.n5_blocks.proofs.RowLaws.{length-rows}
 
 -- a part of one of rows of one length
-part_of_rows : (row : ℕ → List ℕ) (len : ℕ) → ((i : ℕ) → length (row i) ≡ len) → (xs : List ℕ) (i j k : ℕ) → i < length xs → j + k ≤ len
+pub part_of_rows : (row : ℕ → List ℕ) (len : ℕ) → ((i : ℕ) → length (row i) ≡ len) → (xs : List ℕ) (i j k : ℕ) → i < length xs → j + k ≤ len
     → take k (drop (i * len + j) (flat_map row xs)) ≡ take k (drop j (row (get_or xs i 0)))
 part_of_rows row len each [] i j k within fits = absurd (omega arith)
 part_of_rows row len each (x ∷ xs) zero j k within fits =

@@ -11,3 +11,4 @@ pub mod HeaderLaws
 pub mod BlockLaws
 pub mod Backwards
 pub mod WriteLaws
+pub mod SpellingLaws

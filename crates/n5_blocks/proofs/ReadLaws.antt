@@ -20,7 +20,7 @@ use Rattle.n5_blocks.specs.declared.error.MetaError.{MetaError}
 use Rattle.n5_blocks.specs.declared.error.MetaError.TheVariants.{NotJson}
 use Rattle.std.proofs.lemmas.Bool.{eqb-true}
 use Rattle.std.proofs.lemmas.Bool.Decides.{nat_tests}
-use Rattle.n5_blocks.proofs.TestLaws.{both, both_true, ok_from_if, ok_from_else, IsDimensions-from_test, test-IsDimensions, IsBlockShape-from_test, test-IsBlockShape}
+use Rattle.n5_blocks.proofs.TestLaws.{both, both_true, ok_from_if, ok_from_else, IsDimensions-from_test, test-IsDimensions, IsBlockShape-from_test, test-IsBlockShape, then_from, else_from}
 use Rattle.n5_blocks.proofs.FormLaws.{u64_list-naturals, sizes_found, text_found, find-passes}
 
 -- a chain that ends well went well
@@ -96,14 +96,6 @@ SpellsMetadata-from_data bytes d m read is =
     ok_from_else' : (b : Bool) (r : Result Metadata MetaError) (n : Metadata) → (if b then r else Err NotJson) ≡ Ok n → r ≡ Ok n
     ok_from_else' true r n is = is
     ok_from_else' false r n is = absurd (let no_such : ⊥ = cc in no_such)
-
-then_from : {A : Type 0} (b : Bool) (x y : A) → b ≡ true → (if b then x else y) ≡ x
-then_from true x y is = refl
-then_from false x y is = absurd (let no_such : ⊥ = cc in no_such)
-
-else_from : {A : Type 0} (b : Bool) (x y : A) → b ≡ false → (if b then x else y) ≡ y
-else_from true x y is = absurd (let no_such : ⊥ = cc in no_such)
-else_from false x y is = refl
 
 dimensions_pass : (ns : List ℕ) → IsDimensions ns → checked_dimensions (Some ns) ≡ Ok ns
 dimensions_pass ns rules =

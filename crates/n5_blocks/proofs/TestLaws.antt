@@ -24,6 +24,15 @@ pub ok_from_else : {A E : Type 0} (b : Bool) (r : Result A E) (a : A) (e : E) �
 ok_from_else true r a e is = absurd (let no_such : ⊥ = cc in no_such)
 ok_from_else false r a e is = (refl, is)
 
+-- the value of a choice whose test is known
+pub then_from : {A : Type 0} (b : Bool) (x y : A) → b ≡ true → (if b then x else y) ≡ x
+then_from true x y is = refl
+then_from false x y is = absurd (let no_such : ⊥ = cc in no_such)
+
+pub else_from : {A : Type 0} (b : Bool) (x y : A) → b ≡ false → (if b then x else y) ≡ y
+else_from true x y is = absurd (let no_such : ⊥ = cc in no_such)
+else_from false x y is = refl
+
 list_all-at : (p : ℕ → Bool) (ns : List ℕ) → list_all p ns ≡ true → (k : ℕ) → k < length ns → p (get_or ns k 0) ≡ true
 list_all-at p [] all k less = absurd (omega arith)
 list_all-at p (n ∷ ns) all zero less = (both (p n) (list_all p ns) all).0
