@@ -49,7 +49,7 @@ size_in-header : (sizes rest : List ℕ) (dim : ℕ) → dim < length sizes → 
 size_in-header sizes rest dim less small =
     let along : header_len dim ≡ suc (suc (suc (suc (dim * 4)))) = omega arith in
     ap (word_of_bytes U32 true)
-        (ap (λ n. take 4 (drop n (header sizes ++ rest))) along ∙ part_of_sizes sizes rest dim less)
+    (ap (λ n. take 4 (drop n (header sizes ++ rest))) along ∙ part_of_sizes sizes rest dim less)
     ∙ word_of_bytes-word_bytes U32 true (get_or sizes dim 0) (IsWord-U32 (get_or sizes dim 0) small)
 
 -- the sizes in a header are its own
@@ -58,7 +58,7 @@ sizes_in-header sizes rest small =
     let bytes = header sizes ++ rest in
     ext_get_or 0 (sizes_in (length sizes) bytes) sizes (length-sizes_in (length sizes) bytes)
     (λ k less. let inside : k < length sizes = subst (λ n. k < n) (length-sizes_in (length sizes) bytes) less in
-        get_or-map-range_with_len (size_in bytes) 0 (length sizes) k k 0 inside (zero-add k) ∙ size_in-header sizes rest k inside (small k inside))
+    get_or-map-range_with_len (size_in bytes) 0 (length sizes) k k 0 inside (zero-add k) ∙ size_in-header sizes rest k inside (small k inside))
 
 -- where sizes fit, none is too great
 no_fault_from_fit : (dim : ℕ) (block sizes : List ℕ) → Fit block sizes → size_fault dim block sizes ≡ None
@@ -78,7 +78,7 @@ parsed : (m : Metadata) (bytes sizes elements : List ℕ) → IsMetadata m → A
 parsed m bytes sizes elements rules within is =
     let few : length sizes ≤ 32 = omega (arith, within.ranks, rules.ranks, rules.dimensions.greatest) in
     let small : (k : ℕ) → k < length sizes → get_or sizes k 0 < 2 ^ 32 = λ k less.
-        let inside : k < length m.block = omega (arith, within.ranks) in omega (arith, within.fit k inside, rules.block.greatest k inside) in
+    let inside : k < length m.block = omega (arith, within.ranks) in omega (arith, within.fit k inside, rules.block.greatest k inside) in
     let len = length-header sizes ∙ ap header_len within.ranks in
     record {
       mode = ap mode_in is ∙ mode_in-header sizes elements;
@@ -94,11 +94,11 @@ no_fault-StoresCells m sizes bytes word rules stores =
     let elements = stores.parts.0 in
     let it = parsed m bytes sizes elements rules stores.within stores.parts.1 in
     let whole : length bytes ≡ header_len (length sizes) + cell_count sizes * byte_count m.dtype =
-        it.long ∙ ap (λ n. header_len (length m.block) + n) stores.parts.2.count ∙ ap (λ n. header_len n + cell_count sizes * byte_count m.dtype) (sym stores.within.ranks) in
+    it.long ∙ ap (λ n. header_len (length m.block) + n) stores.parts.2.count ∙ ap (λ n. header_len n + cell_count sizes * byte_count m.dtype) (sym stores.within.ranks) in
     let no_size : size_fault 0 m.block (sizes_in (length m.block) bytes) ≡ None =
-        ap (size_fault 0 m.block) it.sizes_are ∙ no_fault_from_fit 0 m.block sizes (fit_from_within m.block sizes stores.within) in
+    ap (size_fault 0 m.block) it.sizes_are ∙ no_fault_from_fit 0 m.block sizes (fit_from_within m.block sizes stores.within) in
     let no_length : length_fault m.dtype (sizes_in (length m.block) bytes) (length bytes) ≡ None =
-        ap (λ s. length_fault m.dtype s (length bytes)) it.sizes_are ∙ then_from _ _ _ (eq-eqb (length bytes) (header_len (length sizes) + cell_count sizes * byte_count m.dtype) whole) in
+    ap (λ s. length_fault m.dtype s (length bytes)) it.sizes_are ∙ then_from _ _ _ (eq-eqb (length bytes) (header_len (length sizes) + cell_count sizes * byte_count m.dtype) whole) in
     else_from (nat_lt (length bytes) 4) _ _ (le-ltb (length bytes) 4 (omega (arith, it.long)))
     ∙ then_from (mode_in bytes == 0) _ _ (eq-eqb (mode_in bytes) 0 it.mode)
     ∙ then_from (rank_in bytes == length m.block) _ _ (eq-eqb (rank_in bytes) (length m.block) it.rank)
@@ -137,7 +137,7 @@ SpellsBlock-unique m bytes one other rules here there index within =
     let same_sizes : there.stored.0 ≡ here.stored.0 = sym q.sizes_are ∙ p.sizes_are in
     let same_elements : b.parts.0 ≡ a.parts.0 = sym q.rest ∙ p.rest in
     let elements : AreElements m.dtype here.stored.0 a.parts.0 other =
-        subst (λ l. AreElements m.dtype here.stored.0 l other) same_elements (subst (λ s. AreElements m.dtype s b.parts.0 other) same_sizes b.parts.2) in
+    subst (λ l. AreElements m.dtype here.stored.0 l other) same_elements (subst (λ s. AreElements m.dtype s b.parts.0 other) same_sizes b.parts.2) in
     ⊎_elim
     (λ inside. word_of_element m.dtype here.stored.0 a.parts.0 index one a.parts.2 inside ∙ sym (word_of_element m.dtype here.stored.0 a.parts.0 index other elements inside))
     (λ outside. a.lacking index within outside ∙ sym (b.lacking index within (subst (λ s. ¬ IsInside s index) (sym same_sizes) outside)))
