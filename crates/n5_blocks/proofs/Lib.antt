@@ -1,0 +1,14 @@
+pub mod RowSteps
+pub mod SizeLaws
+pub mod TestLaws
+pub mod FormLaws
+pub mod ReadLaws
+pub mod MetadataLaws
+pub mod RowLaws
+pub mod ElementLaws
+pub mod FaultLaws
+pub mod HeaderLaws
+pub mod BlockLaws
+pub mod Backwards
+pub mod WriteLaws
+pub mod SpellingLaws

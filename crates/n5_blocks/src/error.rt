@@ -1,0 +1,62 @@
+ghost use Rattle.std.specs.Prelude.{◌≡◌};
+
+use cells::Name;
+use std::alloc::AllocError;
+use thiserror::Error;
+
+/// Why bytes are no block, the first that holds.
+#[derive(Clone, Copy, Debug, PartialEq, Eq, Error)]
+pub enum BlockError {
+    /// The mode is `have` and not 0.
+    #[error("a block of mode {have}")]
+    WrongMode { have: u16 },
+    /// The block has `have` dimensions, and the array has another number.
+    #[error("a block of {have} dimensions")]
+    WrongRank { have: u16 },
+    /// The size `have` of the dimension `dim` is greater than the array's block size.
+    #[error("a block of the size {have} in dimension {dim}")]
+    WrongSize { dim: u32, have: u32 },
+    /// There are `have` bytes; the header and the elements want `want`.
+    #[error("a block of {want} bytes has {have}")]
+    WrongLength { have: u64, want: u64 },
+    /// An allocation failed.
+    #[error("out of memory")]
+    Memory,
+}
+
+/// Why bytes are no metadata, the first that holds. `name` is the member at fault.
+#[derive(Debug, PartialEq, Eq, Drop, Error)]
+pub enum MetaError {
+    /// The bytes are no JSON object.
+    #[error("the metadata is no JSON object")]
+    NotJson,
+    /// The member is missing, or it has a value that it may never have.
+    #[error("a bad member in the metadata")]
+    BadMember { name: Name },
+    /// The member has a value that N5 knows and this crate doesn't read.
+    #[error("a member of the metadata has an unsupported value")]
+    Unsupported { name: Name },
+    /// An allocation failed.
+    #[error("out of memory")]
+    Memory,
+}
+
+impl From<AllocError> for BlockError {
+    ghost use Rattle.n5_blocks.specs.declared.error.BlockError.TheVariants as block;
+
+    ghost from_gives = { λ _ e. e ≡ block.Memory };
+
+    fn from(_: AllocError) -> Self {
+        BlockError::Memory
+    }
+}
+
+impl From<AllocError> for MetaError {
+    ghost use Rattle.n5_blocks.specs.declared.error.MetaError.TheVariants as meta;
+
+    ghost from_gives = { λ _ e. e ≡ meta.Memory };
+
+    fn from(_: AllocError) -> Self {
+        MetaError::Memory
+    }
+}
