@@ -1,13 +1,15 @@
-// A library with one function.
+//! Cells that are staged over a chunk, and strided runs between a view and a chunk.
+//!
+//! A transaction keeps what it writes apart until its commit. Other crates rest on three things: staged cells are at each
+//! place a word or none, laid over a chunk they change exactly the cells that are staged, and a run acts as its pairs do one
+//! by one.
 #![tactic(auto)]
 
-ghost use Rattle.std.specs.Prelude.{◌≡◌};
-ghost use Rattle.rebase_writes.specs.Echo.{echo_of};
+mod run;
+mod staged;
 
-// The `ensures` clause is the contract: what `echo` returns is `echo_of` of its argument, a definition
-// in `specs/Echo.antt`, which a caller's clause can cite too.
-pub fn echo(x: usize) -> usize
-    ensures { result ≡ echo_of x }
-{
-    x
-}
+pub use run::read_run;
+pub use staged::Staged;
+
+#[cfg(test)]
+mod tests;
