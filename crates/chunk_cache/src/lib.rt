@@ -1,13 +1,18 @@
-// A library with one function.
+//! A bounded cache of chunks, the last used first.
+//!
+//! The state keeps the chunks that it decoded last, so that a chunk that is read again costs no call of the store. Other
+//! crates rest on one thing: a cache is a list of keys with what is kept under them, and each call changes it exactly as
+//! `after_hit`, `after_keep` and `after_drop` say.
 #![tactic(auto)]
 
-ghost use Rattle.std.specs.Prelude.{◌≡◌};
-ghost use Rattle.chunk_cache.specs.Echo.{echo_of};
+mod cache;
+mod entries;
+mod refused;
+mod snapshot;
 
-// The `ensures` clause is the contract: what `echo` returns is `echo_of` of its argument, a definition
-// in `specs/Echo.antt`, which a caller's clause can cite too.
-pub fn echo(x: usize) -> usize
-    ensures { result ≡ echo_of x }
-{
-    x
-}
+pub use cache::ChunkCache;
+pub use refused::KeepRefused;
+pub use snapshot::Snapshot;
+
+#[cfg(test)]
+mod tests;

@@ -1,0 +1,59 @@
+ghost use Rattle.std.specs.Prelude.{◌≡◌, ◌<◌, ◌∷◌, length, string_bytes, OnOk, OnErr, IfOk, IfErr, IsOk, IsSome};
+ghost use Rattle.std.specs.List.{IsDistinct};
+ghost use Rattle.std.specs.Map.{keys_of};
+ghost use Rattle.std.specs.Str.{bytes_eq};
+ghost use Rattle.chunk_cache.specs.Cache.{cells_of, kept, without, fitting, most_chunks};
+ghost use Rattle.chunk_cache.specs.Kept.{entries_of};
+
+use crate::refused::KeepRefused;
+use crate::snapshot::Snapshot;
+use cells::Name;
+use lru::LruCache;
+
+/// The most chunks that a cache keeps.
+const MOST_CHUNKS: usize = 65_536;
+
+/// Puts a chunk first, in place of what was kept under its key, which comes back.
+pub(crate) fn put_first(
+    entries: &mut LruCache<String, Snapshot>,
+    key: String,
+    snapshot: Snapshot,
+) -> Result<Option<Snapshot>, KeepRefused>
+    requires room { length entries.old.entries < entries.old.cap }
+    requires apart { IsDistinct bytes_eq (keys_of (entries_of entries.old.entries)) }
+    ensures old { IfOk result (λ old. old ≡ kept (string_bytes key) (entries_of entries.old.entries)) }
+    ensures entries { OnOk result (entries_of entries.new.entries ≡
+        (string_bytes key, snapshot) ∷ without (string_bytes key) (entries_of entries.old.entries)) }
+    ensures cap { entries.new.cap ≡ entries.old.cap }
+    ensures err { OnErr result (entries.new ≡ entries.old) }
+    ensures handed_back { IfErr result (λ refused. (refused.key ≡ string_bytes key) × (refused.snapshot ≡ snapshot)) }
+    ensures succeeds { IsSome (kept (string_bytes key) (entries_of entries.old.entries)) → IsOk result }
+{
+    match entries.put(key, snapshot) {
+        Ok(old) => Ok(old),
+        Err(refused) => {
+            let (key, snapshot) = refused.value;
+            Err(KeepRefused {
+                key: Name::wrap(key),
+                snapshot,
+            })
+        }
+    }
+}
+
+/// Takes last entries out until there are at most `limit` cells and 65,536 chunks. `total` counts the cells before; the result
+/// counts those that stay.
+pub(crate) fn cut(entries: &mut LruCache<String, Snapshot>, total: u64, limit: u64) -> u64
+    requires { total ≡ cells_of (entries_of entries.old.entries) }
+    ensures entries { entries_of entries.new.entries ≡ fitting limit most_chunks (entries_of entries.old.entries) }
+    ensures cap { entries.new.cap ≡ entries.old.cap }
+    ensures total { result ≡ cells_of (entries_of entries.new.entries) }
+{
+    let mut left = total;
+    while left > limit || entries.len() > MOST_CHUNKS {
+        if let Some((_, last)) = entries.pop_lru() {
+            left -= last.size();
+        }
+    }
+    left
+}
