@@ -2,7 +2,7 @@ ghost use Rattle.std.specs.Prelude.{◌≡◌, ◌<◌, ◌≤◌, ◌^◌, ◌�
 ghost use Rattle.chunk_cache.specs.Snapshot.{size_of};
 ghost use Rattle.chunk_cache.specs.Cache.{CacheList, IsCache, kept, after_hit, after_keep, after_drop};
 
-use crate::entries::{cut, put_first};
+use crate::entries::{cut, put_first, take_out};
 use crate::refused::KeepRefused;
 use crate::snapshot::Snapshot;
 use lru::LruCache;
@@ -123,8 +123,6 @@ impl ChunkCache {
         ensures after { self.new ≡ record self.old { entries = after_drop key.now self.old.entries } }
         ensures gone { kept key.now self.new.entries ≡ None }
     {
-        if let Some(gone) = self.entries.pop(key) {
-            self.cells -= gone.size();
-        }
+        self.cells -= take_out(&mut self.entries, key);
     }
 }

@@ -1,9 +1,9 @@
-ghost use Rattle.std.specs.Prelude.{◌≡◌, ◌<◌, ◌∷◌, length, string_bytes, OnOk, OnErr, IfOk, IfErr, IsOk, IsSome};
+ghost use Rattle.std.specs.Prelude.{◌≡◌, ◌+◌, ◌<◌, ◌∷◌, length, string_bytes, OnOk, OnErr, IfOk, IfErr, IsOk, IsSome};
 ghost use Rattle.std.specs.List.{IsDistinct};
 ghost use Rattle.std.specs.Map.{keys_of};
 ghost use Rattle.std.specs.Str.{bytes_eq};
 ghost use Rattle.chunk_cache.specs.Cache.{cells_of, kept, without, fitting, most_chunks};
-ghost use Rattle.chunk_cache.specs.Kept.{entries_of};
+ghost use Rattle.chunk_cache.specs.Kept.{entries_of, IsLastTaken};
 
 use crate::refused::KeepRefused;
 use crate::snapshot::Snapshot;
@@ -41,6 +41,19 @@ pub(crate) fn put_first(
     }
 }
 
+/// Takes out what is kept under a key, and tells how many cells went.
+pub(crate) fn take_out(entries: &mut LruCache<String, Snapshot>, key: &str) -> u64
+    requires { IsDistinct bytes_eq (keys_of (entries_of entries.old.entries)) }
+    ensures entries { entries_of entries.new.entries ≡ without key.now (entries_of entries.old.entries) }
+    ensures cap { entries.new.cap ≡ entries.old.cap }
+    ensures cells { cells_of (entries_of entries.new.entries) + result ≡ cells_of (entries_of entries.old.entries) }
+{
+    match entries.pop(key) {
+        Some(gone) => gone.size(),
+        None => 0,
+    }
+}
+
 /// Takes last entries out until there are at most `limit` cells and 65,536 chunks. `total` counts the cells before; the result
 /// counts those that stay.
 pub(crate) fn cut(entries: &mut LruCache<String, Snapshot>, total: u64, limit: u64) -> u64
@@ -51,9 +64,19 @@ pub(crate) fn cut(entries: &mut LruCache<String, Snapshot>, total: u64, limit: u
 {
     let mut left = total;
     while left > limit || entries.len() > MOST_CHUNKS {
-        if let Some((_, last)) = entries.pop_lru() {
-            left -= last.size();
-        }
+        left -= take_last(entries);
     }
     left
+}
+
+/// Takes out the entry that was used least recently, and tells how many cells went.
+fn take_last(entries: &mut LruCache<String, Snapshot>) -> u64
+    requires { 0 < length entries.old.entries }
+    ensures entries { IsLastTaken entries.old.entries entries.new.entries result }
+    ensures cap { entries.new.cap ≡ entries.old.cap }
+{
+    match entries.pop_lru() {
+        Some((_, last)) => last.size(),
+        None => 0,
+    }
 }
