@@ -1,5 +1,5 @@
 -- Laws of a cache's list: what stays without a key, and what is counted.
-use Rattle.std.proofs.Common.{◌≡◌, ℕ, ◌+◌, ◌<◌, ◌≤◌, Bool, true, false, not, cond, List, [], ◌∷◌, length, Option, Some, None, unwrap_or, refl, sym, ◌∙◌, ap, subst, arith}
+use Rattle.std.proofs.Common.{◌≡◌, ℕ, ◌+◌, ◌^◌, ◌<◌, ◌≤◌, Bool, true, false, not, cond, List, [], ◌∷◌, length, Option, Some, None, unwrap_or, refl, sym, ◌∙◌, ap, subst, arith}
 use Rattle.std.specs.List.{filter, sum_by, AllByRecursion, IsDistinct}
 use Rattle.std.specs.Map.{lookup, remove_entry, keys_of, values_of}
 use Rattle.std.specs.Option.{option_map, option_map_or}
@@ -131,3 +131,12 @@ IsCache-after_hit key cache is =
       in_chunks = omega (arith, chunks, is.in_chunks);
       apart = apart_after_hit key cache.entries (kept key cache.entries) is.apart;
     }
+
+-- an empty list is a cache
+pub IsCache-empty : (limit : ℕ) → limit ≤ 2 ^ 27 → IsCache (record { limit = limit; entries = [] })
+unfolding IsDistinct
+IsCache-empty limit small = record { small = small; in_cells = omega arith; in_chunks = omega arith; apart = tt }
+
+-- a look-up that finds nothing leaves the order
+pub after_hit-missed : (key : List ℕ) (entries : List (List ℕ × SnapshotCells)) → kept key entries ≡ None → after_hit key entries ≡ entries
+after_hit-missed key entries is = ap (λ found. option_map_or (λ snapshot. (key, snapshot) ∷ without key entries) found entries) is

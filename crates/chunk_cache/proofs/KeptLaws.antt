@@ -5,7 +5,7 @@ use Rattle.std.specs.Map.{lookup, lookup_entry, remove_entry, keys_of}
 use Rattle.std.specs.Option.{option_map, option_map_or}
 use Rattle.std.specs.Str.{bytes_eq}
 use Rattle.std.specs.Cmp.Lexicographic.{same_text}
-use Rattle.std.proofs.lemmas.List.{take_all, take_more, map-append, length-append, length-map}
+use Rattle.std.proofs.lemmas.List.{take_all, take_more, map-append, length-append}
 use Rattle.std.proofs.lemmas.Option.{get_or_from_slice_get}
 use Rattle.lru.specs.LruCache.{lru_cache, promoted, put_entries}
 use Rattle.chunk_cache.specs.Snapshot.{SnapshotCells, size_of}
@@ -18,6 +18,10 @@ module _ {Z : Type 0} where
   -- whether a text has these bytes
   abbrev is_key : List ℕ → String Z → Bool
   is_key key text = bytes_eq key (string_bytes text)
+
+  pub length-entries_of : (entries : List (String Z × SnapshotCells)) → length (entries_of entries) ≡ length entries
+  length-entries_of [] = refl
+  length-entries_of (e ∷ es) = omega (arith, length-entries_of es)
 
   pub lookup-entries : (key : List ℕ) (entries : List (String Z × SnapshotCells)) → lookup (λ text. bytes_eq key (string_bytes text)) entries ≡ kept key (entries_of entries)
   lookup-entries key [] = refl
@@ -112,7 +116,7 @@ module _ {Z : Type 0} where
   entries_of-push entries last = map-append (λ entry. (string_bytes entry.0, entry.1)) entries (last ∷ [])
 
   cells_of-push : (entries : List (String Z × SnapshotCells)) (last : String Z × SnapshotCells) → cells_of (entries_of (entries ++ last ∷ [])) ≡ cells_of (entries_of entries) + size_of last.1
-  cells_of-push [] last = cells_of-cons (string_bytes last.0, last.1) []
+  cells_of-push [] last = omega (arith, cells_of-cons (string_bytes last.0, last.1) [])
   cells_of-push (e ∷ es) last =
       let all = cells_of-cons (string_bytes e.0, e.1) (entries_of (es ++ last ∷ [])) in
       let front = cells_of-cons (string_bytes e.0, e.1) (entries_of es) in
@@ -138,6 +142,16 @@ module _ {Z : Type 0} where
       let some : (limit < cells_of (entries_of new ++ (string_bytes taken.0.0, taken.0.1) ∷ [])) ⊎ (most_chunks < length (entries_of new ++ (string_bytes taken.0.0, taken.0.1) ∷ [])) =
           elim past [
             | inl more ↦ inl (subst (λ es. limit < cells_of es) whole more)
-            | inr more ↦ inr (subst (λ es. most_chunks < length es) whole (let size = length-map old (λ entry. (string_bytes entry.0, entry.1)) in omega (arith, size, more)))
+            | inr more ↦ inr (subst (λ es. most_chunks < length es) whole (omega (arith, length-entries_of old, more)))
           ] in
       sym (ap (fitting limit most_chunks) whole ∙ fitting-push limit most_chunks (entries_of new) (string_bytes taken.0.0, taken.0.1) some)
+
+  -- the cells of what was put, and of what it took the place of
+  pub cells_of-put_first : (key : List ℕ) (snapshot : SnapshotCells) (entries : List (String Z × SnapshotCells)) (found : Option SnapshotCells) (new : List (List ℕ × SnapshotCells))
+      → IsDistinct bytes_eq (keys_of (entries_of entries)) → found ≡ lookup (λ text. bytes_eq key (string_bytes text)) entries
+      → new ≡ (key, snapshot) ∷ without key (entries_of entries)
+      → cells_of new + unwrap_or (option_map size_of found) 0 ≡ cells_of (entries_of entries) + size_of snapshot
+  cells_of-put_first key snapshot entries found new apart is put =
+      let rest = cells_of-taken_out key entries found apart is in
+      let first = cells_of-cons (key, snapshot) (without key (entries_of entries)) in
+      omega (arith, rest, first, ap cells_of put)

@@ -112,9 +112,8 @@ impl ChunkCache {
             self.drop_key(key.as_str());
             return Ok(());
         }
-        let old = put_first(&mut self.entries, key, snapshot)?;
-        let gone = old.map_or(0, |old| old.size());
-        self.cells = cut(&mut self.entries, self.cells - gone + size, self.limit);
+        let gone = put_first(&mut self.entries, key, snapshot)?;
+        self.cells = cut(&mut self.entries, self.cells + size - gone, self.limit);
         Ok(())
     }
 

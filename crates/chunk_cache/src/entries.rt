@@ -2,6 +2,7 @@ ghost use Rattle.std.specs.Prelude.{◌≡◌, ◌+◌, ◌<◌, ◌∷◌, leng
 ghost use Rattle.std.specs.List.{IsDistinct};
 ghost use Rattle.std.specs.Map.{keys_of};
 ghost use Rattle.std.specs.Str.{bytes_eq};
+ghost use Rattle.chunk_cache.specs.Snapshot.{size_of};
 ghost use Rattle.chunk_cache.specs.Cache.{cells_of, kept, without, fitting, most_chunks};
 ghost use Rattle.chunk_cache.specs.Kept.{entries_of, IsLastTaken};
 
@@ -13,24 +14,26 @@ use lru::LruCache;
 /// The most chunks that a cache keeps.
 const MOST_CHUNKS: usize = 65_536;
 
-/// Puts a chunk first, in place of what was kept under its key, which comes back.
+/// Puts a chunk first, in place of what was kept under its key, and tells how many cells went.
 pub(crate) fn put_first(
     entries: &mut LruCache<String, Snapshot>,
     key: String,
     snapshot: Snapshot,
-) -> Result<Option<Snapshot>, KeepRefused>
+) -> Result<u64, KeepRefused>
     requires room { length entries.old.entries < entries.old.cap }
     requires apart { IsDistinct bytes_eq (keys_of (entries_of entries.old.entries)) }
-    ensures old { IfOk result (λ old. old ≡ kept (string_bytes key) (entries_of entries.old.entries)) }
     ensures entries { OnOk result (entries_of entries.new.entries ≡
         (string_bytes key, snapshot) ∷ without (string_bytes key) (entries_of entries.old.entries)) }
+    ensures cells { IfOk result (λ gone.
+        cells_of (entries_of entries.new.entries) + gone ≡ cells_of (entries_of entries.old.entries) + size_of snapshot) }
     ensures cap { entries.new.cap ≡ entries.old.cap }
     ensures err { OnErr result (entries.new ≡ entries.old) }
     ensures handed_back { IfErr result (λ refused. (refused.key ≡ string_bytes key) × (refused.snapshot ≡ snapshot)) }
     ensures succeeds { IsSome (kept (string_bytes key) (entries_of entries.old.entries)) → IsOk result }
 {
     match entries.put(key, snapshot) {
-        Ok(old) => Ok(old),
+        Ok(Some(old)) => Ok(old.size()),
+        Ok(None) => Ok(0),
         Err(refused) => {
             let (key, snapshot) = refused.value;
             Err(KeepRefused {

@@ -1,10 +1,9 @@
 -- Where a bound is passed, the last entry doesn't fit; where none is, all that are left do.
-use Rattle.std.proofs.Common.{◌≡◌, ℕ, ◌<◌, ◌⊎◌, inl, inr, length, string_bytes, ◌∙◌, sym, arith}
-use Rattle.std.proofs.lemmas.List.{length-map}
+use Rattle.std.proofs.Common.{◌≡◌, ℕ, ◌<◌, ◌⊎◌, inl, inr, length, ◌∙◌, sym, arith}
 use Rattle.chunk_cache.specs.Cache.{cells_of, most_chunks}
 use Rattle.chunk_cache.specs.Kept.{entries_of}
 use Rattle.chunk_cache.proofs.FittingLaws.{fitting-all}
-use Rattle.chunk_cache.proofs.KeptLaws.{length-from_cells_of, cells_of-last, length-last, fitting-last}
+use Rattle.chunk_cache.proofs.KeptLaws.{length-entries_of, length-from_cells_of, cells_of-last, length-last, fitting-last}
 use Rattle.chunk_cache.proofs.entries.cut.Goals as goal
 use Rattle.chunk_cache.proofs.entries.cut.Goals.{then-left-limit, else-left-limit+then-len-gt-MOST_CHUNKS}
 
@@ -38,7 +37,7 @@ loop-left-preserved c =
 
 pub returns-clause-entries : goal.returns-clause-entries
 returns-clause-entries c =
-    let size = length-map c.loop-left.entries.entries (λ entry. (string_bytes entry.0, entry.1)) in
+    let size = length-entries_of c.loop-left.entries.entries in
     sym (fitting-all c.args.limit most_chunks (entries_of c.loop-left.entries.entries)
         (omega (arith, c.loop-left.invariant.counted, c.if-left-limit.false)) (omega (arith, size, c.len.ensures.len, c.if-len-gt-MOST_CHUNKS.false)))
     ∙ c.loop-left.invariant.same
