@@ -64,12 +64,17 @@ pub IsDistinct-first : (key : List ℕ) (snapshot : SnapshotCells) (entries : Li
 unfolding IsDistinct
 IsDistinct-first key snapshot entries apart = (absent_without key entries, IsDistinct-without key entries apart)
 
+counted : (found : Option SnapshotCells) → unwrap_or (option_map size_of found) 0 ≡ option_map_or size_of found 0
+counted None = refl
+counted (Some snapshot) = refl
+
 -- the cells of what was taken out, and of what stays
 pub cells_of-without : (key : List ℕ) (entries : List (List ℕ × SnapshotCells)) → IsDistinct bytes_eq (keys_of entries)
-    → cells_of (without key entries) + unwrap_or (option_map size_of (kept key entries)) 0 ≡ cells_of entries
+    → cells_of (without key entries) + option_map_or size_of (kept key entries) 0 ≡ cells_of entries
 cells_of-without key entries apart =
-    subst (λ rest. cells_of rest + unwrap_or (option_map size_of (kept key entries)) 0 ≡ cells_of entries) (remove_entry-without key entries apart)
-    (sum_by-remove_entry size_of (bytes_eq key) entries)
+    let rest = ap cells_of (remove_entry-without key entries apart) in
+    let all = sum_by-remove_entry size_of (bytes_eq key) entries in
+    omega (arith, rest, all, counted (kept key entries))
 
 pub length-without : (key : List ℕ) (entries : List (List ℕ × SnapshotCells)) → length (without key entries) ≤ length entries
 length-without key [] = omega arith
@@ -104,7 +109,7 @@ cells_after_hit : (key : List ℕ) (entries : List (List ℕ × SnapshotCells)) 
 cells_after_hit key entries None apart is = refl
 cells_after_hit key entries (Some snapshot) apart is =
     let first = cells_of-cons (key, snapshot) (without key entries) in
-    let rest = subst (λ o. cells_of (without key entries) + unwrap_or (option_map size_of o) 0 ≡ cells_of entries) is (cells_of-without key entries apart) in
+    let rest = subst (λ o. cells_of (without key entries) + option_map_or size_of o 0 ≡ cells_of entries) is (cells_of-without key entries apart) in
     omega (arith, first, rest)
 
 pub cells_of-after_hit : (key : List ℕ) (entries : List (List ℕ × SnapshotCells)) → IsDistinct bytes_eq (keys_of entries) → cells_of (after_hit key entries) ≡ cells_of entries

@@ -1,16 +1,16 @@
 -- The list of a cache by its keys' bytes: what calls of `lru` leave.
-use Rattle.std.proofs.Common.{◌≡◌, ℕ, ◌+◌, ◌-◌, ◌<◌, ◌⊎◌, inl, inr, Bool, true, false, cond, List, [], ◌∷◌, ◌++◌, map, length, take, slice_get, Option, Some, None, unwrap_or, String, string_bytes, string_eq, refl, sym, ◌∙◌, ap, subst, arith}
+use Rattle.std.proofs.Common.{◌≡◌, ℕ, ◌+◌, ◌-◌, ◌<◌, ◌⊎◌, inl, inr, Bool, true, false, cond, List, [], ◌∷◌, ◌++◌, map, length, take, get_or, slice_get, Option, Some, None, String, string_bytes, string_eq, refl, sym, ◌∙◌, ap, subst, arith}
 use Rattle.std.specs.List.{IsDistinct}
 use Rattle.std.specs.Map.{lookup, lookup_entry, remove_entry, keys_of}
-use Rattle.std.specs.Option.{option_map, option_map_or}
+use Rattle.std.specs.Option.{option_map_or}
 use Rattle.std.specs.Str.{bytes_eq}
 use Rattle.std.specs.Cmp.Lexicographic.{same_text}
 use Rattle.std.proofs.lemmas.List.{take_all, take_more, map-append, length-append}
-use Rattle.std.proofs.lemmas.Option.{get_or_from_slice_get}
-use Rattle.lru.specs.LruCache.{lru_cache, promoted, put_entries}
+use Rattle.std.proofs.lemmas.Option.{slice_get-get_or}
+use Rattle.lru.specs.LruCache.{LruCache, lru_cache, last_entry, promoted, put_entries}
 use Rattle.chunk_cache.specs.Snapshot.{SnapshotCells, size_of}
 use Rattle.chunk_cache.specs.Cache.{most_chunks, cells_of, kept, without, fitting, after_hit}
-use Rattle.chunk_cache.specs.Kept.{entries_of, IsLastTaken}
+use Rattle.chunk_cache.specs.Kept.{entries_of}
 use Rattle.chunk_cache.proofs.CacheLaws.{cells_of-cons, cells_of-without, remove_entry-without, without-missed}
 use Rattle.chunk_cache.proofs.FittingLaws.{fitting-push}
 
@@ -90,26 +90,32 @@ module _ {Z : Type 0} where
   -- the cells of what was taken out, and of what stays
   pub cells_of-taken_out : (key : List ℕ) (entries : List (String Z × SnapshotCells)) (found : Option SnapshotCells) → IsDistinct bytes_eq (keys_of (entries_of entries))
       → found ≡ lookup (λ text. bytes_eq key (string_bytes text)) entries
-      → cells_of (without key (entries_of entries)) + unwrap_or (option_map size_of found) 0 ≡ cells_of (entries_of entries)
+      → cells_of (without key (entries_of entries)) + option_map_or size_of found 0 ≡ cells_of (entries_of entries)
   cells_of-taken_out key entries found apart is =
-      subst (λ o. cells_of (without key (entries_of entries)) + unwrap_or (option_map size_of o) 0 ≡ cells_of (entries_of entries))
-      (sym (is ∙ lookup-entries key entries)) (cells_of-without key (entries_of entries) apart)
+      subst (λ o. cells_of (without key (entries_of entries)) + option_map_or size_of o 0 ≡ cells_of (entries_of entries)) (sym (is ∙ lookup-entries key entries))
+      (cells_of-without key (entries_of entries) apart)
 
   -- where there are cells, there is an entry
   pub length-from_cells_of : (entries : List (String Z × SnapshotCells)) → 0 < cells_of (entries_of entries) → 0 < length entries
   length-from_cells_of [] some = some
   length-from_cells_of (e ∷ es) some = omega arith
 
-  -- the last entry, and those before it
-  pub IsLastTaken-take : (old new : List (String Z × SnapshotCells)) (last : String Z × SnapshotCells) (cells : ℕ) → 0 < length old
-      → Some last ≡ slice_get old (length old - 1) → new ≡ take (length old - 1) old → cells ≡ size_of last.1 → IsLastTaken old new cells
-  IsLastTaken-take old new last cells some at front size = (
-    last,
-    sym (take_all (length old - 1 + 1) old (omega arith)) ∙ take_more old (length old - 1) last (omega arith)
-    ∙ ap (λ e. take (length old - 1) old ++ e ∷ []) (get_or_from_slice_get old (length old - 1) last last (sym at))
-    ∙ ap (λ rest. rest ++ last ∷ []) (sym front),
-    sym size,
-  )
+  -- the last entry was taken out; it had so many cells
+  abbrev pub IsLastTaken : List (String Z × SnapshotCells) → List (String Z × SnapshotCells) → ℕ → Type 0
+  IsLastTaken old new cells = (last : String Z × SnapshotCells) × (old ≡ new ++ last ∷ []) × (size_of last.1 ≡ cells)
+
+  pub IsLastTaken-take : (old new : List (String Z × SnapshotCells)) (cells : ℕ) → 0 < length old → new ≡ take (length old - 1) old
+      → cells ≡ option_map_or (λ entry. size_of entry.1) (last_entry old) 0 → IsLastTaken old new cells
+  IsLastTaken-take [] new cells some front size = absurd (omega (arith, some))
+  IsLastTaken-take (e ∷ es) new cells some front size =
+      let i = length (e ∷ es) - 1 in
+      let last = get_or (e ∷ es) i e in
+      let at : slice_get (e ∷ es) i ≡ Some last = slice_get-get_or (e ∷ es) i e (omega arith) in
+      (
+        last,
+        sym (take_all (i + 1) (e ∷ es) (omega arith)) ∙ take_more (e ∷ es) i e (omega arith) ∙ ap (λ rest. rest ++ last ∷ []) (sym front),
+        sym (size ∙ ap (λ o. option_map_or (λ entry. size_of entry.1) o 0) at),
+      )
 
   entries_of-push : (entries : List (String Z × SnapshotCells)) (last : String Z × SnapshotCells)
       → entries_of (entries ++ last ∷ []) ≡ entries_of entries ++ (string_bytes last.0, last.1) ∷ []
@@ -150,8 +156,23 @@ module _ {Z : Type 0} where
   pub cells_of-put_first : (key : List ℕ) (snapshot : SnapshotCells) (entries : List (String Z × SnapshotCells)) (found : Option SnapshotCells) (new : List (List ℕ × SnapshotCells))
       → IsDistinct bytes_eq (keys_of (entries_of entries)) → found ≡ lookup (λ text. bytes_eq key (string_bytes text)) entries
       → new ≡ (key, snapshot) ∷ without key (entries_of entries)
-      → cells_of new + unwrap_or (option_map size_of found) 0 ≡ cells_of (entries_of entries) + size_of snapshot
+      → cells_of new + option_map_or size_of found 0 ≡ cells_of (entries_of entries) + size_of snapshot
   cells_of-put_first key snapshot entries found new apart is put =
       let rest = cells_of-taken_out key entries found apart is in
       let first = cells_of-cons (key, snapshot) (without key (entries_of entries)) in
       omega (arith, rest, first, ap cells_of put)
+
+  -- what a cache holds once a key was taken out
+  pub entries_of-taken_out : (key : List ℕ) (old new : LruCache (String Z) SnapshotCells) → IsDistinct bytes_eq (keys_of (entries_of old.entries))
+      → new ≡ lru_cache (remove_entry (λ text. bytes_eq key (string_bytes text)) old.entries) old.cap → entries_of new.entries ≡ without key (entries_of old.entries)
+  entries_of-taken_out key old new apart is = ap (λ cache. entries_of cache.entries) is ∙ entries_of-remove_entry key old.entries apart
+
+  -- and how many cells went
+  pub cells_of-gone : (key : List ℕ) (old new : LruCache (String Z) SnapshotCells) (cells : ℕ) → IsDistinct bytes_eq (keys_of (entries_of old.entries))
+      → new ≡ lru_cache (remove_entry (λ text. bytes_eq key (string_bytes text)) old.entries) old.cap
+      → cells ≡ option_map_or size_of (lookup (λ text. bytes_eq key (string_bytes text)) old.entries) 0
+      → cells_of (entries_of new.entries) + cells ≡ cells_of (entries_of old.entries)
+  cells_of-gone key old new cells apart is went =
+      let rest = ap cells_of (entries_of-taken_out key old new apart is) in
+      let all = cells_of-taken_out key old.entries (lookup (λ text. bytes_eq key (string_bytes text)) old.entries) apart refl in
+      omega (arith, rest, all, went)

@@ -1,11 +1,7 @@
 -- The list that a cache keeps, by its keys' bytes.
-use Rattle.std.specs.Prelude.{◌≡◌, ℕ, List, [], ◌∷◌, ◌++◌, map, String, string_bytes}
-use Rattle.chunk_cache.specs.Snapshot.{SnapshotCells, size_of}
+use Rattle.std.specs.Prelude.{ℕ, List, map, String, string_bytes}
+use Rattle.chunk_cache.specs.Snapshot.{SnapshotCells}
 
 -- the entries, with the bytes of their keys
 abbrev pub entries_of : {Z : Type 0} → List (String Z × SnapshotCells) → List (List ℕ × SnapshotCells)
 entries_of entries = map (λ entry. (string_bytes entry.0, entry.1)) entries
-
--- the last entry was taken out; it had so many cells
-abbrev pub IsLastTaken : {Z : Type 0} → List (String Z × SnapshotCells) → List (String Z × SnapshotCells) → ℕ → Type 0
-IsLastTaken {Z} old new cells = (last : String Z × SnapshotCells) × (old ≡ new ++ last ∷ []) × (size_of last.1 ≡ cells)

@@ -1,10 +1,12 @@
-ghost use Rattle.std.specs.Prelude.{◌≡◌, ◌+◌, ◌<◌, ◌∷◌, length, string_bytes, OnOk, OnErr, IfOk, IfErr, IsOk, IsSome};
+ghost use Rattle.std.specs.Prelude.{◌≡◌, ◌+◌, ◌-◌, ◌<◌, ◌∷◌, length, take, string_bytes, OnOk, OnErr, IfOk, IfErr, IsOk, IsSome};
 ghost use Rattle.std.specs.List.{IsDistinct};
-ghost use Rattle.std.specs.Map.{keys_of};
+ghost use Rattle.std.specs.Map.{keys_of, lookup, remove_entry};
+ghost use Rattle.std.specs.Option.{option_map_or};
 ghost use Rattle.std.specs.Str.{bytes_eq};
+ghost use Rattle.lru.specs.LruCache.{lru_cache, last_entry};
 ghost use Rattle.chunk_cache.specs.Snapshot.{size_of};
 ghost use Rattle.chunk_cache.specs.Cache.{cells_of, kept, without, fitting, most_chunks};
-ghost use Rattle.chunk_cache.specs.Kept.{entries_of, IsLastTaken};
+ghost use Rattle.chunk_cache.specs.Kept.{entries_of};
 
 use crate::refused::KeepRefused;
 use crate::snapshot::Snapshot;
@@ -46,10 +48,9 @@ pub(crate) fn put_first(
 
 /// Takes out what is kept under a key, and tells how many cells went.
 pub(crate) fn take_out(entries: &mut LruCache<String, Snapshot>, key: &str) -> u64
-    requires { IsDistinct bytes_eq (keys_of (entries_of entries.old.entries)) }
-    ensures entries { entries_of entries.new.entries ≡ without key.now (entries_of entries.old.entries) }
-    ensures cap { entries.new.cap ≡ entries.old.cap }
-    ensures cells { cells_of (entries_of entries.new.entries) + result ≡ cells_of (entries_of entries.old.entries) }
+    ensures entries { entries.new ≡
+        lru_cache (remove_entry (λ text. bytes_eq key.now (string_bytes text)) entries.old.entries) entries.old.cap }
+    ensures cells { result ≡ option_map_or size_of (lookup (λ text. bytes_eq key.now (string_bytes text)) entries.old.entries) 0 }
 {
     match entries.pop(key) {
         Some(gone) => gone.size(),
@@ -74,9 +75,9 @@ pub(crate) fn cut(entries: &mut LruCache<String, Snapshot>, total: u64, limit: u
 
 /// Takes out the entry that was used least recently, and tells how many cells went.
 fn take_last(entries: &mut LruCache<String, Snapshot>) -> u64
-    requires { 0 < length entries.old.entries }
-    ensures entries { IsLastTaken entries.old.entries entries.new.entries result }
-    ensures cap { entries.new.cap ≡ entries.old.cap }
+    ensures entries { entries.new ≡
+        lru_cache (take (length entries.old.entries - 1) entries.old.entries) entries.old.cap }
+    ensures cells { result ≡ option_map_or (λ entry. size_of entry.1) (last_entry entries.old.entries) 0 }
 {
     match entries.pop_lru() {
         Some((_, last)) => last.size(),
