@@ -1,7 +1,7 @@
 -- Laws of a cache's list: what stays without a key, and what is counted.
-use Rattle.std.proofs.Common.{◌≡◌, ℕ, ◌+◌, ◌^◌, ◌<◌, ◌≤◌, Bool, true, false, not, cond, List, [], ◌∷◌, length, Option, Some, None, unwrap_or, refl, sym, ◌∙◌, ap, subst, arith}
-use Rattle.std.specs.List.{filter, sum_by, AllByRecursion, IsDistinct}
-use Rattle.std.specs.Map.{lookup, remove_entry, keys_of, values_of}
+use Rattle.std.proofs.Common.{◌≡◌, ℕ, ◌+◌, ◌^◌, ◌<◌, ◌≤◌, true, false, not, List, [], ◌∷◌, length, Option, Some, None, unwrap_or, refl, sym, ap, subst, arith}
+use Rattle.std.specs.List.{AllByRecursion, IsDistinct}
+use Rattle.std.specs.Map.{remove_entry, keys_of, values_of}
 use Rattle.std.specs.Option.{option_map, option_map_or}
 use Rattle.std.specs.Str.{bytes_eq}
 use Rattle.std.specs.Cmp.Lexicographic.{same_text}
@@ -9,7 +9,7 @@ use Rattle.std.proofs.lemmas.List.Sums.{sum_by-cons}
 use Rattle.std.proofs.lemmas.Map.Entries.{sum_by-remove_entry}
 use Rattle.std.proofs.lemmas.Map.Made.{IsDistinct-keys_filter}
 use Rattle.chunk_cache.specs.Snapshot.{SnapshotCells, size_of}
-use Rattle.chunk_cache.specs.Cache.{CacheList, IsCache, cells_of, kept, without, after_hit, most_chunks}
+use Rattle.chunk_cache.specs.Cache.{CacheList, IsCache, cells_of, kept, without, after_hit}
 
 -- one entry more has its cells more
 pub cells_of-cons : (entry : List ℕ × SnapshotCells) (entries : List (List ℕ × SnapshotCells)) → cells_of (entry ∷ entries) ≡ size_of entry.1 + cells_of entries

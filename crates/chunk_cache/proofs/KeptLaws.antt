@@ -1,5 +1,5 @@
 -- The list of a cache by its keys' bytes: what calls of `lru` leave.
-use Rattle.std.proofs.Common.{◌≡◌, ℕ, ◌+◌, ◌-◌, ◌<◌, ◌⊎◌, inl, inr, Bool, true, false, cond, List, [], ◌∷◌, ◌++◌, map, length, take, get_or, slice_get, Option, Some, None, String, string_bytes, string_eq, refl, sym, ◌∙◌, ap, subst, arith}
+use Rattle.std.proofs.Common.{◌≡◌, ℕ, ◌+◌, ◌-◌, ◌<◌, ◌⊎◌, inl, inr, Bool, true, false, cond, List, [], ◌∷◌, ◌++◌, length, take, get_or, slice_get, Option, Some, None, String, string_bytes, string_eq, refl, sym, ◌∙◌, ap, subst, arith}
 use Rattle.std.specs.List.{IsDistinct}
 use Rattle.std.specs.Map.{lookup, lookup_entry, remove_entry, keys_of}
 use Rattle.std.specs.Option.{option_map_or}
@@ -74,7 +74,7 @@ module _ {Z : Type 0} where
   put_by : (key : String Z) (snapshot : SnapshotCells) (cap : ℕ) (entries : List (String Z × SnapshotCells)) (o : Option (String Z × SnapshotCells))
       → length entries < cap → IsDistinct bytes_eq (keys_of (entries_of entries)) → lookup_entry (is_key (string_bytes key)) entries ≡ o
       → entries_of (option_map_or (λ e. (e.0, snapshot) ∷ remove_entry (is_key (string_bytes key)) entries) o ((key, snapshot) ∷ take (cap - 1) entries))
-        ≡ (string_bytes key, snapshot) ∷ without (string_bytes key) (entries_of entries)
+      ≡ (string_bytes key, snapshot) ∷ without (string_bytes key) (entries_of entries)
   put_by key snapshot cap entries None room apart is =
       ap (λ rest. (string_bytes key, snapshot) ∷ entries_of rest) (take_all (cap - 1) entries (omega arith))
       ∙ ap (λ rest. (string_bytes key, snapshot) ∷ rest) (sym (without-missed (string_bytes key) (entries_of entries) (missed (string_bytes key) entries is)))
@@ -110,8 +110,7 @@ module _ {Z : Type 0} where
   IsLastTaken-take (e ∷ es) new cells some front size =
       let i = length (e ∷ es) - 1 in
       let last = get_or (e ∷ es) i e in
-      let at : slice_get (e ∷ es) i ≡ Some last = slice_get-get_or (e ∷ es) i e (omega arith) in
-      (
+      let at : slice_get (e ∷ es) i ≡ Some last = slice_get-get_or (e ∷ es) i e (omega arith) in (
         last,
         sym (take_all (i + 1) (e ∷ es) (omega arith)) ∙ take_more (e ∷ es) i e (omega arith) ∙ ap (λ rest. rest ++ last ∷ []) (sym front),
         sym (size ∙ ap (λ o. option_map_or (λ entry. size_of entry.1) o 0) at),
@@ -146,10 +145,10 @@ module _ {Z : Type 0} where
   fitting-last limit old new cells taken past =
       let whole = ap entries_of taken.1 ∙ entries_of-push new taken.0 in
       let some : (limit < cells_of (entries_of new ++ (string_bytes taken.0.0, taken.0.1) ∷ [])) ⊎ (most_chunks < length (entries_of new ++ (string_bytes taken.0.0, taken.0.1) ∷ [])) =
-          elim past [
-            | inl more ↦ inl (subst (λ es. limit < cells_of es) whole more)
-            | inr more ↦ inr (subst (λ es. most_chunks < length es) whole (omega (arith, length-entries_of old, more)))
-          ] in
+      elim past [
+        | inl more ↦ inl (subst (λ es. limit < cells_of es) whole more)
+        | inr more ↦ inr (subst (λ es. most_chunks < length es) whole (omega (arith, length-entries_of old, more)))
+      ] in
       sym (ap (fitting limit most_chunks) whole ∙ fitting-push limit most_chunks (entries_of new) (string_bytes taken.0.0, taken.0.1) some)
 
   -- the cells of what was put, and of what it took the place of

@@ -1,5 +1,5 @@
 -- A cache as a list of keys with what is kept under them, the last used first.
-use Rattle.std.specs.Prelude.{ℕ, ◌+◌, ◌-◌, ◌^◌, ◌<◌, ◌≤◌, ◌&&◌, not, if◌then◌else◌, nat_le, nat_lt, List, [], ◌∷◌, length, Option}
+use Rattle.std.specs.Prelude.{◌≡◌, ℕ, ◌-◌, ◌^◌, ◌≤◌, ◌&&◌, not, if◌then◌else◌, nat_le, nat_lt, List, [], ◌∷◌, length, take, Option}
 use Rattle.std.specs.List.{filter, sum_by, IsDistinct}
 use Rattle.std.specs.Map.{lookup, keys_of, values_of}
 use Rattle.std.specs.Option.{option_map_or}
@@ -32,6 +32,13 @@ abbrev pub fitting : ℕ → ℕ → List (List ℕ × SnapshotCells) → List (
 fitting cells chunks [] = []
 fitting cells chunks (entry ∷ entries) =
     if nat_le (size_of entry.1) cells && nat_lt 0 chunks then entry ∷ fitting (cells - size_of entry.1) (chunks - 1) entries else []
+
+-- the first of the entries: they keep both bounds, and no more of them do
+pub record IsLongestFront (cells chunks : ℕ) (entries front : List (List ℕ × SnapshotCells)) : Type 0 where
+  pub begins : take (length front) entries ≡ front
+  pub in_cells : cells_of front ≤ cells
+  pub in_chunks : length front ≤ chunks
+  pub longest : (n : ℕ) → n ≤ length entries → cells_of (take n entries) ≤ cells → n ≤ chunks → n ≤ length front
 
 -- a look-up brings the entry of its key to the front
 abbrev pub after_hit : List ℕ → List (List ℕ × SnapshotCells) → List (List ℕ × SnapshotCells)

@@ -1,6 +1,6 @@
-ghost use Rattle.std.specs.Prelude.{◌≡◌, ◌<◌, ◌≤◌, ◌^◌, ◌↔◌, None, [], length, string_bytes, OnOk, OnErr, IfOk, IfErr, IsOk, IsSome, IsTrue};
+ghost use Rattle.std.specs.Prelude.{◌≡◌, ◌<◌, ◌≤◌, ◌^◌, ◌↔◌, None, [], ◌∷◌, length, string_bytes, OnOk, OnErr, IfOk, IfErr, IsOk, IsSome, IsTrue};
 ghost use Rattle.chunk_cache.specs.Snapshot.{size_of};
-ghost use Rattle.chunk_cache.specs.Cache.{CacheList, IsCache, kept, after_hit, after_keep, after_drop};
+ghost use Rattle.chunk_cache.specs.Cache.{CacheList, IsCache, IsLongestFront, most_chunks, kept, without, after_hit, after_keep, after_drop};
 
 use crate::entries::{cut, put_first, take_out};
 use crate::refused::KeepRefused;
@@ -11,7 +11,7 @@ use std::marker::Model;
 
 /// Chunks under their keys, the last used first, within a limit of cells and of 65,536 chunks. A contract sees the limit and
 /// the list.
-#[derive(Drop)]
+#[derive(Debug, Drop)]
 pub struct ChunkCache {
     entries: LruCache<String, Snapshot>,
     cells: u64,
@@ -100,6 +100,9 @@ impl ChunkCache {
     pub fn keep(&mut self, key: String, snapshot: Snapshot) -> Result<(), KeepRefused>
         ensures ok { OnOk result (self.new ≡
             record self.old { entries = after_keep self.old.limit (string_bytes key) snapshot self.old.entries }) }
+        // A chunk within the limit is kept with as many of the others as there is room for, the last used first.
+        ensures longest { OnOk result (size_of snapshot ≤ self.old.limit → IsLongestFront self.old.limit most_chunks
+            ((string_bytes key, snapshot) ∷ without (string_bytes key) self.old.entries) self.new.entries) }
         ensures err { OnErr result (self.new ≡ self.old) }
         ensures handed_back { IfErr result (λ refused. (refused.key ≡ string_bytes key) × (refused.snapshot ≡ snapshot)) }
 

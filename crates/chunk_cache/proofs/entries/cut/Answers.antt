@@ -1,5 +1,5 @@
 -- Where a bound is passed, the last entry doesn't fit; where none is, all that are left do.
-use Rattle.std.proofs.Common.{◌≡◌, ℕ, ◌<◌, ◌⊎◌, inl, inr, length, ◌∙◌, sym, ap, arith}
+use Rattle.std.proofs.Common.{◌<◌, ◌⊎◌, inl, inr, length, ◌∙◌, sym, ap, arith}
 use Rattle.chunk_cache.specs.Cache.{cells_of, most_chunks}
 use Rattle.chunk_cache.specs.Kept.{entries_of}
 use Rattle.chunk_cache.proofs.FittingLaws.{fitting-all}
@@ -11,9 +11,9 @@ use Rattle.chunk_cache.proofs.entries.cut.Goals.{then-left-limit, else-left-limi
 taken : (c : goal.After-take_last-left) → IsLastTaken c.loop-left.entries.entries c.take_last-left.new.entries.entries c.take_last-left.result
 taken c =
     let some : 0 < length c.loop-left.entries.entries = elim c.if-left-limit.branch [
-        | then-left-limit w ↦ length-from_cells_of c.loop-left.entries.entries (omega (arith, c.loop-left.invariant.counted, w.if-left-limit.true))
-        | else-left-limit+then-len-gt-MOST_CHUNKS w ↦ omega (arith, w.len.ensures.len, w.if-len-gt-MOST_CHUNKS.true)
-      ] in
+      | then-left-limit w ↦ length-from_cells_of c.loop-left.entries.entries (omega (arith, c.loop-left.invariant.counted, w.if-left-limit.true))
+      | else-left-limit+then-len-gt-MOST_CHUNKS w ↦ omega (arith, w.len.ensures.len, w.if-len-gt-MOST_CHUNKS.true)
+    ] in
     IsLastTaken-take c.loop-left.entries.entries c.take_last-left.new.entries.entries c.take_last-left.result some
     (ap (λ cache. cache.entries) c.take_last-left.ensures.entries) c.take_last-left.ensures.cells
 
@@ -29,9 +29,9 @@ pub loop-left-preserved : goal.loop-left-preserved
 loop-left-preserved c =
     let cells = cells_of-last c.loop-left.entries.entries c.take_last-left.new.entries.entries c.take_last-left.result (taken c) in
     let past : (c.args.limit < cells_of (entries_of c.loop-left.entries.entries)) ⊎ (most_chunks < length c.loop-left.entries.entries) = elim c.if-left-limit.branch [
-        | then-left-limit w ↦ inl (omega (arith, c.loop-left.invariant.counted, w.if-left-limit.true))
-        | else-left-limit+then-len-gt-MOST_CHUNKS w ↦ inr (omega (arith, w.len.ensures.len, w.if-len-gt-MOST_CHUNKS.true))
-      ] in
+      | then-left-limit w ↦ inl (omega (arith, c.loop-left.invariant.counted, w.if-left-limit.true))
+      | else-left-limit+then-len-gt-MOST_CHUNKS w ↦ inr (omega (arith, w.len.ensures.len, w.if-len-gt-MOST_CHUNKS.true))
+    ] in
     record {
       same = fitting-last c.args.limit c.loop-left.entries.entries c.take_last-left.new.entries.entries c.take_last-left.result (taken c) past
           ∙ c.loop-left.invariant.same;
@@ -43,7 +43,7 @@ pub returns-clause-entries : goal.returns-clause-entries
 returns-clause-entries c =
     let size = length-entries_of c.loop-left.entries.entries in
     sym (fitting-all c.args.limit most_chunks (entries_of c.loop-left.entries.entries)
-        (omega (arith, c.loop-left.invariant.counted, c.if-left-limit.false)) (omega (arith, size, c.len.ensures.len, c.if-len-gt-MOST_CHUNKS.false)))
+    (omega (arith, c.loop-left.invariant.counted, c.if-left-limit.false)) (omega (arith, size, c.len.ensures.len, c.if-len-gt-MOST_CHUNKS.false)))
     ∙ c.loop-left.invariant.same
 
 pub returns-clause-cap : goal.returns-clause-cap

@@ -1,7 +1,6 @@
 -- What `put` says, by the keys' bytes.
-use Rattle.std.proofs.Common.{◌≡◌, ℕ, ◌+◌, Some, None, ◌∙◌, sym, ap, subst, IsSome, string_bytes, arith}
+use Rattle.std.proofs.Common.{Some, None, ◌∙◌, sym, ap, subst, IsSome, string_bytes, arith}
 use Rattle.chunk_cache.specs.Kept.{entries_of}
-use Rattle.chunk_cache.specs.Cache.{cells_of}
 use Rattle.chunk_cache.proofs.KeptLaws.{lookup-entries, entries_of-put_entries, cells_of-put_first}
 use Rattle.chunk_cache.proofs.entries.put_first.Goals as goal
 
@@ -13,7 +12,7 @@ returns-in-Ok-Some-clause-entries c =
 pub returns-in-Ok-Some-clause-cells : goal.returns-in-Ok-Some-clause-cells
 returns-in-Ok-Some-clause-cells c =
     let law = cells_of-put_first (string_bytes c.args.key) c.args.snapshot c.args.entries.now.entries (Some c.in-Ok-Some.old) (entries_of c.put.new.self.entries)
-        c.requires.apart (sym c.in-Ok-Some.field-0-is ∙ c.in-Ok-Some.ensures.old) (returns-in-Ok-Some-clause-entries c) in
+    c.requires.apart (sym c.in-Ok-Some.field-0-is ∙ c.in-Ok-Some.ensures.old) (returns-in-Ok-Some-clause-entries c) in
     omega (arith, law, c.size.ensures)
 
 pub returns-in-Ok-None-clause-entries : goal.returns-in-Ok-None-clause-entries

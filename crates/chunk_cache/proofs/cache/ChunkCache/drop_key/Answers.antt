@@ -1,5 +1,5 @@
 -- What stays without a key is a cache, in which the key is gone.
-use Rattle.std.proofs.Common.{◌≡◌, ℕ, List, ◌∙◌, sym, ap, subst, arith}
+use Rattle.std.proofs.Common.{ℕ, List, ◌∙◌, sym, ap, subst, arith}
 use Rattle.chunk_cache.specs.Snapshot.{SnapshotCells}
 use Rattle.chunk_cache.specs.Cache.{CacheList, IsCache, kept, after_drop}
 use Rattle.chunk_cache.specs.Kept.{entries_of}
@@ -15,10 +15,9 @@ overflow_sub-self c =
 pub invariant_of-self : goal.invariant_of-self
 invariant_of-self c =
     let rest = entries_of-taken_out c.args.key.now c.self.inside.entries c.take_out.new.entries c.self.invariant.0.apart c.take_out.ensures.entries in
-    let cells = cells_of-gone c.args.key.now c.self.inside.entries c.take_out.new.entries c.take_out.result c.self.invariant.0.apart c.take_out.ensures.entries c.take_out.ensures.cells in
-    (
+    let cells = cells_of-gone c.args.key.now c.self.inside.entries c.take_out.new.entries c.take_out.result c.self.invariant.0.apart c.take_out.ensures.entries c.take_out.ensures.cells in (
       subst (λ es. IsCache (record { limit = c.self.inside.limit; entries = es })) (sym rest)
-      (IsCache-without c.args.key.now (record { limit = c.self.inside.limit; entries = entries_of c.self.inside.entries.entries }) c.self.invariant.0),
+          (IsCache-without c.args.key.now (record { limit = c.self.inside.limit; entries = entries_of c.self.inside.entries.entries }) c.self.invariant.0),
       omega (arith, cells, c.self.invariant.1),
       ap (λ cache. cache.cap) c.take_out.ensures.entries ∙ c.self.invariant.2,
     )
