@@ -26,9 +26,9 @@ pub record IsRunInside (run : Run) (view chunk : ℕ) : Type 0 where
   pub to_last : (k : ℕ) → k < run.len → chunk_number run k <ℤ pos chunk
 
 -- staged cells once the view's word of each pair in turn is staged at the pair's place in the chunk
-abbrev pub run_written : Run → List ℕ → List (Option ℕ) → List (Option ℕ)
-run_written run words cells = fold (λ staged pair. slice_set staged pair.1 (Some (slice_index words pair.0))) cells (pairs_of run)
+abbrev pub pairs_written : List (ℕ × ℕ) → List ℕ → List (Option ℕ) → List (Option ℕ)
+pairs_written pairs words cells = fold (λ staged pair. slice_set staged pair.1 (Some (slice_index words pair.0))) cells pairs
 
 -- a view's words once the chunk's word of each pair in turn is put at the pair's place in the view
-abbrev pub run_read : Run → List ℕ → List ℕ → List ℕ
-run_read run words out = fold (λ shown pair. slice_set shown pair.0 (slice_index words pair.1)) out (pairs_of run)
+abbrev pub pairs_read : List (ℕ × ℕ) → List ℕ → List ℕ → List ℕ
+pairs_read pairs words out = fold (λ shown pair. slice_set shown pair.0 (slice_index words pair.1)) out pairs

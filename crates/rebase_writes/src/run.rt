@@ -1,13 +1,13 @@
 ghost use Rattle.std.specs.Prelude.{◌≡◌, ℕ, ◌+◌, ◌*◌, ◌<◌, ◌^◌, pos, ◌≤ℤ◌, ◌<ℤ◌, length};
 ghost use Rattle.rebase_writes.specs.Staged.{staged_cells};
-ghost use Rattle.rebase_writes.specs.Runs.{view_place, chunk_number, chunk_place, IsRunInside, run_written, run_read};
+ghost use Rattle.rebase_writes.specs.Runs.{view_place, chunk_number, chunk_place, IsRunInside, pairs_of, pairs_written, pairs_read};
 
 use cells::{Dense, Run};
 
 /// Puts the words of a chunk into a view along a run: for each pair in turn, the chunk's word at the pair's place in the view.
 pub fn read_run(dense: &Dense, run: &Run, out: &mut [u64])
     requires { IsRunInside run.now (length out.old) (length dense.now.words) }
-    ensures { out.new ≡ run_read run.now dense.now.words out.old }
+    ensures { out.new ≡ pairs_read (pairs_of run.now) dense.now.words out.old }
 {
     let words = dense.words();
     for k in 0..run.len {
@@ -20,7 +20,7 @@ pub fn read_run(dense: &Dense, run: &Run, out: &mut [u64])
 pub(crate) fn stage_run(mask: &mut [bool], staged: &mut [u64], run: &Run, words: &[u64])
     requires same { length mask.old ≡ length staged.old }
     requires inside { IsRunInside run.now (length words.now) (length staged.old) }
-    ensures { staged_cells mask.new staged.new ≡ run_written run.now words.now (staged_cells mask.old staged.old) }
+    ensures { staged_cells mask.new staged.new ≡ pairs_written (pairs_of run.now) words.now (staged_cells mask.old staged.old) }
 {
     for pair in 0..run.len {
         let (view, chunk) = pair_at(run, pair);

@@ -1,7 +1,7 @@
 ghost use Rattle.std.specs.Prelude.{◌≡◌, ℕ, ◌<◌, ◌≤◌, ◌^◌, ◌↔◌, None, Some, Bool, true, length, replicate, slice_get, slice_index, slice_set, unwrap_or, IfOk, IsTrue, IsSome};
 ghost use Rattle.cells.specs.Dense.{DenseCells, IsDense};
 ghost use Rattle.rebase_writes.specs.Staged.{staged_cells, staged_at, AreWords, CoverAll, laid_over};
-ghost use Rattle.rebase_writes.specs.Runs.{IsRunInside, run_written};
+ghost use Rattle.rebase_writes.specs.Runs.{IsRunInside, pairs_of, pairs_written};
 
 use crate::run::stage_run;
 use cells::{Dense, Run, Sizes, Words};
@@ -53,7 +53,7 @@ impl Staged {
     /// Stages the words of a view along a run: for each pair in turn, the view's word at the pair's place in the chunk.
     pub fn write_run(&mut self, run: &Run, words: &[u64])
         requires { IsRunInside run.now (length words.now) (length self.old) }
-        ensures { self.new ≡ run_written run.now words.now self.old }
+        ensures { self.new ≡ pairs_written (pairs_of run.now) words.now self.old }
     {
         stage_run(&mut self.mask, &mut self.words, run, words);
     }
