@@ -1,0 +1,4 @@
+pub mod CacheLaws
+pub mod CallerLaws
+pub mod FittingLaws
+pub mod KeptLaws
