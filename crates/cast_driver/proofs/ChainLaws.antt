@@ -14,6 +14,24 @@ pub word_back-push : (casts : List Cast) (cast : Cast) (word : ℕ) → word_bac
 word_back-push [] cast word = refl
 word_back-push (next ∷ casts) cast word = ap (λ w. conv_word next.to w next.from) (word_back-push casts cast word)
 
+-- what comes out through one cast more at the end
+pub word_out-push : (casts : List Cast) (cast : Cast) (word : ℕ) → word_out (casts ++ cast ∷ []) word ≡ conv_word cast.from (word_out casts word) cast.to
+word_out-push [] cast word = refl
+word_out-push (next ∷ casts) cast word = word_out-push casts cast (conv_word next.from word next.to)
+
+pub dtype_after-push : (casts : List Cast) (base : Dtype) (cast : Cast) → dtype_after base (casts ++ cast ∷ []) ≡ cast.to
+dtype_after-push [] base cast = refl
+dtype_after-push (next ∷ casts) base cast = dtype_after-push casts next.to cast
+
+-- a cast that takes up what comes out may be put at the end
+pub BeginsWith-push : (casts : List Cast) (base : Dtype) (cast : Cast) → BeginsWith base casts → cast.from ≡ dtype_after base casts → BeginsWith base (casts ++ cast ∷ [])
+BeginsWith-push [] base cast begins goes_on = goes_on
+BeginsWith-push (next ∷ casts) base cast begins goes_on = begins
+
+pub AreJoined-push : (casts : List Cast) (base : Dtype) (cast : Cast) → AreJoined casts → cast.from ≡ dtype_after base casts → AreJoined (casts ++ cast ∷ [])
+AreJoined-push [] base cast are goes_on = (tt, tt)
+AreJoined-push (next ∷ casts) base cast are goes_on = (BeginsWith-push casts next.to cast are.0 goes_on, AreJoined-push casts next.to cast are.1 goes_on)
+
 -- where no cast is left, the word stays
 pub word_out-done : (casts : List Cast) (i word : ℕ) → length casts ≤ i → word_out (drop i casts) word ≡ word
 word_out-done casts i word done = ap (λ left. word_out left word) (drop_of_length-le casts done)
