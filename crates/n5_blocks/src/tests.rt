@@ -1,3 +1,5 @@
+ghost use Rattle.std.specs.Prelude.{◌≡◌, IfOk};
+
 use crate::{
     BlockError, MetaError, N5Meta, decode, encode, is_block_shape, is_dimensions, key_of,
     read_meta, write_meta,
@@ -11,7 +13,9 @@ fn metadata(
     dimensions: &[u64],
     block: &[u64],
     dtype: Dtype,
-) -> Result<N5Meta, Fail> {
+) -> Result<N5Meta, Fail>
+    ensures { IfOk result (λ m. m.dimensions ≡ dimensions.now) }
+{
     assert!(rt; is_dimensions(dimensions));
     assert!(rt; is_block_shape(block));
     assert_eq!(rt; dimensions.len(), block.len());
@@ -87,7 +91,15 @@ fn n5_blocks_in_bytes(rt: HostRuntime) -> Result<(), Fail> {
     read_and_written(&rt, &m, &[0, 0, 0, 1, 0, 0, 0, 2, 0, 3, 0, 0], &[3, 0])?;
     read(&rt, &m, &[0, 0, 0, 1, 0, 0, 0, 1, 0, 3], &[3, 0])?;
     read(&rt, &m, &[0, 0, 0, 1, 0, 0, 0, 0], &[0, 0])?;
+    Ok(())
+}
+
+#[test]
+fn keys_of_blocks(rt: HostRuntime) -> Result<(), Fail> {
+    let m = metadata(&rt, &[3], &[2], Dtype::I16)?;
     assert_eq!(rt; key_of(rt.alloc(), &m, &[1])?.as_str(), "1");
+    let m = metadata(&rt, &[4, 30], &[2, 3], Dtype::U8)?;
+    assert_eq!(rt; key_of(rt.alloc(), &m, &[1, 10])?.as_str(), "1/10");
     Ok(())
 }
 
@@ -113,7 +125,6 @@ fn the_first_index_runs_fastest(rt: HostRuntime) -> Result<(), Fail> {
     read(&rt, &m, &low, &[1, 3, 0, 2, 4, 0])?;
     let narrow = [0, 0, 0, 2, 0, 0, 0, 1, 0, 0, 0, 2, 1, 2];
     read(&rt, &m, &narrow, &[1, 2, 0, 0, 0, 0])?;
-    assert_eq!(rt; key_of(rt.alloc(), &m, &[1, 10])?.as_str(), "1/10");
     Ok(())
 }
 
