@@ -1,0 +1,5 @@
+pub mod Cuts
+pub mod Grid
+pub mod Growing
+pub mod Pieces
+pub mod Runs

@@ -1,0 +1,100 @@
+ghost use Rattle.std.specs.Prelude.{◌≡◌, ◌≤◌, ◌<◌, ◌+◌, ◌^◌, ◌∷◌, ◌++◌, [], IfOk, IfErr, OnOk, OnErr};
+ghost use Rattle.chunk_grid.specs.Runs.{run_of_one, goes_on, longer};
+ghost use Rattle.chunk_grid.specs.Growing.{first_run, grown, runs_of_growing};
+
+use cells::{List, Run};
+use std::alloc::{AllocError, Global};
+use std::marker::Model;
+
+/// Runs to which further pairs of a view's places and a chunk's are put.
+#[derive(Debug, Drop)]
+pub(crate) struct Growing {
+    done: Vec<Run>,
+    run: Run,
+}
+
+impl Model for Growing {
+    ghost use Rattle.chunk_grid.specs.Growing.{Grown};
+
+    ghost Value = { Grown };
+
+    ghost view = { λ growing. record { done = growing.done.items; run = growing.run } };
+}
+
+impl Growing {
+    /// The run of one pair.
+    pub(crate) fn new(alloc: Global, view: u32, chunk: u32) -> Growing
+        ensures { result ≡ first_run (record { view = view; chunk = chunk }) }
+    {
+        Growing {
+            done: Vec::new(alloc),
+            run: run_of_one(view, chunk),
+        }
+    }
+
+    /// Puts a pair behind the others. After an error it isn't there.
+    pub(crate) fn push(&mut self, view: u32, chunk: u32) -> Result<(), AllocError>
+        requires before { self.old.run.view + self.old.run.len ≤ view }
+        ensures ok { OnOk result (self.new ≡ grown self.old (record { view = view; chunk = chunk })) }
+        ensures err { OnErr result (self.new ≡ self.old) }
+    {
+        if goes_on(&self.run, view, chunk) {
+            self.run = longer(&self.run, view, chunk);
+            return Ok(());
+        }
+        self.done.push(self.run)?;
+        self.run = run_of_one(view, chunk);
+        Ok(())
+    }
+
+    /// The runs.
+    pub(crate) fn into_runs(self) -> Result<List<Run>, AllocError>
+        ensures { IfOk result (λ runs. runs ≡ runs_of_growing self) }
+    {
+        let Growing { mut done, run } = self;
+        done.push(run)?;
+        Ok(List::wrap(done))
+    }
+}
+
+fn run_of_one(view: u32, chunk: u32) -> Run
+    ensures { result ≡ run_of_one (record { view = view; chunk = chunk }) }
+{
+    Run {
+        view,
+        view_step: 0,
+        chunk,
+        chunk_step: 0,
+        len: 1,
+    }
+}
+
+// Whether the pair is the next one by the run's steps, which a second pair sets.
+fn goes_on(run: &Run, view: u32, chunk: u32) -> bool
+    ensures { result ≡ goes_on run.now (record { view = view; chunk = chunk }) }
+{
+    let next_view = u64::from(run.view) + u64::from(run.view_step) * u64::from(run.len);
+    let next_chunk = i128::from(run.chunk) + i128::from(run.chunk_step) * i128::from(run.len);
+    run.len == 1 || (u64::from(view) == next_view && i128::from(chunk) == next_chunk)
+}
+
+// The run with a pair more.
+fn longer(run: &Run, view: u32, chunk: u32) -> Run
+    requires { run.now.view + run.now.len ≤ view }
+    ensures { result ≡ longer run.now (record { view = view; chunk = chunk }) }
+{
+    if run.len == 1 {
+        Run {
+            view: run.view,
+            view_step: view - run.view,
+            chunk: run.chunk,
+            chunk_step: i64::from(chunk) - i64::from(run.chunk),
+            len: 2,
+        }
+    } else {
+        Run {
+            len: run.len + 1,
+            ..*run
+        }
+    }
+}
