@@ -1,7 +1,7 @@
 -- Pairs cut into runs of equal steps.
 use Rattle.std.specs.Prelude.{ℕ, ◌+◌, ◌-◌, ◌*◌, ◌==◌, ℤ, pos, ◌+ℤ◌, ◌-ℤ◌, ◌*ℤ◌, unsigned_abs, List, [], ◌∷◌, Bool, ◌&&◌, ◌||◌, map, if◌then◌else◌}
 use Rattle.std.specs.List.{flat_map, range_with_len}
-use Rattle.std.specs.Int.RustNames.{int_eq}
+use Rattle.std.specs.Ordering.{int_eq}
 use Rattle.cells.specs.declared.run.Run.{Run}
 use Rattle.chunk_grid.specs.declared.piece.RunPiece.{RunPiece}
 use Rattle.chunk_grid.specs.Pieces.{Pair, Piece, pieces_by_chunk}

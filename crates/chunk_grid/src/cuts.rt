@@ -29,7 +29,8 @@ fn put(
     view: u32,
     place: u32,
 ) -> Result<(), AllocError>
-    requires { IfSome (at cuts.old chunk.now) (IsUpTo view) }
+    requires before { IfSome (at cuts.old chunk.now) (IsUpTo view) }
+    requires small { view < 4194304 }
     ensures runs { OnOk result ((key : Key) → at cuts.new key
         ≡ (if bytes_eq chunk.now.items key.items then Some (with_pair (record { view = view; chunk = place }) (at cuts.old key)) else at cuts.old key)) }
     ensures chunks { OnOk result (chunks_of cuts.new ≡ among (chunks_of cuts.old) chunk.now.items) }
@@ -53,6 +54,8 @@ pub(crate) fn add(
     chunk: &mut Vec<u64>,
     view: u32,
 ) -> Result<(), AllocError>
+    requires before { (key : Key) → IfSome (at cuts.old key) (IsUpTo view) }
+    requires small { view < 4194304 }
     requires inside { IsInShape grid.now.shape target.now }
     requires room { length chunk.old.items ≡ length grid.now.shape }
     ensures cuts { OnOk result ((targets : List (List ℕ)) → length targets ≡ view → AreCuts grid.now.chunk targets cuts.old

@@ -35,6 +35,7 @@ impl Growing {
     /// Puts a pair behind the others. After an error it isn't there.
     pub(crate) fn push(&mut self, view: u32, chunk: u32) -> Result<(), AllocError>
         requires before { self.old.run.view + self.old.run.len ≤ view }
+        requires small { view < 4194304 }
         ensures ok { OnOk result (self.new ≡ grown self.old (record { view = view; chunk = chunk })) }
         ensures err { OnErr result (self.new ≡ self.old) }
     {
@@ -80,7 +81,8 @@ fn goes_on(run: &Run, view: u32, chunk: u32) -> bool
 
 // The run with a pair more.
 fn longer(run: &Run, view: u32, chunk: u32) -> Run
-    requires { run.now.view + run.now.len ≤ view }
+    requires before { run.now.view + run.now.len ≤ view }
+    requires small { view < 4194304 }
     ensures { result ≡ longer run.now (record { view = view; chunk = chunk }) }
 {
     if run.len == 1 {

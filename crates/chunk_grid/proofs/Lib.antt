@@ -1,0 +1,4 @@
+pub mod CutLaws
+pub mod GridLaws
+pub mod GrowingLaws
+pub mod PieceLaws
