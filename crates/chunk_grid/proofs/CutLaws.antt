@@ -3,7 +3,8 @@ use Rattle.std.proofs.Common.{◌≡◌, ◌∙◌, ℕ, ◌+◌, ◌≤◌, Boo
 use Rattle.std.specs.List.{list_any, AllByRecursion}
 use Rattle.std.specs.Str.{bytes_eq}
 use Rattle.std.specs.Map.{keys_of, lookup}
-use Rattle.std.specs.BTreeMap.{insert_entry, is_at, keys, IsOrdered}
+use Rattle.std.specs.BTreeMap.{insert_entry, is_at, keys, IsOrdered, WritesThrough, Updates}
+use Rattle.std.specs.Prelude.{IsSome}
 use Rattle.std.specs.declared.cmp.Ordering.{Ordering}
 use Rattle.std.specs.declared.cmp.Ordering.TheVariants.{Less, Equal, Greater}
 use Rattle.std.specs.Ordering.{is_lt, is_eq, nat_cmp, match_ordering}
@@ -18,7 +19,7 @@ use Rattle.chunk_grid.specs.declared.piece.RunPiece.{RunPiece}
 use Rattle.chunk_grid.specs.Grid.{chunk_index, place_within}
 use Rattle.chunk_grid.specs.Pieces.{Pair, pairs_in, placed, among, touched}
 use Rattle.chunk_grid.specs.Runs.{runs_of_pairs, run_pieces}
-use Rattle.chunk_grid.specs.Growing.{Grown, runs_of_growing}
+use Rattle.chunk_grid.specs.Growing.{Grown, first_run, grown, runs_of_growing}
 use Rattle.chunk_grid.specs.Cuts.{Key, Cuts, by_key, at, chunks_of, with_pair, grown_of, IsUpTo, AreCuts, piece_of}
 use Rattle.chunk_grid.proofs.PieceLaws.{pairs_in-more, touched-more, run_piece, run_pieces-are}
 use Rattle.chunk_grid.proofs.GrowingLaws.{runs-grown_of, grown_of-more, up_to-more, up_to-later}
@@ -85,12 +86,6 @@ chunks-kept old new key g there same =
 pub at_same : (cuts : Cuts) (a b : Key) → a.items ≡ b.items → at cuts a ≡ at cuts b
 at_same cuts a b e = ap (λ xs. lookup (λ k. is_eq (slice_cmp nat_cmp xs k.items)) cuts.entries) e
 
--- what a look-up finds after one key has another value
-pub at-put : (old new : Cuts) (key : Key) (chunk : List ℕ) (g : Grown) (was : Option Grown) → key.items ≡ chunk
-    → ((q : Key) → at new q ≡ cond (is_at (by_key key) q) (Some g) (at old q)) → (q : Key) → at new q ≡ cond (bytes_eq chunk q.items) (Some g) (at old q)
-at-put old new key chunk g was named puts q =
-    puts q ∙ ap (λ b. cond b (Some g) (at old q)) (is_eq-slice_cmp key.items q.items ∙ ap (λ xs. bytes_eq xs q.items) named)
-
 -- nothing yet
 pub AreCuts-none : (cuts : Cuts) (chunk : List ℕ) → cuts.entries ≡ [] → AreCuts chunk [] cuts
 AreCuts-none cuts chunk e = record {
@@ -142,3 +137,39 @@ pieces-cut chunk targets cuts h ordered =
     pieces_at chunk targets cuts h cuts.entries found
     ∙ ap (map (run_piece chunk targets)) h.chunks
     ∙ sym (run_pieces-are chunk targets)
+
+-- a pair put behind those of its chunk
+module _ (old new : Cuts) (key : Key) (p : Pair) where
+  put_at : (g : Grown) (q : Key) → g ≡ with_pair p (at old key) → (b : Bool) → bytes_eq key.items q.items ≡ b
+      → cond b (Some g) (at old q) ≡ cond b (Some (with_pair p (at old q))) (at old q)
+  put_at g q is true e =
+      let same : key.items ≡ q.items = (bytes_eq-Decides key.items q.items).0 e in
+      ap Some (is ∙ ap (with_pair p) (at_same old key q same))
+  put_at g q is false e = refl
+
+  -- what each look-up finds then
+  abbrev pub IsPut : Type 0
+  IsPut = (q : Key) → at new q ≡ cond (bytes_eq key.items q.items) (Some (with_pair p (at old q))) (at old q)
+
+  is_put : (g : Grown) → g ≡ with_pair p (at old key) → ((q : Key) → at new q ≡ cond (is_at (by_key key) q) (Some g) (at old q)) → IsPut
+  is_put g is puts = λ q.
+      puts q ∙ ap (λ b. cond b (Some g) (at old q)) (is_eq-slice_cmp key.items q.items) ∙ put_at g q is (bytes_eq key.items q.items) refl
+
+  pub written-runs : (g w : Grown) → Some g ≡ at old key → w ≡ grown g p → WritesThrough by_key (by_key key) old w new → IsPut
+  written-runs g w there is h =
+      let found : IsSome (at old key) = subst IsSome there refl in
+      is_put w (is ∙ ap (with_pair p) there) (h.3 found).0
+
+  pub written-chunks : (g w : Grown) → Some g ≡ at old key → WritesThrough by_key (by_key key) old w new → chunks_of new ≡ among (chunks_of old) key.items
+  written-chunks g w there h = chunks-kept old new key g (sym there) h.1
+
+  module _ (mid : Cuts) (made : Key) (g : Grown) (same : mid ≡ old) (named : made.items ≡ key.items) (absent : at old key ≡ None) where
+    pub inserted-runs : g ≡ first_run p → Updates by_key mid new made (Some g) → IsPut
+    inserted-runs is h =
+        is_put (first_run p) (sym (ap (with_pair p) absent))
+        (λ q. h.0 q ∙ (λ i. cond (is_eq (slice_cmp nat_cmp (named i) q.items)) (Some (is i)) (at (same i) q)))
+
+    pub inserted-chunks : new.entries ≡ insert_entry by_key mid.entries made g → chunks_of new ≡ among (chunks_of old) key.items
+    inserted-chunks h =
+        chunks-inserted mid new made g (at_same mid made key named ∙ ap (λ cuts. at cuts key) same ∙ absent) h
+        ∙ (λ i. among (chunks_of (same i)) (named i))
