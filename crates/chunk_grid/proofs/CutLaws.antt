@@ -1,5 +1,5 @@
 -- Chunks by their indices, with the runs of the pairs so far.
-use Rattle.std.proofs.Common.{◌≡◌, ◌∙◌, ℕ, ◌+◌, ◌≤◌, Bool, true, false, cond, List, [], ◌∷◌, ◌++◌, length, map, Option, Some, None, refl, sym, ap, subst, arith, inl, inr, ◌⊎◌, IfSome}
+use Rattle.std.proofs.Common.{◌≡◌, ◌∙◌, ℕ, ◌+◌, ◌≤◌, Bool, true, false, cond, List, [], ◌∷◌, ◌++◌, length, map, Option, Some, None, refl, sym, ap, subst, arith, inl, inr, ◌⊎◌, IfSome, Result, Ok, Err, IfOk}
 use Rattle.std.specs.List.{list_any, AllByRecursion}
 use Rattle.std.specs.Str.{bytes_eq}
 use Rattle.std.specs.Map.{keys_of, lookup}
@@ -173,3 +173,9 @@ module _ (old new : Cuts) (key : Key) (p : Pair) where
     inserted-chunks h =
         chunks-inserted mid new made g (at_same mid made key named ∙ ap (λ cuts. at cuts key) same ∙ absent) h
         ∙ (λ i. among (chunks_of (same i)) (named i))
+
+-- the answer that is made of all
+pub told_pieces : {E : Type 0} (r : Result (List RunPiece) E) (chunk : List ℕ) (done targets : List (List ℕ)) (cuts : Cuts) → AreCuts chunk done cuts → done ≡ targets
+    → IfOk r (λ pieces. pieces ≡ map piece_of cuts.entries) → IsOrdered by_key cuts → IfOk r (λ pieces. pieces ≡ run_pieces chunk targets)
+told_pieces (Ok pieces) chunk done targets cuts h all is ordered = is ∙ pieces-cut chunk done cuts h ordered ∙ ap (run_pieces chunk) all
+told_pieces (Err e) chunk done targets cuts h all is ordered = tt

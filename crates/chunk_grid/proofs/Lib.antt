@@ -1,3 +1,4 @@
+pub mod CellLaws
 pub mod CutLaws
 pub mod GridLaws
 pub mod GrowingLaws

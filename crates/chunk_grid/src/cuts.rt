@@ -1,9 +1,10 @@
 // Chunks by their indices, with the runs of the pairs so far.
 ghost use Rattle.std.specs.Prelude.{◌≡◌, ◌≤◌, ◌<◌, ◌+◌, ◌^◌, ◌∷◌, ◌++◌, [], ℕ, List, Some, length, map, IfOk, OnOk, IfSome, if◌then◌else◌};
 ghost use Rattle.std.specs.Str.{bytes_eq};
+ghost use Rattle.std.specs.BTreeMap.{IsOrdered};
 ghost use Rattle.chunk_grid.specs.Grid.{IsInShape, numbers};
 ghost use Rattle.chunk_grid.specs.Pieces.{among};
-ghost use Rattle.chunk_grid.specs.Cuts.{Key, AreCuts, IsUpTo, at, chunks_of, with_pair, piece_of};
+ghost use Rattle.chunk_grid.specs.Cuts.{Key, by_key, AreCuts, IsUpTo, at, chunks_of, with_pair, piece_of};
 
 use crate::grid::Grid;
 use crate::growing::Growing;
@@ -69,7 +70,8 @@ pub(crate) fn add(
 
 /// The pieces, in the chunks' order.
 pub(crate) fn pieces_of(alloc: Global, cuts: Cuts) -> Result<List<RunPiece>, AllocError>
-    ensures { IfOk result (λ pieces. pieces ≡ map piece_of cuts.entries) }
+    ensures pieces { IfOk result (λ pieces. pieces ≡ map piece_of cuts.entries) }
+    ensures ordered { IsOrdered by_key cuts }
 {
     let mut pieces = Vec::with_capacity(alloc, cuts.len())?;
     for (chunk, growing) in cuts {

@@ -1,13 +1,18 @@
-use Rattle.std.proofs.Common.{◌≡◌, ◌∙◌, ap, sym, ℕ, List, length}
+use Rattle.std.proofs.Common.{◌≡◌, ◌∙◌, ap, sym, ℕ, List, length, map, take_all}
+use Rattle.std.proofs.lemmas.List.{length-replicate}
+use Rattle.std.proofs.lemmas.Result.{IfOk-equal}
 use Rattle.chunk_grid.specs.Grid.{numbers}
-use Rattle.chunk_grid.proofs.CutLaws.{pieces-cut}
+use Rattle.chunk_grid.specs.Runs.{run_pieces}
+use Rattle.chunk_grid.proofs.CutLaws.{pieces-cut, told_pieces}
 use Rattle.chunk_grid.proofs.cutting.runs_of.Goals as goal
 
 pub loop-view-init : goal.loop-view-init
 loop-view-init c = record {
   cuts = c.new_cuts-cuts.ensures c.args.grid.now.chunk;
-  room = let f = c.in_ok-chunk.ensures in ?;
+  room = ap length (c.in_ok-chunk.ensures.items_if_clones_equal (λ y e. e)) ∙ length-replicate (length c.shape.result.now) 0 ∙ ap (λ (xs : List ℕ). length xs) c.shape.ensures.value;
 }
 
 pub returns : goal.returns
-returns c = let f = c.pieces_of.ensures in ?
+returns c =
+    let whole = take_all c.loop-view.view c.args.targets.now c.loop-view-test.false in
+    told_pieces c.pieces_of.result c.args.grid.now.chunk _ (map numbers c.args.targets.now) c.loop-view.cuts c.loop-view.invariant.cuts (ap (map numbers) whole) c.pieces_of.ensures.pieces c.pieces_of.ensures.ordered
