@@ -1,5 +1,7 @@
 -- Chunk indices, boxes, and places in a chunk.
 use Rattle.std.proofs.Common.{◌≡◌, ◌∙◌, ℕ, zero, suc, ◌+◌, ◌*◌, ◌/◌, ◌%◌, ◌<◌, ◌≤◌, ℤ, pos, ◌≤ℤ◌, ◌<ℤ◌, unsigned_abs, List, [], ◌∷◌, ◌++◌, length, map, take, get_or, refl, sym, ap, subst, arith}
+use Rattle.std.specs.List.{All}
+use Rattle.std.proofs.lemmas.List.Elements.{All-tail}
 use Rattle.std.proofs.Math.ListN.{set}
 use Rattle.std.proofs.Math.Nat.{mod-lt}
 use Rattle.std.proofs.lemmas.Nat.{div-add-mod'}
@@ -7,7 +9,7 @@ use Rattle.std.proofs.lemmas.Int.{ints}
 use Rattle.std.proofs.lemmas.List.{length-map, take_more, take_more_set}
 use Rattle.cells.specs.Places.{cell_count, c_place, c_index, IsInside}
 use Rattle.cells.proofs.PlaceLaws.{c_place-lt, c_index-c_place}
-use Rattle.chunk_grid.specs.Grid.{ArePositive, AreFromZero, IsInShape, IsInBox, numbers, chunk_index, within_chunk, in_array, place_within}
+use Rattle.chunk_grid.specs.Grid.{AreFromZero, IsInShape, IsInBox, numbers, chunk_index, within_chunk, in_array, place_within}
 
 -- an index vector inside a shape has its length, and no index below 0
 pub length-in_shape : (shape : List ℕ) (index : List ℤ) → IsInShape shape index → length index ≡ length shape
@@ -31,10 +33,15 @@ from_zero_at [] k h lt = absurd (omega arith)
 from_zero_at (x ∷ index) zero h lt = h.0
 from_zero_at (x ∷ index) (suc k) h lt = from_zero_at index k h.1 (omega arith)
 
-pub positive_at : (chunk : List ℕ) (k : ℕ) → ArePositive chunk → k < length chunk → 0 < get_or chunk k 0
-positive_at [] k h lt = absurd (omega arith)
-positive_at (n ∷ chunk) zero h lt = h.0
-positive_at (n ∷ chunk) (suc k) h lt = positive_at chunk k h.1 (omega arith)
+-- no size of a chunk is 0
+abbrev pub ArePositive : List ℕ → Type 0
+ArePositive chunk = All (λ size. 0 < size) chunk
+
+rest_positive : (n : ℕ) (chunk : List ℕ) → ArePositive (n ∷ chunk) → ArePositive chunk
+rest_positive n chunk h = All-tail (λ size. 0 < size) n chunk h
+
+first_positive : (n : ℕ) (chunk : List ℕ) → ArePositive (n ∷ chunk) → 0 < n
+first_positive n chunk h = h 0 0 (omega arith)
 
 -- the numbers at a place
 pub chunk_index-at : (chunk : List ℕ) (index : List ℤ) (k : ℕ) → length index ≡ length chunk → k < length chunk
@@ -81,15 +88,15 @@ in_box_of_chunk [] [] same above = tt
 in_box_of_chunk [] (x ∷ index) same above = absurd (omega arith)
 in_box_of_chunk (n ∷ chunk) [] same above = absurd (omega arith)
 in_box_of_chunk (n ∷ chunk) (x ∷ index) same above =
-    let here = in_box_at n x above.0 in
-    (here.0, here.1, in_box_of_chunk chunk index (omega arith) above.1)
+    let here = in_box_at n x (first_positive n chunk above) in
+    (here.0, here.1, in_box_of_chunk chunk index (omega arith) (rest_positive n chunk above))
 
 -- and within it inside the chunk
 pub inside_within : (chunk index : List ℕ) → length index ≡ length chunk → ArePositive chunk → IsInside chunk (within_chunk chunk index)
 inside_within [] [] same above = tt
 inside_within [] (x ∷ index) same above = absurd (omega arith)
 inside_within (n ∷ chunk) [] same above = absurd (omega arith)
-inside_within (n ∷ chunk) (x ∷ index) same above = (mod-lt x above.0, inside_within chunk index (omega arith) above.1)
+inside_within (n ∷ chunk) (x ∷ index) same above = (mod-lt x (first_positive n chunk above), inside_within chunk index (omega arith) (rest_positive n chunk above))
 
 -- the chunk and the index vector within it tell the index vector
 pub in_array-split : (chunk index : List ℕ) → length index ≡ length chunk → in_array chunk (chunk_index chunk index) (within_chunk chunk index) ≡ index

@@ -1,5 +1,6 @@
 -- An array's cells and its chunks.
 use Rattle.std.specs.Prelude.{◌≡◌, ℕ, ◌+◌, ◌*◌, ◌/◌, ◌%◌, ◌^◌, ◌-◌, ◌<◌, ◌≤◌, ℤ, pos, ◌≤ℤ◌, ◌<ℤ◌, unsigned_abs, List, [], ◌∷◌, length, map}
+use Rattle.std.specs.List.{All}
 use Rattle.cells.specs.Places.{cell_count, c_place}
 
 -- an array's shape, and the shape of each of its chunks
@@ -7,22 +8,12 @@ pub record Shapes : Type 0 where
   pub shape : List ℕ
   pub chunk : List ℕ
 
--- no size is above a limit
-abbrev pub AreUpTo : ℕ → List ℕ → Type 0
-AreUpTo limit [] = Unit {0}
-AreUpTo limit (size ∷ shape) = (size ≤ limit) × AreUpTo limit shape
-
--- no size is 0
-abbrev pub ArePositive : List ℕ → Type 0
-ArePositive [] = Unit {0}
-ArePositive (size ∷ shape) = (0 < size) × ArePositive shape
-
 -- the ranks agree and are at most 32, each index of the shape is a finite one, and a chunk has 1 to 2 ^ 24 cells
 pub record IsGrid (grid : Shapes) : Type 0 where
   pub rank : length grid.shape ≤ 32
   pub same : length grid.chunk ≡ length grid.shape
-  pub finite : AreUpTo (2 ^ 62 - 2) grid.shape
-  pub positive : ArePositive grid.chunk
+  pub finite : All (λ size. size ≤ 2 ^ 62 - 2) grid.shape
+  pub positive : All (λ size. 0 < size) grid.chunk
   pub small : cell_count grid.chunk ≤ 2 ^ 24
 
 -- the index vector lies inside the shape: one index per size, from 0 on and below it

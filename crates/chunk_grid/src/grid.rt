@@ -1,6 +1,7 @@
 ghost use Rattle.std.specs.Prelude.{◌≡◌, ◌<◌, ◌≤◌, ◌^◌, length};
+ghost use Rattle.std.specs.List.{All};
 ghost use Rattle.cells.specs.Places.{cell_count, index_at};
-ghost use Rattle.chunk_grid.specs.Grid.{IsInShape, IsInBox, ArePositive, AreFromZero, numbers, chunk_index, place_within, in_array};
+ghost use Rattle.chunk_grid.specs.Grid.{IsInShape, IsInBox, AreFromZero, numbers, chunk_index, place_within, in_array};
 ghost use Rattle.cells.specs.declared.order.Order.TheVariants.{C};
 
 use cells::Sizes;
@@ -81,7 +82,7 @@ impl Grid {
 
 // The indices divided by the chunk's sizes.
 fn index_over(chunk: &[u64], index: &[i64], out: &mut [u64])
-    requires positive { ArePositive chunk.now }
+    requires positive { All (λ size. 0 < size) chunk.now }
     requires from_zero { AreFromZero index.now }
     requires same { length index.now ≡ length chunk.now }
     requires room { length out.old ≡ length chunk.now }
@@ -94,7 +95,7 @@ fn index_over(chunk: &[u64], index: &[i64], out: &mut [u64])
 
 // Each size takes what stands before it a whole row further.
 fn place_over(chunk: &[u64], index: &[i64]) -> usize
-    requires positive { ArePositive chunk.now }
+    requires positive { All (λ size. 0 < size) chunk.now }
     requires from_zero { AreFromZero index.now }
     requires same { length index.now ≡ length chunk.now }
     requires small { cell_count chunk.now ≤ 2 ^ 24 }

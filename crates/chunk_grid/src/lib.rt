@@ -13,3 +13,6 @@ mod piece;
 pub use cutting::{runs, runs_of};
 pub use grid::Grid;
 pub use piece::RunPiece;
+
+#[cfg(test)]
+mod tests;

@@ -1,7 +1,7 @@
 use Rattle.std.proofs.Common.{rules, arith, ap, sym, ◌∙◌, ◌/◌, ℤ, pos, FitsSigned, to_z, of_z, w64, get_or, nat_abs, take_all}
 use Rattle.std.proofs.lemmas.Int.{ints, to_z-of_z}
 use Rattle.chunk_grid.specs.Grid.{numbers, chunk_index}
-use Rattle.chunk_grid.proofs.GridLaws.{from_zero_at, positive_at, chunk_index-more, length-chunk_index, length-numbers}
+use Rattle.chunk_grid.proofs.GridLaws.{from_zero_at, chunk_index-more, length-chunk_index, length-numbers}
 use Rattle.chunk_grid.proofs.grid.index_over.Goals as goal
 
 pub overflow_cast-out : goal.overflow_cast-out
@@ -12,7 +12,7 @@ overflow_cast-out c =
     rw stored (omega (arith, ints), omega (arith, ints))
 
 pub nonzero_div-out : goal.nonzero_div-out
-nonzero_div-out c = positive_at c.args.chunk.now c.loop-k.k c.requires.positive (omega arith)
+nonzero_div-out c = c.requires.positive c.loop-k.k 0 (omega arith)
 
 pub loop-k-preserved : goal.loop-k-preserved
 loop-k-preserved c =

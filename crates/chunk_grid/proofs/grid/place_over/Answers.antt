@@ -2,7 +2,7 @@ use Rattle.std.proofs.Common.{rules, arith, ap, sym, subst, ◌∙◌, ◌+◌, 
 use Rattle.std.proofs.lemmas.Int.{ints, to_z-of_z}
 use Rattle.cells.proofs.PlaceSteps.{c_place-step, c_place-bound}
 use Rattle.chunk_grid.specs.Grid.{numbers, within_chunk}
-use Rattle.chunk_grid.proofs.GridLaws.{from_zero_at, positive_at, within_chunk-at, length-numbers, inside_within}
+use Rattle.chunk_grid.proofs.GridLaws.{from_zero_at, within_chunk-at, length-numbers, inside_within}
 use Rattle.chunk_grid.proofs.grid.place_over.Goals as goal
 
 pub overflow_cast-place : goal.overflow_cast-place
@@ -13,7 +13,7 @@ overflow_cast-place c =
     rw stored (omega (arith, ints), omega (arith, ints))
 
 pub nonzero_rem-place : goal.nonzero_rem-place
-nonzero_rem-place c = positive_at c.args.chunk.now c.loop-k.k c.requires.positive (omega arith)
+nonzero_rem-place c = c.requires.positive c.loop-k.k 0 (omega arith)
 
 pub overflow_mul-place : goal.overflow_mul-place
 overflow_mul-place c =
