@@ -75,6 +75,31 @@ fn cut(alloc: Global, t: &Transform, grid: &Grid) -> Result<Option<List<RunPiece
     Ok(Some(runs(alloc, t, grid)?))
 }
 
+// The runs of index vectors, where all lie inside.
+fn cut_of(
+    alloc: Global,
+    targets: &[Index],
+    grid: &Grid,
+) -> Result<Option<List<RunPiece>>, AllocError> {
+    let all = targets
+        .iter()
+        .all(|target| is_inside(grid.shape(), target.items()));
+    if targets.len() > 4_194_304 || !all {
+        return Ok(None);
+    }
+    Ok(Some(runs_of(alloc, targets, grid)?))
+}
+
+// The chunk of a cell and its place there, where it lies inside.
+fn told(alloc: Global, grid: &Grid, cell: &[i64]) -> Result<Option<(Vec<u64>, usize)>, AllocError> {
+    if !is_inside(grid.shape(), cell) {
+        return Ok(None);
+    }
+    let mut chunk = Vec::from_elem(alloc, 0, grid.shape().len())?;
+    grid.chunk_of(cell, &mut chunk);
+    Ok(Some((chunk, grid.place_in(cell))))
+}
+
 fn transform(alloc: Global, bounds: &[(i64, i64)], maps: Vec<OutMap>) -> Result<Transform, Fail> {
     let mut dims = Vec::new(alloc);
     let mut labels = Vec::new(alloc);
@@ -126,11 +151,7 @@ fn pieces_of_repeated_places(rt: HostRuntime) -> Result<(), Fail> {
     for x in [4, 0, 4] {
         targets.push(Index::wrap(vec![in alloc; x]?))?;
     }
-    assert!(rt; targets.len() == 3);
-    for target in &targets {
-        assert!(rt; is_inside(grid.shape(), target.items()));
-    }
-    let pieces = runs_of(alloc, &targets, &grid)?;
+    let pieces = cut_of(alloc, &targets, &grid)?.ok_or("not inside")?;
     assert!(rt; pieces.items().len() == 2);
     assert!(rt; is_piece(&pieces, 0, &[0], run(1, 0, 0, 0, 1)));
     assert!(rt; is_piece(&pieces, 1, &[2], run(0, 2, 0, 0, 2)));
@@ -150,67 +171,49 @@ fn strided_runs(rt: HostRuntime) -> Result<(), Fail> {
     Ok(())
 }
 
-/// A chunk's index, and its pairs of places in the view and in the chunk.
-type Pairs = (Vec<u64>, Vec<(u64, i128)>);
+/// A chunk's index, and a pair of places in the view and in the chunk.
+type Told = (Vec<u64>, (u64, i64));
 
-// Puts a pair behind those of its chunk, with the chunks in lexical order.
-fn put_pair(
-    alloc: Global,
-    pieces: &mut Vec<Pairs>,
-    chunk: &[u64],
-    pair: (u64, i128),
-) -> Result<(), AllocError> {
-    let mut place = 0;
-    while place < pieces.len() {
-        let piece = &mut pieces[place];
-        if piece.0.as_slice() == chunk {
-            piece.1.push(pair)?;
-            return Ok(());
+// The plain list: the chunk and the pair of each cell of a view, one after another.
+fn plain(alloc: Global, t: &Transform, grid: &Grid) -> Result<Vec<Told>, Fail> {
+    let mut list = Vec::new(alloc);
+    if t.is_finite() {
+        let mut cell = Vec::from_elem(alloc, 0, t.domain().dims.items().len())?;
+        let mut walk = Walk::new(alloc, t.domain())?;
+        while walk.advance(&mut cell) {
+            let target = t.at(alloc, &cell)?;
+            let (chunk, place) = told(alloc, grid, &target)?.ok_or("not inside")?;
+            list.push((chunk, (list.len() as u64, i64::try_from(place)?)))?;
         }
-        if piece.0.as_slice() > chunk {
-            break;
-        }
-        place += 1;
     }
-    let mut pairs = Vec::new(alloc);
-    pairs.push(pair)?;
-    pieces.insert(place, (Vec::from_slice(alloc, chunk)?, pairs))?;
-    Ok(())
+    Ok(list)
 }
 
-// The plain list: the chunks of a view's cells, one cell after another.
-fn plain(alloc: Global, t: &Transform, grid: &Grid) -> Result<Vec<Pairs>, Fail> {
-    let mut pieces = Vec::new(alloc);
-    let mut cell = Vec::from_elem(alloc, 0, t.domain().dims.items().len())?;
-    let mut chunk = Vec::from_elem(alloc, 0, grid.shape().len())?;
-    let mut walk = Walk::new(alloc, t.domain())?;
-    let mut view = 0u64;
-    while walk.advance(&mut cell) {
-        let target = t.at(alloc, &cell)?;
-        if is_inside(grid.shape(), &target) {
-            grid.chunk_of(&target, &mut chunk);
-            let place = grid.place_in(&target) as i128;
-            put_pair(alloc, &mut pieces, &chunk, (view, place))?;
-        }
-        view = view.wrapping_add(1);
-    }
-    Ok(pieces)
-}
-
-// The pairs of runs.
-fn pairs_of(alloc: Global, runs: &[Run]) -> Result<Vec<(u64, i128)>, AllocError> {
+// The pairs of a chunk in the plain list.
+fn pairs_at(alloc: Global, plain: &[Told], chunk: &[u64]) -> Result<Vec<(u64, i64)>, AllocError> {
     let mut pairs = Vec::new(alloc);
-    for run in runs {
-        for k in 0..run.len {
-            let view = u64::from(run.view) + u64::from(run.view_step) * u64::from(k);
-            let chunk = i128::from(run.chunk) + i128::from(run.chunk_step) * i128::from(k);
-            pairs.push((view, chunk))?;
+    for (here, pair) in plain {
+        if here.as_slice() == chunk {
+            pairs.push(*pair)?;
         }
     }
     Ok(pairs)
 }
 
-// Whether a view's runs have the pairs of the plain list, in so many chunks.
+// The pairs of runs.
+fn pairs_of(alloc: Global, runs: &[Run]) -> Result<Vec<(u64, i64)>, AllocError> {
+    let mut pairs = Vec::new(alloc);
+    for run in runs {
+        for k in 0..run.len {
+            let view = u64::from(run.view) + u64::from(run.view_step) * u64::from(k);
+            let further = run.chunk_step.wrapping_mul(i64::from(k));
+            pairs.push((view, further.wrapping_add(i64::from(run.chunk))))?;
+        }
+    }
+    Ok(pairs)
+}
+
+// Whether a view's runs have the pairs of the plain list, in so many chunks, which are in lexical order.
 fn agrees(
     alloc: Global,
     grid: &Grid,
@@ -221,13 +224,18 @@ fn agrees(
     let t = transform(alloc, bounds, maps)?;
     let pieces = cut(alloc, &t, grid)?.ok_or("not inside")?;
     let plain = plain(alloc, &t, grid)?;
-    let mut same = pieces.items().len() == chunks && plain.len() == chunks;
-    for (piece, pairs) in pieces.items().iter().zip(plain.iter()) {
-        same = same
-            && piece.chunk.items() == pairs.0.as_slice()
-            && pairs_of(alloc, piece.runs.items())?.as_slice() == pairs.1.as_slice();
+    let mut left = plain.len();
+    let mut same = pieces.items().len() == chunks;
+    let mut last: Option<&[u64]> = None;
+    for piece in pieces.items() {
+        let chunk = piece.chunk.items();
+        let pairs = pairs_of(alloc, piece.runs.items())?;
+        let rises = last.is_none_or(|before| before < chunk);
+        same = same && rises && pairs.as_slice() == pairs_at(alloc, &plain, chunk)?.as_slice();
+        left = left.saturating_sub(pairs.len());
+        last = Some(chunk);
     }
-    Ok(same)
+    Ok(same && left == 0)
 }
 
 #[test]
@@ -281,11 +289,8 @@ fn indexed_views_have_the_pairs_of_the_plain_list(rt: HostRuntime) -> Result<(),
 fn a_cell_is_told_by_its_chunk_and_place(rt: HostRuntime) -> Result<(), Fail> {
     let alloc = rt.alloc();
     let edged = grid(alloc, &[3, 5], &[2, 2])?.ok_or("no grid")?;
-    let mut chunk = [9, 9];
-    let cell = [2, 3];
-    assert!(rt; edged.shape().len() == 2 && is_inside(edged.shape(), &cell));
-    edged.chunk_of(&cell, &mut chunk);
+    let (chunk, place) = told(alloc, &edged, &[2, 3])?.ok_or("not inside")?;
     assert_eq!(rt; chunk.as_slice(), [1, 1].as_slice());
-    assert_eq!(rt; edged.place_in(&cell), 1);
+    assert_eq!(rt; place, 1);
     Ok(())
 }
