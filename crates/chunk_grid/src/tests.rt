@@ -81,10 +81,12 @@ fn cut_of(
     targets: &[Index],
     grid: &Grid,
 ) -> Result<Option<List<RunPiece>>, AllocError> {
-    let all = targets
-        .iter()
-        .all(|target| is_inside(grid.shape(), target.items()));
-    if targets.len() > 4_194_304 || !all {
+    for target in targets {
+        if !is_inside(grid.shape(), target.items()) {
+            return Ok(None);
+        }
+    }
+    if targets.len() > 4_194_304 {
         return Ok(None);
     }
     Ok(Some(runs_of(alloc, targets, grid)?))
