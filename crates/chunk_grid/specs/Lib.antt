@@ -2,4 +2,5 @@ pub mod Cuts
 pub mod Grid
 pub mod Growing
 pub mod Pieces
+pub mod Rows
 pub mod Runs

@@ -1,13 +1,15 @@
-ghost use Rattle.std.specs.Prelude.{◌≡◌, ◌≤◌, IsTrue, IfOk, length, map};
+ghost use Rattle.std.specs.Prelude.{◌≡◌, ◌≤◌, [], IsTrue, IfOk, OnOk, length, map};
 ghost use Rattle.std.specs.List.{All, list_all};
 ghost use Rattle.index_transform.specs.Cells.{is_finite, cells_of};
 ghost use Rattle.index_transform.specs.Values.{value_at};
 ghost use Rattle.chunk_grid.specs.Grid.{IsInShape, numbers};
+ghost use Rattle.chunk_grid.specs.Cuts.{AreCuts};
 ghost use Rattle.chunk_grid.specs.Runs.{run_pieces};
 
-use crate::cuts::{add, new_cuts, pieces_of};
+use crate::cuts::{Cuts, add, new_cuts, pieces_of};
 use crate::grid::Grid;
 use crate::piece::RunPiece;
+use crate::rows::{are_regular, cut_rows};
 use cells::{Index, List};
 use index_transform::{Transform, Walk};
 use std::alloc::{AllocError, Global};
@@ -55,6 +57,22 @@ pub fn runs(alloc: Global, t: &Transform, grid: &Grid) -> Result<List<RunPiece>,
     ensures { IfOk result (λ pieces. pieces ≡ run_pieces grid.now.chunk (map (λ cell. numbers (value_at t.now cell)) (cells_of t.now.domain.dims))) }
 {
     let mut cuts = new_cuts(alloc);
+    if !t.domain().dims.items().is_empty() && are_regular(t.maps()) {
+        cut_rows(alloc, &mut cuts, t, grid)?;
+    } else {
+        cut_cells(alloc, &mut cuts, t, grid)?;
+    }
+    pieces_of(alloc, cuts)
+}
+
+// Cuts a view cell by cell.
+fn cut_cells(alloc: Global, cuts: &mut Cuts, t: &Transform, grid: &Grid) -> Result<(), AllocError>
+    requires finite { IsTrue (list_all is_finite t.now.domain.dims) }
+    requires few { length (cells_of t.now.domain.dims) ≤ 4194304 }
+    requires inside { All (λ cell. IsInShape grid.now.shape (value_at t.now cell)) (cells_of t.now.domain.dims) }
+    requires empty { AreCuts grid.now.chunk [] cuts.old }
+    ensures { OnOk result (AreCuts grid.now.chunk (map (λ cell. numbers (value_at t.now cell)) (cells_of t.now.domain.dims)) cuts.new) }
+{
     let mut chunk = Vec::from_elem(alloc, 0, grid.shape().len())?;
     let mut cell = Vec::from_elem(alloc, 0, t.domain().dims.items().len())?;
     let mut walk = Walk::new(alloc, t.domain())?;
@@ -63,8 +81,8 @@ pub fn runs(alloc: Global, t: &Transform, grid: &Grid) -> Result<List<RunPiece>,
         let Ok(target) = t.at(alloc, &cell) else {
             return Err(AllocError);
         };
-        add(alloc, &mut cuts, grid, &target, &mut chunk, view)?;
+        add(alloc, cuts, grid, &target, &mut chunk, view)?;
         view += 1;
     }
-    pieces_of(alloc, cuts)
+    Ok(())
 }

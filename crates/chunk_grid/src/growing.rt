@@ -1,6 +1,8 @@
-ghost use Rattle.std.specs.Prelude.{◌≡◌, ◌≤◌, ◌<◌, ◌+◌, ◌^◌, ◌∷◌, ◌++◌, [], IfOk, IfErr, OnOk, OnErr};
+ghost use Rattle.std.specs.Prelude.{◌≡◌, ◌≤◌, ◌<◌, ◌+◌, ◌-◌, ◌^◌, ◌∷◌, ◌++◌, [], IfOk, IfErr, OnOk, OnErr};
+ghost use Rattle.std.specs.List.{fold};
 ghost use Rattle.chunk_grid.specs.Runs.{run_of_one, goes_on, longer};
 ghost use Rattle.chunk_grid.specs.Growing.{first_run, grown, runs_of_growing};
+ghost use Rattle.chunk_grid.specs.Rows.{ArePlaces, pairs_along};
 
 use cells::{List, Run};
 use std::alloc::{AllocError, Global};
@@ -45,6 +47,31 @@ impl Growing {
         }
         self.done.push(self.run)?;
         self.run = run_of_one(view, chunk);
+        Ok(())
+    }
+
+    /// Puts the pairs of a row behind the others, from one of them on: the view's place rises by 1, the chunk's by a step.
+    pub(crate) fn push_row(
+        &mut self,
+        view: u32,
+        chunk: u32,
+        step: i64,
+        len: u32,
+        from: u32,
+    ) -> Result<(), AllocError>
+        requires before { self.old.run.view + self.old.run.len ≤ view + from }
+        requires small { view + len ≤ 4194304 }
+        requires from { from ≤ len }
+        requires places { ArePlaces chunk step len }
+        ensures { OnOk result (self.new ≡ fold grown self.old (pairs_along view chunk step from (len - from))) }
+    {
+        // Three pairs tell the steps; the others follow by them.
+        let some = len.min(from + 3);
+        for k in from..some {
+            let place = i128::from(chunk) + i128::from(step) * i128::from(k);
+            self.push(view + k, place as u32)?;
+        }
+        self.run.len += len - some;
         Ok(())
     }
 

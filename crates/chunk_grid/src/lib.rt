@@ -9,6 +9,7 @@ mod cutting;
 mod grid;
 mod growing;
 mod piece;
+mod rows;
 
 pub use cutting::{runs, runs_of};
 pub use grid::Grid;
