@@ -2,4 +2,5 @@ pub mod CellLaws
 pub mod CutLaws
 pub mod GridLaws
 pub mod GrowingLaws
+pub mod GrowingRows
 pub mod PieceLaws

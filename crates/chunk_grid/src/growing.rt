@@ -1,8 +1,8 @@
-ghost use Rattle.std.specs.Prelude.{◌≡◌, ◌≤◌, ◌<◌, ◌+◌, ◌-◌, ◌^◌, ◌∷◌, ◌++◌, [], IfOk, IfErr, OnOk, OnErr};
+ghost use Rattle.std.specs.Prelude.{◌≡◌, ◌≤◌, ◌<◌, ◌+◌, ◌-◌, ◌^◌, ◌∷◌, ◌++◌, [], ℤ, pos, ◌+ℤ◌, ◌*ℤ◌, unsigned_abs, IfOk, IfErr, OnOk, OnErr};
 ghost use Rattle.std.specs.List.{fold};
 ghost use Rattle.chunk_grid.specs.Runs.{run_of_one, goes_on, longer};
 ghost use Rattle.chunk_grid.specs.Growing.{first_run, grown, runs_of_growing};
-ghost use Rattle.chunk_grid.specs.Rows.{ArePlaces, pairs_along};
+ghost use Rattle.chunk_grid.specs.Rows.{IsPlace, ArePlaces, pairs_along};
 
 use cells::{List, Run};
 use std::alloc::{AllocError, Global};
@@ -68,8 +68,7 @@ impl Growing {
         // Three pairs tell the steps; the others follow by them.
         let some = len.min(from + 3);
         for k in from..some {
-            let place = i128::from(chunk) + i128::from(step) * i128::from(k);
-            self.push(view + k, place as u32)?;
+            self.push(view + k, place_along(chunk, step, k))?;
         }
         self.run.len += len - some;
         Ok(())
@@ -83,6 +82,20 @@ impl Growing {
         done.push(run)?;
         Ok(List::wrap(done))
     }
+}
+
+// The chunk's place of a pair of a row.
+fn place_along(chunk: u32, step: i64, k: u32) -> u32
+    requires { IsPlace (pos chunk +ℤ step *ℤ pos k) }
+    ensures { result ≡ unsigned_abs (pos chunk +ℤ step *ℤ pos k) }
+{
+    scaled(chunk, step, k) as u32
+}
+
+fn scaled(chunk: u32, step: i64, k: u32) -> i128
+    ensures { result ≡ pos chunk +ℤ step *ℤ pos k }
+{
+    i128::from(chunk) + i128::from(step) * i128::from(k)
 }
 
 fn run_of_one(view: u32, chunk: u32) -> Run
