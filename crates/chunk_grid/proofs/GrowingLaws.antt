@@ -9,7 +9,7 @@ use Rattle.chunk_grid.specs.Runs.{run_of_one, goes_on, longer, cut_from, runs_of
 use Rattle.chunk_grid.specs.Growing.{Grown, first_run, grown, runs_of_growing}
 use Rattle.chunk_grid.specs.Cuts.{with_pair, grown_of, IsUpTo}
 
-abbrev next : Option Grown → Pair → Option Grown
+abbrev pub next : Option Grown → Pair → Option Grown
 next g p = Some (with_pair p g)
 
 -- the runs with all pairs are those that are done, and the rest cut
@@ -22,7 +22,7 @@ runs-fold (p ∷ pairs) g = runs-fold pairs (grown g p) ∙ told (goes_on g.run 
     told true e = rw e refl
     told false e = rw e (append_assoc g.done (g.run ∷ []) (cut_from (run_of_one p) pairs))
 
-some-fold : (pairs : List Pair) (g : Grown) → fold next (Some g) pairs ≡ Some (fold grown g pairs)
+pub some-fold : (pairs : List Pair) (g : Grown) → fold next (Some g) pairs ≡ Some (fold grown g pairs)
 some-fold [] g = refl
 some-fold (p ∷ pairs) g = some-fold pairs (grown g p)
 

@@ -4,3 +4,4 @@ pub mod GridLaws
 pub mod GrowingLaws
 pub mod GrowingRows
 pub mod PieceLaws
+pub mod RowCuts

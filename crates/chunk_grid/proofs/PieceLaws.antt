@@ -11,7 +11,7 @@ use Rattle.chunk_grid.specs.Pieces.{Pair, Piece, pair_of, is_of, pairs_in, among
 use Rattle.chunk_grid.specs.Runs.{runs_of_pairs, run_pieces}
 use Rattle.chunk_grid.specs.declared.piece.RunPiece.{RunPiece}
 
-enumerate_from-more : (n : ℕ) (xs : List (List ℕ)) (x : List ℕ) → enumerate_from n (xs ++ x ∷ []) ≡ enumerate_from n xs ++ (n + length xs, x) ∷ []
+pub enumerate_from-more : (n : ℕ) (xs : List (List ℕ)) (x : List ℕ) → enumerate_from n (xs ++ x ∷ []) ≡ enumerate_from n xs ++ (n + length xs, x) ∷ []
 enumerate_from-more n [] x = let e : n ≡ n + 0 = omega arith in ap (λ k. (k, x) ∷ []) e
 enumerate_from-more n (y ∷ xs) x =
     let e : (n + 1) + length xs ≡ n + length (y ∷ xs) = omega arith in
