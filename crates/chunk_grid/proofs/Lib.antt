@@ -1,3 +1,4 @@
+pub mod AlongLaws
 pub mod CellLaws
 pub mod CutLaws
 pub mod GridLaws
@@ -5,3 +6,4 @@ pub mod GrowingLaws
 pub mod GrowingRows
 pub mod PieceLaws
 pub mod RowCuts
+pub mod RowLaws

@@ -1,5 +1,6 @@
 // The rows of a view without index arrays: its cells along the last dimension.
-ghost use Rattle.std.specs.Prelude.{◌≡◌, ◌≤◌, ◌<◌, ◌+◌, ◌-◌, ◌^◌, ◌∷◌, ◌++◌, ℕ, ℤ, pos, List, IsTrue, IfOk, OnOk, IfSome, length, map};
+ghost use Rattle.std.specs.Prelude.{◌≡◌, ◌≤◌, ◌<◌, ◌+◌, ◌-◌, ◌^◌, ◌∷◌, ◌++◌, ℕ, ℤ, pos, List, FitsSigned, IsTrue, IfOk, OnOk, IfSome, length, map};
+ghost use mir.Syntax.{w64};
 ghost use Rattle.std.specs.List.{All, list_all, range_with_len};
 ghost use Rattle.cells.specs.Places.{cell_count};
 ghost use Rattle.index_transform.specs.Cells.{is_finite, cells_of};
