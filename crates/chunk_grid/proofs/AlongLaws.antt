@@ -1,6 +1,8 @@
 -- A row within one chunk.
-use Rattle.std.proofs.Common.{◌≡◌, ◌∙◌, ℕ, zero, suc, ◌+◌, ◌-◌, ◌*◌, ◌/◌, ◌%◌, ◌<◌, ◌≤◌, ℤ, pos, negsuc, neg_ℤ, ◌+ℤ◌, ◌-ℤ◌, ◌*ℤ◌, ◌≤ℤ◌, ◌<ℤ◌, unsigned_abs, List, [], ◌∷◌, ◌++◌, length, map, get_or, refl, sym, ap, subst, arith}
+use Rattle.std.proofs.Common.{◌≡◌, ◌∙◌, ℕ, zero, suc, ◌+◌, ◌-◌, ◌*◌, ◌/◌, ◌%◌, ◌<◌, ◌≤◌, ℤ, pos, negsuc, neg_ℤ, ◌+ℤ◌, ◌-ℤ◌, ◌*ℤ◌, ◌≤ℤ◌, ◌<ℤ◌, unsigned_abs, List, [], ◌∷◌, ◌++◌, length, map, get_or, take, refl, sym, ap, subst, arith}
 use Rattle.std.specs.List.{All, enumerate_from, range_with_len}
+use Rattle.std.proofs.Math.ListN.{set}
+use Rattle.std.proofs.lemmas.List.{take_more, take_more_set}
 use Rattle.std.proofs.Math.IntN.{*ℤ_comm, zero-*ℤ, pos-*ℤ-pos, negsuc-*ℤ-pos}
 use Rattle.std.proofs.Math.Nat.{mod-lt, mod-le, mul-le-mul_left, mul_comm, mul_assoc}
 use Rattle.std.proofs.lemmas.Int.{ints}
@@ -141,3 +143,17 @@ stays (n ∷ chunk) (x ∷ here) (s ∷ steps) k a b each =
     let first = each 0 (omega arith) in
     let rest = stays chunk here steps k (omega arith) (omega arith) (λ i lt. each (suc i) (omega arith)) in
     λ i. first i ∷ rest i
+
+-- one number of an index vector so many steps further
+pub moved-at : (here steps : List ℤ) (k : ℤ) (j : ℕ) → length steps ≡ length here → j < length here
+    → get_or (moved here steps k) j (pos 0) ≡ get_or here j (pos 0) +ℤ get_or steps j (pos 0) *ℤ k
+moved-at [] steps k j same lt = absurd (omega arith)
+moved-at (x ∷ here) [] k j same lt = absurd (omega arith)
+moved-at (x ∷ here) (s ∷ steps) k zero same lt = refl
+moved-at (x ∷ here) (s ∷ steps) k (suc j) same lt = moved-at here steps k j (omega arith) (omega arith)
+
+-- one number more of a list is written
+pub write-more : (out whole : List ℤ) (k : ℕ) (v : ℤ) → k < length out → k < length whole → v ≡ get_or whole k (pos 0) → take k out ≡ take k whole
+    → take (k + 1) (set out k v) ≡ take (k + 1) whole
+write-more out whole k v a b is so_far =
+    take_more_set out k v a ∙ ap (λ xs. xs ++ v ∷ []) so_far ∙ ap (λ x. take k whole ++ x ∷ []) is ∙ sym (take_more whole k (pos 0) b)

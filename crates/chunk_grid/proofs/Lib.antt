@@ -5,5 +5,6 @@ pub mod GridLaws
 pub mod GrowingLaws
 pub mod GrowingRows
 pub mod PieceLaws
+pub mod RowBegins
 pub mod RowCuts
 pub mod RowLaws

@@ -4,6 +4,7 @@ use Rattle.std.specs.List.{range_with_len}
 use Rattle.index_intervals.specs.Bounds.{Bounds}
 use Rattle.index_transform.specs.declared.map.OutMap.{OutMap}
 use Rattle.index_transform.specs.declared.map.OutMap.TheVariants.{Constant, Strided, Indexed}
+use Rattle.chunk_grid.specs.Grid.{numbers}
 use Rattle.chunk_grid.specs.Pieces.{Pair}
 
 -- the map has no index array
@@ -54,3 +55,7 @@ IsPlace x = (pos 0 ≤ℤ x) × (x <ℤ pos 4294967296)
 -- the chunk places of a row's pairs can be places
 abbrev pub ArePlaces : ℕ → ℤ → ℕ → Type 0
 ArePlaces chunk step len = (k : ℕ) → k < len → IsPlace (pos chunk +ℤ step *ℤ pos k)
+
+-- so many targets of a row from one on
+abbrev pub targets_along : List ℤ → List ℤ → ℕ → ℕ → List (List ℕ)
+targets_along origin steps from len = map (λ k. numbers (moved origin steps (pos k))) (range_with_len from len)
