@@ -4,6 +4,7 @@ pub mod CutLaws
 pub mod GridLaws
 pub mod GrowingLaws
 pub mod GrowingRows
+pub mod PartLaws
 pub mod PieceLaws
 pub mod RowBegins
 pub mod RowCuts

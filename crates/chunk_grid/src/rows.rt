@@ -124,6 +124,7 @@ fn place_step(
     requires along { length steps.now ≡ length grid.now.shape }
     requires room { length here.old ≡ length grid.now.shape }
     requires inside { (k : ℕ) → k < done + len → IsInShape grid.now.shape (moved origin.now steps.now (pos k)) }
+    requires indices { (k : ℕ) → k < done + len → All (FitsSigned w64) (moved origin.now steps.now (pos k)) }
     requires small { done + len ≤ 4194304 }
     ensures { 1 < len → result ≡ pos (place_within grid.now.chunk (numbers (moved origin.now steps.now (pos (done + 1))))) -ℤ pos place }
 {
@@ -161,8 +162,9 @@ fn cut_part(
     ensures before { IfOk result (λ len. (key : Key) → IfSome (at cuts.new key) (IsUpTo (view + (done + len)))) }
     ensures chunk { length chunk.new.items ≡ length grid.now.shape }
 {
+    let sizes = grid.chunk();
     write_moved(origin, steps, done, here);
-    let len = reach(grid.chunk(), here, steps, size - done);
+    let len = reach(sizes, here, steps, size - done);
     grid.chunk_of(here, chunk);
     let place = grid.place_in(here) as u32;
     let step = place_step(grid, origin, steps, here, done, len, place);
