@@ -181,3 +181,18 @@ module _ (chunk c : List ℕ) (targets xs : List (List ℕ)) (view place : ℕ) 
         let there : IfSome (cond (bytes_eq c q.items) (with_pairs row (at old q)) (at old q)) (IsUpTo (length targets + len)) = later_at q (bytes_eq c q.items) here (h.before q) in
         subst (λ n. IfSome (at new q) (IsUpTo n)) (sym one) (subst (λ o. IfSome o (IsUpTo (length targets + len))) (sym (puts q)) there);
   }
+
+-- no runs reach further than the row
+pub before-row : (c : List ℕ) (view place : ℕ) (step : ℤ) (len : ℕ) (old new : Cuts)
+    → ((q : Key) → at new q ≡ cond (bytes_eq c q.items) (with_pairs (pairs_along view place step 0 len) (at old q)) (at old q))
+    → ((q : Key) → IfSome (at old q) (IsUpTo view)) → (q : Key) → IfSome (at new q) (IsUpTo (view + len))
+before-row c view place step len old new puts before q = subst (λ o. IfSome o (IsUpTo (view + len))) (sym (puts q)) (told (bytes_eq c q.items)) where
+  later : (o : Option Grown) → IfSome o (IsUpTo view) → IfSome o (IsUpTo (view + len))
+  later None h = tt
+  later (Some g) h = omega arith
+
+  told : (b : Bool) → IfSome (cond b (with_pairs (pairs_along view place step 0 len) (at old q)) (at old q)) (IsUpTo (view + len))
+  told true =
+      subst (λ n. IfSome (with_pairs (pairs_along view place step 0 len) (at old q)) (IsUpTo n)) (let e : view + (0 + len) ≡ view + len = omega arith in e)
+      (up_to-row view place step len 0 (at old q) (subst (λ n. IfSome (at old q) (IsUpTo n)) (let e : view ≡ view + 0 = omega arith in e) (before q)))
+  told false = later (at old q) (before q)
