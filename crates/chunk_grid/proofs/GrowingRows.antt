@@ -12,6 +12,7 @@ use Rattle.std.proofs.lemmas.List.Sums.{fold-append}
 use Rattle.index_intervals.proofs.QuotientLemmas.{suc-*ℤ}
 use Rattle.index_intervals.proofs.SlicedLemmas.{int_eq-true}
 use Rattle.cells.specs.declared.run.Run.{Run}
+use Rattle.chunk_grid.proofs.RangeLaws.{range-split}
 use Rattle.chunk_grid.specs.Pieces.{Pair}
 use Rattle.chunk_grid.specs.Runs.{run_of_one, goes_on, longer}
 use Rattle.chunk_grid.specs.Growing.{Grown, grown}
@@ -282,16 +283,6 @@ module _ (view chunk : ℕ) (step : ℤ) where
   three-is g k =
       let e : (k + 1) + 1 ≡ k + 2 = omega arith in
       ap (λ j. grown (grown (grown g (p k)) (p (k + 1))) (p j)) e
-
-  range-split : (m n k : ℕ) → range_with_len k (m + n) ≡ range_with_len k m ++ range_with_len (k + m) n
-  range-split zero n k =
-      let e : 0 + n ≡ n = omega arith in
-      let f : k ≡ k + 0 = omega arith in
-      ap (range_with_len k) e ∙ ap (λ j. range_with_len j n) f
-  range-split (suc m) n k =
-      let e : suc m + n ≡ suc (m + n) = omega arith in
-      let f : (k + 1) + m ≡ k + suc m = omega arith in
-      ap (range_with_len k) e ∙ ap (λ r. k ∷ r) (range-split m n (k + 1) ∙ ap (λ j. range_with_len (k + 1) m ++ range_with_len j n) f)
 
   pub pairs-split : (m n k : ℕ) → pairs_along view chunk step k (m + n) ≡ pairs_along view chunk step k m ++ pairs_along view chunk step (k + m) n
   pairs-split m n k = ap (map p) (range-split m n k) ∙ map-append p (range_with_len k m) (range_with_len (k + m) n)

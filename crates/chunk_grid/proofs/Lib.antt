@@ -6,6 +6,8 @@ pub mod GrowingLaws
 pub mod GrowingRows
 pub mod PartLaws
 pub mod PieceLaws
+pub mod RangeLaws
 pub mod RowBegins
 pub mod RowCuts
 pub mod RowLaws
+pub mod RowViews

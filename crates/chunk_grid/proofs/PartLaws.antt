@@ -3,7 +3,8 @@ use Rattle.std.proofs.Common.{◌≡◌, ◌∙◌, ℕ, zero, suc, ◌+◌, ◌
 use Rattle.std.specs.List.{All, AllByRecursion, enumerate_from, range_with_len}
 use Rattle.std.proofs.Math.IntN.{*ℤ-zero}
 use Rattle.std.proofs.lemmas.Int.{ints}
-use Rattle.std.proofs.lemmas.List.{length-map}
+use Rattle.std.proofs.lemmas.List.{length-map, map-append}
+use Rattle.chunk_grid.proofs.RangeLaws.{range-split}
 use Rattle.std.proofs.lemmas.List.FromFn.{length-range_with_len}
 use Rattle.std.proofs.lemmas.List.Elements.{All-nil, All-cons, All-head, All-tail}
 use Rattle.cells.specs.Places.{cell_count}
@@ -116,6 +117,16 @@ module _ (chunk : List ℕ) (origin steps : List ℤ) (done len place : ℕ) (st
       let e : view ≡ view + 0 = omega arith in
       ap (λ n. map (pair_of chunk) (enumerate_from n (map at (range_with_len 0 len)))) e
       ∙ pairs-along chunk at view place step len 0 (λ k low high.
-          let f = place_at k (omega arith) in
-          let g : place_within chunk (at k) ≡ unsigned_abs (pos place +ℤ step *ℤ pos k) = omega (arith, ints, f) in
-          g)
+      let f = place_at k (omega arith) in
+      let g : place_within chunk (at k) ≡ unsigned_abs (pos place +ℤ step *ℤ pos k) = omega (arith, ints, f) in
+      g)
+
+-- a row is what is done of it and the rest
+pub targets-split : (origin steps : List ℤ) (done len : ℕ) → targets_along origin steps 0 (done + len) ≡ targets_along origin steps 0 done ++ targets_along origin steps done len
+targets-split origin steps done len =
+    let f : ℕ → List ℕ = λ k. numbers (moved origin steps (pos k)) in
+    let e : 0 + done ≡ done = omega arith in
+    ap (map f) (range-split done len 0) ∙ map-append f (range_with_len 0 done) (range_with_len (0 + done) len) ∙ ap (λ n. map f (range_with_len 0 done) ++ map f (range_with_len n len)) e
+
+pub length-targets : (origin steps : List ℤ) (from len : ℕ) → length (targets_along origin steps from len) ≡ len
+length-targets origin steps from len = length-map (range_with_len from len) (λ k. numbers (moved origin steps (pos k))) ∙ length-range_with_len from len

@@ -3,6 +3,7 @@ ghost use Rattle.std.specs.Prelude.{◌≡◌, ◌≤◌, ◌<◌, ◌+◌, ◌-
 ghost use mir.Syntax.{w64};
 ghost use Rattle.std.specs.List.{All, list_all, range_with_len};
 ghost use Rattle.index_transform.specs.Cells.{is_finite, cells_of};
+ghost use Rattle.index_transform.specs.Maps.{size_of};
 ghost use Rattle.index_transform.specs.Values.{value_at};
 ghost use Rattle.chunk_grid.specs.Grid.{IsInShape, AreFromZero, numbers, chunk_index, place_within};
 ghost use Rattle.chunk_grid.specs.Cuts.{Key, AreCuts, IsUpTo, at};
@@ -205,6 +206,14 @@ fn cut_row(
     Ok(())
 }
 
+fn size_of(dim: &Interval) -> u32
+    requires finite { IsTrue (is_finite dim.now) }
+    requires few { size_of dim.now ≤ 4194304 }
+    ensures { result ≡ size_of dim.now }
+{
+    (dim.hi + 1 - dim.lo) as u32
+}
+
 fn first_of(dim: &Interval) -> Interval
     requires { IsTrue (is_finite dim.now) }
     ensures { result ≡ first_of dim.now }
@@ -257,7 +266,7 @@ pub(crate) fn cut_rows(
         let Ok(origin) = t.at(alloc, &cell) else {
             return Err(AllocError);
         };
-        let size = (last.hi + 1 - last.lo) as u32;
+        let size = size_of(last);
         cut_row(
             alloc, cuts, grid, &origin, &steps, &mut here, &mut chunk, view, size,
         )?;
