@@ -1,7 +1,7 @@
 // The rows of a view without index arrays: its cells along the last dimension.
 ghost use Rattle.std.specs.Prelude.{◌≡◌, ◌≤◌, ◌<◌, ◌+◌, ◌-◌, ◌^◌, ◌∷◌, ◌++◌, ◌/◌, [], ℕ, ℤ, pos, ◌+ℤ◌, ◌-ℤ◌, ◌*ℤ◌, ◌≤ℤ◌, unsigned_abs, List, FitsSigned, IsTrue, IfOk, OnOk, IfSome, length, map};
 ghost use mir.Syntax.{w64};
-ghost use Rattle.std.specs.List.{All, list_all, range_with_len};
+ghost use Rattle.std.specs.List.{All, AllByRecursion, flat_map, list_all};
 ghost use Rattle.index_transform.specs.Cells.{is_finite, cells_of};
 ghost use Rattle.index_transform.specs.Maps.{size_of};
 ghost use Rattle.index_transform.specs.Values.{value_at};
@@ -206,12 +206,10 @@ fn cut_row(
     Ok(())
 }
 
-fn size_of(dim: &Interval) -> u32
-    requires finite { IsTrue (is_finite dim.now) }
-    requires few { size_of dim.now ≤ 4194304 }
+fn size_of(dim: &Interval) -> u64
     ensures { result ≡ size_of dim.now }
 {
-    (dim.hi + 1 - dim.lo) as u32
+    (dim.hi + 1 - dim.lo) as u64
 }
 
 fn first_of(dim: &Interval) -> Interval
@@ -235,6 +233,42 @@ fn beginnings(alloc: Global, dims: &[Interval], along: usize) -> Result<Domain, 
     })
 }
 
+// Cuts the rows that begin at the cells of a walk and go on along the last dimension.
+fn cut_walk(
+    alloc: Global,
+    cuts: &mut Cuts,
+    t: &Transform,
+    grid: &Grid,
+    walk: &mut Walk,
+    steps: &[i64],
+    last: &Interval,
+    cell: &mut [i64],
+    here: &mut [i64],
+    chunk: &mut Vec<u64>,
+) -> Result<(), AllocError>
+    requires rank { walk.old.rank ≡ length cell.old }
+    requires cell { length cell.old ≡ length t.now.domain.dims }
+    requires steps { length steps.now ≡ length t.now.maps }
+    requires here { length here.old ≡ length grid.now.shape }
+    requires chunk { length chunk.old.items ≡ length grid.now.shape }
+    requires some { 0 < size_of last.now }
+    requires few { length (flat_map (λ c. targets_along (value_at t.now c) steps.now 0 (size_of last.now)) walk.old.cells) ≤ 4194304 }
+    requires inside { AllByRecursion (λ c. (k : ℕ) → k < size_of last.now → IsInShape grid.now.shape (moved (value_at t.now c) steps.now (pos k))) walk.old.cells }
+    requires empty { AreCuts grid.now.chunk [] cuts.old }
+    ensures { OnOk result (AreCuts grid.now.chunk (flat_map (λ c. targets_along (value_at t.now c) steps.now 0 (size_of last.now)) walk.old.cells) cuts.new) }
+{
+    let mut view = 0;
+    'rows: while walk.advance(cell) {
+        let Ok(origin) = t.at(alloc, cell) else {
+            return Err(AllocError);
+        };
+        let size = size_of(last) as u32;
+        cut_row(alloc, cuts, grid, &origin, steps, here, chunk, view, size)?;
+        view += size;
+    }
+    Ok(())
+}
+
 /// Cuts a view without index arrays, of at least one dimension, row by row.
 pub(crate) fn cut_rows(
     alloc: Global,
@@ -253,24 +287,15 @@ pub(crate) fn cut_rows(
     let dims = t.domain().dims.items();
     let along = dims.len() - 1;
     let last = &dims[along];
-    if last.hi < last.lo {
+    if size_of(last) == 0 {
         return Ok(());
     }
     let steps = steps_along(alloc, along, t.maps())?;
     let mut chunk = Vec::from_elem(alloc, 0, grid.shape().len())?;
-    let mut here = Vec::from_elem(alloc, 0, t.maps().len())?;
+    let mut here = Vec::from_elem(alloc, 0, grid.shape().len())?;
     let mut cell = Vec::from_elem(alloc, 0, dims.len())?;
     let mut walk = Walk::new(alloc, &beginnings(alloc, dims, along)?)?;
-    let mut view = 0;
-    while walk.advance(&mut cell) {
-        let Ok(origin) = t.at(alloc, &cell) else {
-            return Err(AllocError);
-        };
-        let size = size_of(last);
-        cut_row(
-            alloc, cuts, grid, &origin, &steps, &mut here, &mut chunk, view, size,
-        )?;
-        view += size;
-    }
-    Ok(())
+    cut_walk(
+        alloc, cuts, t, grid, &mut walk, &steps, last, &mut cell, &mut here, &mut chunk,
+    )
 }
