@@ -11,3 +11,4 @@ pub mod RowBegins
 pub mod RowCuts
 pub mod RowLaws
 pub mod RowViews
+pub mod WalkRows
