@@ -1,6 +1,6 @@
 -- A row within one chunk.
-use Rattle.std.proofs.Common.{◌≡◌, ◌∙◌, ℕ, zero, suc, ◌+◌, ◌-◌, ◌*◌, ◌/◌, ◌%◌, ◌<◌, ◌≤◌, ℤ, pos, negsuc, neg_ℤ, ◌+ℤ◌, ◌-ℤ◌, ◌*ℤ◌, ◌≤ℤ◌, ◌<ℤ◌, unsigned_abs, List, [], ◌∷◌, ◌++◌, length, map, get_or, take, refl, sym, ap, subst, arith}
-use Rattle.std.specs.List.{All, enumerate_from, range_with_len}
+use Rattle.std.proofs.Common.{◌≡◌, ◌∙◌, ℕ, zero, suc, ◌+◌, ◌-◌, ◌*◌, ◌/◌, ◌%◌, ◌<◌, ◌≤◌, ℤ, pos, negsuc, neg_ℤ, ◌+ℤ◌, ◌-ℤ◌, ◌*ℤ◌, ◌≤ℤ◌, ◌<ℤ◌, unsigned_abs, List, [], ◌∷◌, ◌++◌, length, map, get_or, take, refl, sym, ap, arith}
+use Rattle.std.specs.List.{enumerate_from, range_with_len}
 use Rattle.std.proofs.Math.ListN.{set}
 use Rattle.std.proofs.lemmas.List.{take_more, take_more_set}
 use Rattle.std.proofs.Math.IntN.{*ℤ_comm, zero-*ℤ, pos-*ℤ-pos, negsuc-*ℤ-pos}
@@ -8,11 +8,10 @@ use Rattle.std.proofs.Math.Nat.{mod-lt, mod-le, mul-le-mul_left, mul_comm, mul_a
 use Rattle.std.proofs.lemmas.Int.{ints}
 use Rattle.std.proofs.lemmas.Nat.{div-mul-add, div-add-mod'}
 use Rattle.index_intervals.proofs.QuotientLemmas.{add-*ℤ, neg-*ℤ}
-use Rattle.cells.specs.Places.{cell_count, c_place}
-use Rattle.chunk_grid.specs.Grid.{AreFromZero, numbers, chunk_index, within_chunk, place_within}
-use Rattle.chunk_grid.specs.Pieces.{Pair, pair_of}
+use Rattle.cells.specs.Places.{cell_count}
+use Rattle.chunk_grid.specs.Grid.{AreFromZero, numbers, chunk_index, place_within}
+use Rattle.chunk_grid.specs.Pieces.{pair_of}
 use Rattle.chunk_grid.specs.Rows.{moved, pair_at, pairs_along}
-use Rattle.chunk_grid.proofs.GridLaws.{ArePositive}
 
 -- the place's step
 abbrev pub weighted : List ℕ → List ℤ → ℤ

@@ -1,5 +1,5 @@
 -- Chunks by their indices, with the runs of the pairs so far.
-use Rattle.std.proofs.Common.{◌≡◌, ◌∙◌, ℕ, ◌+◌, ◌≤◌, Bool, true, false, cond, List, [], ◌∷◌, ◌++◌, length, map, Option, Some, None, refl, sym, ap, subst, arith, inl, inr, ◌⊎◌, IfSome, Result, Ok, Err, IfOk}
+use Rattle.std.proofs.Common.{◌≡◌, ◌∙◌, ℕ, ◌+◌, Bool, true, false, cond, List, [], ◌∷◌, ◌++◌, length, map, Some, None, refl, sym, ap, subst, inl, inr, ◌⊎◌, IfSome, Result, Ok, Err, IfOk}
 use Rattle.std.specs.List.{list_any, AllByRecursion}
 use Rattle.std.specs.Str.{bytes_eq}
 use Rattle.std.specs.Map.{keys_of, lookup}
@@ -8,7 +8,6 @@ use Rattle.std.specs.Prelude.{IsSome}
 use Rattle.std.specs.declared.cmp.Ordering.{Ordering}
 use Rattle.std.specs.declared.cmp.Ordering.TheVariants.{Less, Equal, Greater}
 use Rattle.std.specs.Ordering.{is_lt, is_eq, nat_cmp, match_ordering}
-use Rattle.std.specs.Cmp.{IsTotalOrder}
 use Rattle.std.specs.Cmp.Lexicographic.{slice_cmp, on_texts}
 use Rattle.std.proofs.lemmas.Slice.Eq.{bytes_eq-Decides}
 use Rattle.std.proofs.lemmas.Map.Text.{is_eq-slice_cmp}
@@ -17,9 +16,9 @@ use Rattle.std.proofs.lemmas.List.Elements.{recursion_from_All}
 use Rattle.std.proofs.lemmas.List.{append-nil, length-append}
 use Rattle.chunk_grid.specs.declared.piece.RunPiece.{RunPiece}
 use Rattle.chunk_grid.specs.Grid.{chunk_index, place_within}
-use Rattle.chunk_grid.specs.Pieces.{Pair, pairs_in, placed, among, touched}
-use Rattle.chunk_grid.specs.Runs.{runs_of_pairs, run_pieces}
-use Rattle.chunk_grid.specs.Growing.{Grown, first_run, grown, runs_of_growing}
+use Rattle.chunk_grid.specs.Pieces.{Pair, pairs_in, placed, among}
+use Rattle.chunk_grid.specs.Runs.{run_pieces}
+use Rattle.chunk_grid.specs.Growing.{Grown, first_run, grown}
 use Rattle.chunk_grid.specs.Cuts.{Key, Cuts, by_key, at, chunks_of, with_pair, grown_of, IsUpTo, AreCuts, piece_of}
 use Rattle.chunk_grid.proofs.PieceLaws.{pairs_in-more, touched-more, run_piece, run_pieces-are}
 use Rattle.chunk_grid.proofs.GrowingLaws.{runs-grown_of, grown_of-more, up_to-more, up_to-later}

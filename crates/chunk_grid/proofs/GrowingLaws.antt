@@ -1,9 +1,8 @@
 -- Runs that grow pair by pair are the pairs cut into runs.
-use Rattle.std.proofs.Common.{◌≡◌, ◌∙◌, ℕ, ◌+◌, ◌≤◌, Bool, true, false, cond, List, [], ◌∷◌, ◌++◌, Option, Some, None, refl, sym, ap, subst, arith, append_assoc, IfSome, eqb-true}
+use Rattle.std.proofs.Common.{◌≡◌, ◌∙◌, ℕ, ◌+◌, ◌≤◌, Bool, true, false, cond, List, [], ◌∷◌, ◌++◌, Option, Some, None, refl, sym, ap, arith, append_assoc, IfSome, eqb-true}
 use Rattle.std.specs.Prelude.{◌==◌}
 use Rattle.std.specs.List.{fold}
 use Rattle.std.proofs.lemmas.List.Sums.{fold-append}
-use Rattle.cells.specs.declared.run.Run.{Run}
 use Rattle.chunk_grid.specs.Pieces.{Pair}
 use Rattle.chunk_grid.specs.Runs.{run_of_one, goes_on, longer, cut_from, runs_of_pairs}
 use Rattle.chunk_grid.specs.Growing.{Grown, first_run, grown, runs_of_growing}

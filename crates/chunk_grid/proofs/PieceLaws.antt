@@ -1,5 +1,5 @@
 -- One index vector more.
-use Rattle.std.proofs.Common.{◌≡◌, ◌∙◌, ℕ, ◌+◌, Bool, true, false, cond, List, [], ◌∷◌, ◌++◌, length, map, refl, sym, ap, arith}
+use Rattle.std.proofs.Common.{◌≡◌, ◌∙◌, ℕ, ◌+◌, Bool, true, false, cond, List, [], ◌∷◌, ◌++◌, length, map, refl, ap, arith}
 use Rattle.std.specs.Prelude.{filter}
 use Rattle.std.specs.List.{fold, enumerate_from}
 use Rattle.std.specs.Str.{bytes_eq}
@@ -7,7 +7,7 @@ use Rattle.std.proofs.lemmas.List.{map-append}
 use Rattle.std.proofs.lemmas.List.Sums.{fold-append}
 use Rattle.std.proofs.lemmas.List.Elements.{filter-append}
 use Rattle.chunk_grid.specs.Grid.{chunk_index, place_within}
-use Rattle.chunk_grid.specs.Pieces.{Pair, Piece, pair_of, is_of, pairs_in, among, touched, pieces_by_chunk}
+use Rattle.chunk_grid.specs.Pieces.{Piece, pair_of, is_of, pairs_in, among, touched}
 use Rattle.chunk_grid.specs.Runs.{runs_of_pairs, run_pieces}
 use Rattle.chunk_grid.specs.declared.piece.RunPiece.{RunPiece}
 

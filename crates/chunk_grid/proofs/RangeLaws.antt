@@ -1,5 +1,5 @@
 -- Numbers in a row.
-use Rattle.std.proofs.Common.{◌≡◌, ◌∙◌, ℕ, zero, suc, ◌+◌, List, [], ◌∷◌, ◌++◌, refl, ap, arith}
+use Rattle.std.proofs.Common.{◌≡◌, ◌∙◌, ℕ, zero, suc, ◌+◌, ◌∷◌, ◌++◌, ap, arith}
 use Rattle.std.specs.List.{range_with_len}
 
 pub range-split : (m n k : ℕ) → range_with_len k (m + n) ≡ range_with_len k m ++ range_with_len (k + m) n

@@ -1,5 +1,5 @@
 -- The cells that begin rows.
-use Rattle.std.proofs.Common.{◌≡◌, ◌∙◌, ℕ, zero, suc, ◌<◌, List, [], ◌∷◌, length, get_or, refl, sym, ap, arith}
+use Rattle.std.proofs.Common.{◌≡◌, ◌∙◌, ℕ, zero, suc, ◌<◌, List, [], ◌∷◌, length, get_or, ap, arith}
 use Rattle.std.proofs.Math.ListN.{set}
 use Rattle.index_intervals.specs.Bounds.{Bounds}
 use Rattle.chunk_grid.specs.Rows.{first_of, beginnings}

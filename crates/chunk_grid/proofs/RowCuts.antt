@@ -1,9 +1,9 @@
 -- A whole row put to its chunk.
-use Rattle.std.proofs.Common.{◌≡◌, ◌∙◌, ℕ, zero, suc, ◌+◌, ◌-◌, ◌<◌, ◌≤◌, ℤ, pos, ◌+ℤ◌, ◌*ℤ◌, ◌≤ℤ◌, unsigned_abs, Bool, true, false, cond, List, [], ◌∷◌, ◌++◌, length, map, Option, Some, None, refl, sym, ap, subst, arith, IfSome}
+use Rattle.std.proofs.Common.{◌≡◌, ◌∙◌, ℕ, zero, suc, ◌+◌, ◌-◌, ◌<◌, ◌≤◌, ℤ, pos, ◌+ℤ◌, ◌*ℤ◌, unsigned_abs, Bool, true, false, cond, List, [], ◌∷◌, ◌++◌, length, map, Option, Some, None, refl, sym, ap, subst, arith, IfSome}
 use Rattle.std.specs.Prelude.{IsSome, filter, ◌||◌}
-use Rattle.std.specs.List.{fold, enumerate_from, list_any, AllByRecursion, range_with_len}
+use Rattle.std.specs.List.{fold, enumerate_from, list_any, AllByRecursion}
 use Rattle.std.specs.Str.{bytes_eq}
-use Rattle.std.specs.BTreeMap.{insert_entry, is_at, WritesThrough, Updates}
+use Rattle.std.specs.BTreeMap.{is_at, WritesThrough, Updates}
 use Rattle.std.specs.Cmp.Lexicographic.{slice_cmp}
 use Rattle.std.specs.Ordering.{is_eq, is_lt, nat_cmp}
 use Rattle.std.proofs.Math.IntN.{*ℤ-zero}
@@ -13,12 +13,12 @@ use Rattle.std.proofs.lemmas.Map.Text.{is_eq-slice_cmp}
 use Rattle.std.proofs.lemmas.List.{append-nil, length-append, map-append}
 use Rattle.std.proofs.lemmas.List.Sums.{fold-append}
 use Rattle.std.proofs.lemmas.List.Elements.{filter-append}
-use Rattle.chunk_grid.specs.Grid.{chunk_index, place_within}
+use Rattle.chunk_grid.specs.Grid.{chunk_index}
 use Rattle.chunk_grid.specs.Pieces.{Pair, pair_of, is_of, pairs_in, placed, among, touched}
 use Rattle.chunk_grid.specs.Growing.{Grown, first_run, grown}
 use Rattle.chunk_grid.specs.Cuts.{Key, Cuts, by_key, at, chunks_of, with_pair, with_pairs, grown_of, IsUpTo, AreCuts}
 use Rattle.chunk_grid.specs.Rows.{pair_at, pairs_along}
-use Rattle.chunk_grid.proofs.GrowingLaws.{next, some-fold, up_to-more, up_to-later}
+use Rattle.chunk_grid.proofs.GrowingLaws.{next, some-fold, up_to-more}
 use Rattle.chunk_grid.proofs.CutLaws.{at_same}
 
 -- look-ups after one key has another value

@@ -1,16 +1,16 @@
 -- The rows of a whole view.
-use Rattle.std.proofs.Common.{◌≡◌, ◌∙◌, ℕ, zero, suc, ◌+◌, ◌*◌, ◌<◌, ◌≤◌, ℤ, pos, Bool, true, false, List, [], ◌∷◌, ◌++◌, length, map, get_or, ◌⊎◌, inl, inr, refl, sym, ap, subst, arith}
+use Rattle.std.proofs.Common.{◌≡◌, ◌∙◌, ℕ, zero, suc, ◌+◌, ◌<◌, ◌≤◌, ℤ, pos, Bool, true, false, List, [], ◌∷◌, ◌++◌, length, map, get_or, ◌⊎◌, inl, inr, refl, sym, ap, subst, arith}
 use Rattle.std.specs.Prelude.{◌&&◌}
 use Rattle.std.specs.List.{All, AllByRecursion, flat_map, list_all, range_with_len}
 use Rattle.std.proofs.lemmas.List.{map-append, length-append, length-map}
 use Rattle.std.proofs.lemmas.List.Elements.{recursion_from_All}
 use Rattle.index_intervals.specs.Bounds.{Bounds, is_index}
 use Rattle.index_transform.specs.Maps.{size_of}
-use Rattle.index_transform.specs.Cells.{counting, members_of, cells_of, is_finite}
+use Rattle.index_transform.specs.Cells.{members_of, cells_of, is_finite}
 use Rattle.index_transform.specs.Transforms.{DomainAndMaps}
-use Rattle.index_transform.specs.Values.{map_value, value_at}
+use Rattle.index_transform.specs.Values.{value_at}
 use Rattle.chunk_grid.specs.Grid.{IsInShape, numbers}
-use Rattle.chunk_grid.specs.Rows.{is_regular, step_along, moved, further, first_of, beginnings, targets_along}
+use Rattle.chunk_grid.specs.Rows.{is_regular, step_along, moved, further, beginnings, targets_along}
 use Rattle.chunk_grid.proofs.RowLaws.{row_of, cells-rows, values-along}
 use Rattle.chunk_grid.proofs.PartLaws.{length-targets}
 

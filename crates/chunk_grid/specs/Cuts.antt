@@ -1,13 +1,12 @@
 -- Chunks by their indices, with the runs of the pairs so far.
-use Rattle.std.specs.Prelude.{◌≡◌, ℕ, ◌+◌, ◌≤◌, List, [], ◌∷◌, Option, Some, None, Vec, IfSome, map, length, fold, if◌then◌else◌}
+use Rattle.std.specs.Prelude.{◌≡◌, ℕ, ◌+◌, ◌≤◌, List, Option, Some, None, Vec, IfSome, map, length, fold}
 use Rattle.std.specs.declared.alloc.Global.{Global}
 use Rattle.std.specs.declared.cmp.Ordering.{Ordering}
 use Rattle.std.specs.Ordering.{nat_cmp}
 use Rattle.std.specs.Cmp.Lexicographic.{slice_cmp}
 use Rattle.std.specs.BTreeMap.{BTreeMap, get, keys}
-use Rattle.std.specs.Str.{bytes_eq}
 use Rattle.chunk_grid.specs.declared.piece.RunPiece.{RunPiece}
-use Rattle.chunk_grid.specs.Pieces.{Pair, pairs_in, among, touched}
+use Rattle.chunk_grid.specs.Pieces.{Pair, pairs_in, touched}
 use Rattle.chunk_grid.specs.Growing.{Grown, first_run, grown, runs_of_growing}
 
 abbrev pub Key : Type 0

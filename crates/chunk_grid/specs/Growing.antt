@@ -1,5 +1,5 @@
 -- Runs to which further pairs are put.
-use Rattle.std.specs.Prelude.{List, [], ◌∷◌, ◌++◌, fold, if◌then◌else◌}
+use Rattle.std.specs.Prelude.{List, [], ◌∷◌, ◌++◌, if◌then◌else◌}
 use Rattle.cells.specs.declared.run.Run.{Run}
 use Rattle.chunk_grid.specs.Pieces.{Pair}
 use Rattle.chunk_grid.specs.Runs.{run_of_one, goes_on, longer}

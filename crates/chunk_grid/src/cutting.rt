@@ -57,12 +57,24 @@ pub fn runs(alloc: Global, t: &Transform, grid: &Grid) -> Result<List<RunPiece>,
     ensures { IfOk result (λ pieces. pieces ≡ run_pieces grid.now.chunk (map (λ cell. numbers (value_at t.now cell)) (cells_of t.now.domain.dims))) }
 {
     let mut cuts = new_cuts(alloc);
-    if !t.domain().dims.items().is_empty() && are_regular(t.maps()) {
-        cut_rows(alloc, &mut cuts, t, grid)?;
-    } else {
-        cut_cells(alloc, &mut cuts, t, grid)?;
-    }
+    cut_view(alloc, &mut cuts, t, grid)?;
     pieces_of(alloc, cuts)
+}
+
+// Cuts a view: row by row where it has no index array, else cell by cell.
+fn cut_view(alloc: Global, cuts: &mut Cuts, t: &Transform, grid: &Grid) -> Result<(), AllocError>
+    requires finite { IsTrue (list_all is_finite t.now.domain.dims) }
+    requires few { length (cells_of t.now.domain.dims) ≤ 4194304 }
+    requires inside { All (λ cell. IsInShape grid.now.shape (value_at t.now cell)) (cells_of t.now.domain.dims) }
+    requires empty { AreCuts grid.now.chunk [] cuts.old }
+    ensures { OnOk result (AreCuts grid.now.chunk (map (λ cell. numbers (value_at t.now cell)) (cells_of t.now.domain.dims)) cuts.new) }
+{
+    let dims = t.domain().dims.items();
+    if dims.len() > 0 && are_regular(t.maps()) {
+        cut_rows(alloc, cuts, t, grid)
+    } else {
+        cut_cells(alloc, cuts, t, grid)
+    }
 }
 
 // Cuts a view cell by cell.
@@ -77,7 +89,7 @@ fn cut_cells(alloc: Global, cuts: &mut Cuts, t: &Transform, grid: &Grid) -> Resu
     let mut cell = Vec::from_elem(alloc, 0, t.domain().dims.items().len())?;
     let mut walk = Walk::new(alloc, t.domain())?;
     let mut view = 0;
-    while walk.advance(&mut cell) {
+    'cells: while walk.advance(&mut cell) {
         let Ok(target) = t.at(alloc, &cell) else {
             return Err(AllocError);
         };

@@ -1,4 +1,4 @@
-use Rattle.std.proofs.Common.{◌≡◌, ◌∙◌, ap, sym, ℕ, List, Result, Ok, Err, ◌++◌, take, drop, length, arith}
+use Rattle.std.proofs.Common.{◌≡◌, ◌∙◌, sym, Result, Ok, Err, ◌++◌, take, drop, length, arith}
 use Rattle.std.specs.Prelude.{OnOk}
 use Rattle.index_transform.proofs.WalkLemmas.{written_back}
 use Rattle.chunk_grid.specs.Grid.{numbers}

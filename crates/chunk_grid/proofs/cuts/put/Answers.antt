@@ -1,9 +1,5 @@
-use Rattle.std.proofs.Common.{◌≡◌, ◌∙◌, ap, sym, subst, Option, Some, None}
-use Rattle.std.specs.Option.{option_copied_mut}
+use Rattle.std.proofs.Common.{◌∙◌, sym}
 use Rattle.std.proofs.lemmas.Result.{on_ok_weaker}
-use Rattle.chunk_grid.specs.Growing.{Grown}
-use Rattle.chunk_grid.specs.Cuts.{Cuts, at, chunks_of}
-use Rattle.chunk_grid.specs.Pieces.{among}
 use Rattle.chunk_grid.proofs.CutLaws.{written-runs, written-chunks, inserted-runs, inserted-chunks}
 use Rattle.chunk_grid.proofs.cuts.put.Goals as goal
 

@@ -1,4 +1,4 @@
-use Rattle.std.proofs.Common.{◌≡◌, ◌∙◌, ap, sym, subst, ◌-◌, arith, rules, ℕ, ℤ, FitsSigned, w64}
+use Rattle.std.proofs.Common.{◌≡◌, ◌∙◌, ap, sym, ◌-◌, arith, rules, ℕ, ℤ, FitsSigned, w64}
 use Rattle.std.proofs.lemmas.Int.{to_z-of_z}
 use Rattle.std.proofs.lemmas.Result.{on_ok_weaker}
 use Rattle.std.specs.List.{fold}

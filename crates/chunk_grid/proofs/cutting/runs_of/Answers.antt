@@ -1,9 +1,7 @@
-use Rattle.std.proofs.Common.{◌≡◌, ◌∙◌, ap, sym, ℕ, List, length, map, take_all}
+use Rattle.std.proofs.Common.{◌∙◌, ap, ℕ, List, length, map, take_all}
 use Rattle.std.proofs.lemmas.List.{length-replicate}
-use Rattle.std.proofs.lemmas.Result.{IfOk-equal}
 use Rattle.chunk_grid.specs.Grid.{numbers}
-use Rattle.chunk_grid.specs.Runs.{run_pieces}
-use Rattle.chunk_grid.proofs.CutLaws.{pieces-cut, told_pieces}
+use Rattle.chunk_grid.proofs.CutLaws.{told_pieces}
 use Rattle.chunk_grid.proofs.cutting.runs_of.Goals as goal
 
 pub loop-view-init : goal.loop-view-init

@@ -1,4 +1,4 @@
-use Rattle.std.proofs.Common.{rules, arith, ap, sym, ◌∙◌, ◌/◌, ℤ, pos, FitsSigned, to_z, of_z, w64, get_or, nat_abs, take_all}
+use Rattle.std.proofs.Common.{rules, arith, ap, sym, ◌∙◌, ◌/◌, ℤ, pos, FitsSigned, w64, get_or, nat_abs, take_all}
 use Rattle.std.proofs.lemmas.Int.{ints, to_z-of_z}
 use Rattle.chunk_grid.specs.Grid.{numbers, chunk_index}
 use Rattle.chunk_grid.proofs.GridLaws.{from_zero_at, chunk_index-more, length-chunk_index, length-numbers}

@@ -1,4 +1,4 @@
-use Rattle.std.proofs.Common.{rules, arith, ap, sym, subst, ◌∙◌, ◌+◌, ◌*◌, ◌%◌, add-one, ℤ, pos, FitsSigned, to_z, of_z, w64, get_or, nat_abs}
+use Rattle.std.proofs.Common.{rules, arith, ◌∙◌, add-one, pos, FitsSigned, w64, get_or}
 use Rattle.std.proofs.lemmas.Int.{ints, to_z-of_z}
 use Rattle.cells.proofs.PlaceSteps.{c_place-step, c_place-bound}
 use Rattle.chunk_grid.specs.Grid.{numbers, within_chunk}

@@ -1,4 +1,4 @@
-use Rattle.std.proofs.Common.{◌≡◌, ◌∙◌, ap, sym, subst, ◌++◌, ◌+◌, ◌-◌, ◌<◌, ℕ, ℤ, pos, List, length, take, drop, map, arith, IfSome, rules, FitsSigned, to_z, of_z, w64}
+use Rattle.std.proofs.Common.{◌≡◌, ◌∙◌, ap, sym, subst, ◌++◌, ◌+◌, ◌<◌, ℕ, ℤ, pos, List, length, take, drop, map, arith, IfSome, rules, FitsSigned, to_z, of_z, w64}
 use Rattle.std.specs.List.{range_with_len}
 use Rattle.std.specs.Str.{bytes_eq}
 use Rattle.std.specs.Prelude.{if◌then◌else◌}
@@ -7,7 +7,7 @@ use Rattle.index_transform.proofs.WalkLemmas.{written_back}
 use Rattle.chunk_grid.specs.Grid.{AreFromZero, numbers, chunk_index, place_within}
 use Rattle.chunk_grid.specs.Pieces.{among}
 use Rattle.chunk_grid.specs.Cuts.{Key, AreCuts, IsUpTo, at, chunks_of, with_pairs}
-use Rattle.chunk_grid.specs.Rows.{moved, targets_along, pairs_along}
+use Rattle.chunk_grid.specs.Rows.{moved, pairs_along}
 use Rattle.chunk_grid.proofs.GridLaws.{from_zero_in_shape}
 use Rattle.chunk_grid.proofs.RowCuts.{AreCuts-row, before-row}
 use Rattle.chunk_grid.proofs.PartLaws.{IsPart, fits_in_shape, are_places, targets-here, targets-of, targets-length, targets-pairs}

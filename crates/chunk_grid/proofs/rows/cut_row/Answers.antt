@@ -1,4 +1,4 @@
-use Rattle.std.proofs.Common.{◌≡◌, ◌∙◌, ap, sym, subst, ◌++◌, ◌+◌, ℕ, List, length, arith, append_assoc}
+use Rattle.std.proofs.Common.{◌∙◌, ap, sym, subst, ◌++◌, ◌+◌, ℕ, List, append_assoc}
 use Rattle.std.proofs.lemmas.List.{length-append}
 use Rattle.chunk_grid.specs.Cuts.{AreCuts}
 use Rattle.chunk_grid.specs.Rows.{targets_along}

@@ -119,5 +119,5 @@ returns c =
     on_ok_weaker c.cut_walk.result (λ h.
     subst (λ (ts : List (List ℕ)). AreCuts c.args.grid.now.chunk ts c.cut_walk.new.cuts)
     (ap (λ (ss : List ℤ). flat_map (λ x. targets_along (value_at t x) ss 0 size) c.in_ok-walk.walk.cells) steps
-        ∙ ap (λ (cs : List (List ℤ)). flat_map (λ x. targets_along (value_at t x) (map (step_along along) t.maps) 0 size) cs) cells
-        ∙ sym rows) h) c.cut_walk.ensures
+    ∙ ap (λ (cs : List (List ℤ)). flat_map (λ x. targets_along (value_at t x) (map (step_along along) t.maps) 0 size) cs) cells
+    ∙ sym rows) h) c.cut_walk.ensures

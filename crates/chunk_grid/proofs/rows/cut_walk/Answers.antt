@@ -1,10 +1,10 @@
-use Rattle.std.proofs.Common.{◌≡◌, ◌∙◌, ap, sym, subst, ◌++◌, ◌∷◌, [], ◌+◌, ◌<◌, ◌≤◌, ℕ, ℤ, pos, List, length, map, arith, append_assoc, IfSome, refl}
+use Rattle.std.proofs.Common.{◌≡◌, ◌∙◌, ap, sym, subst, ◌++◌, [], ◌+◌, ◌<◌, ◌≤◌, ℕ, ℤ, pos, List, length, arith, append_assoc, IfSome, refl}
 use Rattle.std.specs.List.{AllByRecursion, flat_map}
 use Rattle.std.proofs.lemmas.List.{length-append, append-nil}
 use Rattle.index_transform.specs.Maps.{size_of}
 use Rattle.index_transform.specs.Values.{value_at}
 use Rattle.chunk_grid.specs.Grid.{IsInShape}
-use Rattle.chunk_grid.specs.Cuts.{Key, AreCuts, IsUpTo, at}
+use Rattle.chunk_grid.specs.Cuts.{AreCuts, IsUpTo, at}
 use Rattle.chunk_grid.specs.Rows.{moved, targets_along}
 use Rattle.chunk_grid.proofs.CellLaws.{value-answered}
 use Rattle.chunk_grid.proofs.PartLaws.{length-targets}
@@ -121,8 +121,7 @@ rows-preserved c =
     let done = c.rows.invariant.0 in
     let is = c.size_of-size.ensures in
     let room : length out ≡ length c.rows.cell = omega arith in
-    let more = c.in_ok-cut_row.ensures.cuts done inv.view inv.cuts in
-    (
+    let more = c.in_ok-cut_row.ensures.cuts done inv.view inv.cuts in (
       done ++ row out,
       record {
         all = append_assoc done (row out) (flat_map row c.advance.new.self.cells) ∙ sym (ap (λ (cs : List (List ℤ)). done ++ flat_map row cs) e) ∙ inv.all;

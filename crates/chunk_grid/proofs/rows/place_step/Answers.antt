@@ -1,5 +1,4 @@
 use Rattle.std.proofs.Common.{◌+◌, arith}
-use Rattle.chunk_grid.proofs.PartLaws.{are_places}
 use Rattle.chunk_grid.proofs.rows.place_step.Goals as goal
 
 pub write_moved-requires-clause-indices : goal.write_moved-requires-clause-indices

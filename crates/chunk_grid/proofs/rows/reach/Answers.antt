@@ -1,4 +1,4 @@
-use Rattle.std.proofs.Common.{arith, ap, sym, subst, ◌∙◌, ◌≤◌, ◌<◌, ◌/◌, ℕ, ℤ, pos, ◌+ℤ◌, ◌*ℤ◌, unsigned_abs, ◌≡◌, get_or, below_more, FitsSigned, to_z, of_z, w64, rules}
+use Rattle.std.proofs.Common.{arith, subst, ◌<◌, ◌/◌, ℕ, ℤ, pos, ◌+ℤ◌, ◌*ℤ◌, unsigned_abs, ◌≡◌, get_or, below_more, FitsSigned, to_z, of_z, w64, rules}
 use Rattle.std.proofs.lemmas.Int.{to_z-of_z}
 use Rattle.chunk_grid.proofs.GridLaws.{from_zero_at}
 use Rattle.chunk_grid.proofs.AlongLaws.{StaysAt, stays}

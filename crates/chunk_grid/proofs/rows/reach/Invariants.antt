@@ -1,4 +1,4 @@
-use Rattle.std.proofs.Common.{◌≡◌, ◌<◌, ◌≤◌, ℕ}
+use Rattle.std.proofs.Common.{◌<◌, ◌≤◌, ℕ}
 use Rattle.chunk_grid.proofs.AlongLaws.{StaysAt}
 use Rattle.chunk_grid.proofs.rows.reach.Given as goal
 

@@ -1,4 +1,4 @@
-use Rattle.std.proofs.Common.{◌≡◌, arith, ap, subst, ◌∙◌, ◌≤◌, ◌<◌, ◌+◌, ◌-◌, ◌/◌, ◌%◌, ℕ, ℤ, pos, ◌<ℤ◌, unsigned_abs, FitsSigned, w64, rules}
+use Rattle.std.proofs.Common.{◌≡◌, arith, ap, subst, ◌∙◌, ◌≤◌, ◌-◌, ◌/◌, ◌%◌, ℕ, pos, ◌<ℤ◌, unsigned_abs, FitsSigned, w64, rules}
 use Rattle.std.proofs.lemmas.Int.{ints, to_z-of_z}
 use Rattle.chunk_grid.proofs.AlongLaws.{stays_up, stays_down, stays_still}
 use Rattle.chunk_grid.proofs.rows.reach_along.Goals as goal

@@ -1,5 +1,5 @@
-use Rattle.std.proofs.Common.{◌≡◌, ◌∙◌, ap, sym, subst, ℕ, ◌+◌, ◌-◌, ◌≤◌, arith, pos, ◌+ℤ◌, ◌*ℤ◌, ◌≤ℤ◌, Some, to_z, of_z, w64, FitsSigned, rules}
-use Rattle.std.proofs.lemmas.Int.{ints, to_z-of_z}
+use Rattle.std.proofs.Common.{◌≡◌, ◌∙◌, ap, sym, subst, ◌+◌, ◌-◌, arith, pos, ◌+ℤ◌, ◌*ℤ◌, ◌≤ℤ◌, Some, to_z, of_z, w64, FitsSigned, rules}
+use Rattle.std.proofs.lemmas.Int.{to_z-of_z}
 use Rattle.chunk_grid.specs.Pieces.{Pair}
 use Rattle.chunk_grid.specs.Growing.{Grown}
 use Rattle.chunk_grid.specs.Cuts.{IsUpTo}
