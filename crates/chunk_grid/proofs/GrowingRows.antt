@@ -36,7 +36,7 @@ one_test : (n : ℕ) → 2 ≤ n → (n == 1) ≡ false
 one_test n h = grind (arith, nat_tests)
 
 -- what a pair that goes on with a run of two or more says
-follows : (r : Run) (q : Pair) → 2 ≤ r.len → goes_on r q ≡ true → (q.view ≡ r.view + r.view_step * r.len) × (pos q.chunk ≡ pos r.chunk +ℤ r.chunk_step *ℤ pos r.len)
+pub follows : (r : Run) (q : Pair) → 2 ≤ r.len → goes_on r q ≡ true → (q.view ≡ r.view + r.view_step * r.len) × (pos q.chunk ≡ pos r.chunk +ℤ r.chunk_step *ℤ pos r.len)
 follows r q two e =
     let rest = sym (ap (λ b. b || (q.view == r.view + r.view_step * r.len && int_eq (pos q.chunk) (pos r.chunk +ℤ r.chunk_step *ℤ pos r.len))) (one_test r.len two)) ∙ e in
     let parts = both (q.view == r.view + r.view_step * r.len) (int_eq (pos q.chunk) (pos r.chunk +ℤ r.chunk_step *ℤ pos r.len)) rest in
@@ -48,7 +48,7 @@ goes_on-next r q two v c =
     ∙ ap (λ b. b && int_eq (pos q.chunk) (pos r.chunk +ℤ r.chunk_step *ℤ pos r.len)) (eq-eqb q.view (r.view + r.view_step * r.len) v)
     ∙ int_eq-true (pos q.chunk) (pos r.chunk +ℤ r.chunk_step *ℤ pos r.len) c
 
-longer-more : (r : Run) (q : Pair) → 2 ≤ r.len → longer r q ≡ record r { len = r.len + 1 }
+pub longer-more : (r : Run) (q : Pair) → 2 ≤ r.len → longer r q ≡ record r { len = r.len + 1 }
 longer-more r q two =
     ap (λ b. cond b (record { view = r.view; view_step = q.view - r.view; chunk = r.chunk; chunk_step = pos q.chunk -ℤ pos r.chunk; len = 2 }) (record r { len = r.len + 1 }))
     (one_test r.len two)
@@ -70,10 +70,10 @@ single-goes_on r q p s =
     ap (λ b. b || (p.view == r.view + r.view_step * r.len && int_eq (pos p.chunk) (pos r.chunk +ℤ r.chunk_step *ℤ pos r.len))) (eq-eqb r.len 1 s.len)
 
 -- the run of two pairs
-abbrev second : Run → Pair → Run
+abbrev pub second : Run → Pair → Run
 second r p = record { view = r.view; view_step = p.view - r.view; chunk = r.chunk; chunk_step = pos p.chunk -ℤ pos r.chunk; len = 2 }
 
-first-longer : (r : Run) (p : Pair) → r.len ≡ 1 → longer r p ≡ second r p
+pub first-longer : (r : Run) (p : Pair) → r.len ≡ 1 → longer r p ≡ second r p
 first-longer r p e = ap (λ b. cond b (second r p) (record r { len = r.len + 1 })) (eq-eqb r.len 1 e)
 
 grown-on : (g : Grown) (p : Pair) → goes_on g.run p ≡ true → grown g p ≡ record { done = g.done; run = longer g.run p }

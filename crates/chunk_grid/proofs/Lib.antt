@@ -11,4 +11,5 @@ pub mod RowBegins
 pub mod RowCuts
 pub mod RowLaws
 pub mod RowViews
+pub mod RunLaws
 pub mod WalkRows

@@ -1,10 +1,10 @@
 -- Pairs cut into runs of equal steps.
 use Rattle.std.specs.Prelude.{ℕ, ◌+◌, ◌-◌, ◌*◌, ◌==◌, pos, ◌+ℤ◌, ◌-ℤ◌, ◌*ℤ◌, unsigned_abs, List, [], ◌∷◌, Bool, ◌&&◌, ◌||◌, map, if◌then◌else◌}
-use Rattle.std.specs.List.{range_with_len}
+use Rattle.std.specs.List.{flat_map, range_with_len}
 use Rattle.std.specs.Ordering.{int_eq}
 use Rattle.cells.specs.declared.run.Run.{Run}
 use Rattle.chunk_grid.specs.declared.piece.RunPiece.{RunPiece}
-use Rattle.chunk_grid.specs.Pieces.{Pair, pieces_by_chunk}
+use Rattle.chunk_grid.specs.Pieces.{Pair, Piece, pieces_by_chunk}
 
 -- the run of one pair
 abbrev pub run_of_one : Pair → Run
@@ -51,3 +51,7 @@ pairs_of_run run =
       view = run.view + run.view_step * k;
       chunk = unsigned_abs (pos run.chunk +ℤ run.chunk_step *ℤ pos k);
     }) (range_with_len 0 run.len)
+
+-- a piece with the pairs of its runs
+abbrev pub unrolled : RunPiece → Piece
+unrolled piece = record { chunk = piece.chunk; pairs = flat_map pairs_of_run piece.runs }

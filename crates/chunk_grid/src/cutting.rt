@@ -4,7 +4,8 @@ ghost use Rattle.index_transform.specs.Cells.{is_finite, cells_of};
 ghost use Rattle.index_transform.specs.Values.{value_at};
 ghost use Rattle.chunk_grid.specs.Grid.{IsInShape, numbers};
 ghost use Rattle.chunk_grid.specs.Cuts.{AreCuts};
-ghost use Rattle.chunk_grid.specs.Runs.{run_pieces};
+ghost use Rattle.chunk_grid.specs.Pieces.{pieces_by_chunk};
+ghost use Rattle.chunk_grid.specs.Runs.{run_pieces, unrolled};
 
 use crate::cuts::{Cuts, add, new_cuts, pieces_of};
 use crate::grid::Grid;
@@ -26,7 +27,8 @@ use std::alloc::{AllocError, Global};
 pub fn runs_of(alloc: Global, targets: &[Index], grid: &Grid) -> Result<List<RunPiece>, AllocError>
     requires few { length targets.now ≤ 4194304 }
     requires inside { All (IsInShape grid.now.shape) targets.now }
-    ensures { IfOk result (λ pieces. pieces ≡ run_pieces grid.now.chunk (map numbers targets.now)) }
+    ensures pieces { IfOk result (λ pieces. pieces ≡ run_pieces grid.now.chunk (map numbers targets.now)) }
+    ensures cells { IfOk result (λ pieces. map unrolled pieces ≡ pieces_by_chunk grid.now.chunk (map numbers targets.now)) }
 {
     let mut cuts = new_cuts(alloc);
     let mut chunk = Vec::from_elem(alloc, 0, grid.shape().len())?;
@@ -54,7 +56,8 @@ pub fn runs(alloc: Global, t: &Transform, grid: &Grid) -> Result<List<RunPiece>,
     requires finite { IsTrue (list_all is_finite t.now.domain.dims) }
     requires few { length (cells_of t.now.domain.dims) ≤ 4194304 }
     requires inside { All (λ cell. IsInShape grid.now.shape (value_at t.now cell)) (cells_of t.now.domain.dims) }
-    ensures { IfOk result (λ pieces. pieces ≡ run_pieces grid.now.chunk (map (λ cell. numbers (value_at t.now cell)) (cells_of t.now.domain.dims))) }
+    ensures pieces { IfOk result (λ pieces. pieces ≡ run_pieces grid.now.chunk (map (λ cell. numbers (value_at t.now cell)) (cells_of t.now.domain.dims))) }
+    ensures cells { IfOk result (λ pieces. map unrolled pieces ≡ pieces_by_chunk grid.now.chunk (map (λ cell. numbers (value_at t.now cell)) (cells_of t.now.domain.dims))) }
 {
     let mut cuts = new_cuts(alloc);
     cut_view(alloc, &mut cuts, t, grid)?;
