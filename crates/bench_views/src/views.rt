@@ -32,7 +32,7 @@ fn strided(offset: i64, stride: i64, dim: u32) -> OutMap {
 fn indexed(alloc: Global) -> Result<OutMap, AllocError> {
     let mut entries = Vec::new(alloc);
     for k in 0..1000i64 {
-        entries.push(k * 7 % 1000)?;
+        entries.push(k.wrapping_mul(7) % 1000)?;
     }
     Ok(OutMap::Indexed {
         offset: 0,
