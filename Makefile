@@ -12,8 +12,14 @@ bin/tensor_run: crates.txt $(wildcard crates/*/src/*.rt crates/*/specs/*.antt cr
 run: bin/tensor_run
 	@bin/tensor_run "$(SCRIPT)"
 
-bench: bin/tensor_run
+bin/bench_views: crates.txt $(wildcard crates/*/src/*.rt crates/*/specs/*.antt crates/*/proofs/*.antt)
+	cd crates/bench_views && rt run -- contiguous 1 > /dev/null
+	mkdir -p bin
+	cp crates/bench_views/out/bench_views bin/bench_views
+
+bench: bin/tensor_run bin/bench_views
 	bench/run.sh bin/tensor_run
+	bench/views.sh bin/bench_views
 
 test:
 	rt ci

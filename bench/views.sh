@@ -1,0 +1,22 @@
+#!/usr/bin/env bash
+# Cells a second in which views of 1,000,000 cells are cut at chunk edges. What a program does once is taken off.
+set -eu
+program=${1:-bin/bench_views}
+seconds() {
+    local start end
+    start=$(date +%s.%N)
+    "$program" "$1" "$2" > /dev/null
+    end=$(date +%s.%N)
+    awk -v a="$start" -v b="$end" 'BEGIN { print b - a }'
+}
+while read -r view times; do
+    once=$(seconds "$view" 0)
+    all=$(seconds "$view" "$times")
+    awk -v view="$view" -v n="$times" -v a="$once" -v b="$all" 'BEGIN {
+        printf "%10s: %.4f s a cut, %.0f million cells a second\n", view, (b - a) / n, n / (b - a)
+    }'
+done << 'END'
+contiguous 100
+strided 100
+indexed 2
+END

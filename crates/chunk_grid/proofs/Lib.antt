@@ -1,0 +1,15 @@
+pub mod AlongLaws
+pub mod CellLaws
+pub mod CutLaws
+pub mod GridLaws
+pub mod GrowingLaws
+pub mod GrowingRows
+pub mod PartLaws
+pub mod PieceLaws
+pub mod RangeLaws
+pub mod RowBegins
+pub mod RowCuts
+pub mod RowLaws
+pub mod RowViews
+pub mod RunLaws
+pub mod WalkRows

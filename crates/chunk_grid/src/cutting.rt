@@ -1,0 +1,103 @@
+ghost use Rattle.std.specs.Prelude.{◌≡◌, ◌≤◌, [], IsTrue, IfOk, OnOk, length, map};
+ghost use Rattle.std.specs.List.{All, list_all};
+ghost use Rattle.index_transform.specs.Cells.{is_finite, cells_of};
+ghost use Rattle.index_transform.specs.Values.{value_at};
+ghost use Rattle.chunk_grid.specs.Grid.{IsInShape, numbers};
+ghost use Rattle.chunk_grid.specs.Cuts.{AreCuts};
+ghost use Rattle.chunk_grid.specs.Pieces.{pieces_by_chunk};
+ghost use Rattle.chunk_grid.specs.Runs.{run_pieces, unrolled};
+
+use crate::cuts::{Cuts, add, new_cuts, pieces_of};
+use crate::grid::Grid;
+use crate::piece::RunPiece;
+use crate::rows::{are_regular, cut_rows};
+use cells::{Index, List};
+use index_transform::{Transform, Walk};
+use std::alloc::{AllocError, Global};
+
+/// The chunks that a list of index vectors touches, in lexical order of their indices, each once. A run's pairs are the
+/// places in the list and the places in the chunk, in C order, of the vectors that lie there. They come in rising order of
+/// the list, and a run takes as many as follow by equal steps.
+///
+/// At most 2^22 vectors, each inside the array.
+///
+/// # Errors
+///
+/// `AllocError` where there is no memory.
+pub fn runs_of(alloc: Global, targets: &[Index], grid: &Grid) -> Result<List<RunPiece>, AllocError>
+    requires few { length targets.now ≤ 4194304 }
+    requires inside { All (IsInShape grid.now.shape) targets.now }
+    ensures pieces { IfOk result (λ pieces. pieces ≡ run_pieces grid.now.chunk (map numbers targets.now)) }
+    ensures cells { IfOk result (λ pieces. map unrolled pieces ≡ pieces_by_chunk grid.now.chunk (map numbers targets.now)) }
+{
+    let mut cuts = new_cuts(alloc);
+    let mut chunk = Vec::from_elem(alloc, 0, grid.shape().len())?;
+    for (view, target) in targets.iter().enumerate() {
+        add(
+            alloc,
+            &mut cuts,
+            grid,
+            target.items(),
+            &mut chunk,
+            view as u32,
+        )?;
+    }
+    pieces_of(alloc, cuts)
+}
+
+/// The same of a view: of the values of its transform at the cells of its finite domain, in C order.
+///
+/// The view has at most 2^22 cells, and each value lies inside the array.
+///
+/// # Errors
+///
+/// `AllocError` where there is no memory.
+pub fn runs(alloc: Global, t: &Transform, grid: &Grid) -> Result<List<RunPiece>, AllocError>
+    requires finite { IsTrue (list_all is_finite t.now.domain.dims) }
+    requires few { length (cells_of t.now.domain.dims) ≤ 4194304 }
+    requires inside { All (λ cell. IsInShape grid.now.shape (value_at t.now cell)) (cells_of t.now.domain.dims) }
+    ensures pieces { IfOk result (λ pieces. pieces ≡ run_pieces grid.now.chunk (map (λ cell. numbers (value_at t.now cell)) (cells_of t.now.domain.dims))) }
+    ensures cells { IfOk result (λ pieces. map unrolled pieces ≡ pieces_by_chunk grid.now.chunk (map (λ cell. numbers (value_at t.now cell)) (cells_of t.now.domain.dims))) }
+{
+    let mut cuts = new_cuts(alloc);
+    cut_view(alloc, &mut cuts, t, grid)?;
+    pieces_of(alloc, cuts)
+}
+
+// Cuts a view: row by row where it has no index array, else cell by cell.
+fn cut_view(alloc: Global, cuts: &mut Cuts, t: &Transform, grid: &Grid) -> Result<(), AllocError>
+    requires finite { IsTrue (list_all is_finite t.now.domain.dims) }
+    requires few { length (cells_of t.now.domain.dims) ≤ 4194304 }
+    requires inside { All (λ cell. IsInShape grid.now.shape (value_at t.now cell)) (cells_of t.now.domain.dims) }
+    requires empty { AreCuts grid.now.chunk [] cuts.old }
+    ensures { OnOk result (AreCuts grid.now.chunk (map (λ cell. numbers (value_at t.now cell)) (cells_of t.now.domain.dims)) cuts.new) }
+{
+    let dims = t.domain().dims.items();
+    if dims.len() > 0 && are_regular(t.maps()) {
+        cut_rows(alloc, cuts, t, grid)
+    } else {
+        cut_cells(alloc, cuts, t, grid)
+    }
+}
+
+// Cuts a view cell by cell.
+fn cut_cells(alloc: Global, cuts: &mut Cuts, t: &Transform, grid: &Grid) -> Result<(), AllocError>
+    requires finite { IsTrue (list_all is_finite t.now.domain.dims) }
+    requires few { length (cells_of t.now.domain.dims) ≤ 4194304 }
+    requires inside { All (λ cell. IsInShape grid.now.shape (value_at t.now cell)) (cells_of t.now.domain.dims) }
+    requires empty { AreCuts grid.now.chunk [] cuts.old }
+    ensures { OnOk result (AreCuts grid.now.chunk (map (λ cell. numbers (value_at t.now cell)) (cells_of t.now.domain.dims)) cuts.new) }
+{
+    let mut chunk = Vec::from_elem(alloc, 0, grid.shape().len())?;
+    let mut cell = Vec::from_elem(alloc, 0, t.domain().dims.items().len())?;
+    let mut walk = Walk::new(alloc, t.domain())?;
+    let mut view = 0;
+    'cells: while walk.advance(&mut cell) {
+        let Ok(target) = t.at(alloc, &cell) else {
+            return Err(AllocError);
+        };
+        add(alloc, cuts, grid, &target, &mut chunk, view)?;
+        view += 1;
+    }
+    Ok(())
+}
