@@ -1,0 +1,15 @@
+pub mod NestedLaws
+pub mod Gathering
+pub mod Rows
+pub mod MapLists
+pub mod Told
+pub mod Entries
+pub mod Accepted
+pub mod Reading
+pub mod ItemPairs
+pub mod LeastNames
+pub mod AgainArrays
+pub mod AgainBounds
+pub mod AgainMaps
+pub mod Again
+pub mod NoFloats

@@ -1,0 +1,9 @@
+pub mod Written
+pub mod Faults
+pub mod Members
+pub mod Bounds
+pub mod Uppers
+pub mod Input
+pub mod Arrays
+pub mod Output
+pub mod Transforms

@@ -1,0 +1,280 @@
+// Transforms and domains as JSON.
+ghost use Rattle.std.specs.Prelude.{◌≡◌, false, Ok, IsTrue, IfOk, OnOk, map, length};
+ghost use Rattle.std.specs.List.{AllByRecursion, list_all};
+ghost use Rattle.serde_json.specs.View.{view, members_view};
+ghost use Rattle.serde_json.specs.Data.{string, object};
+ghost use Rattle.serde_json.specs.Written.{has_float};
+ghost use Rattle.json_forms.specs.Lists.{list_of};
+ghost use Rattle.cells.specs.Places.{cell_count};
+ghost use Rattle.index_intervals.specs.Bounds.{AreBounds};
+ghost use Rattle.index_transform.specs.Transforms.{IsTransform};
+ghost use Rattle.transform_json.specs.Transforms.{transform_of};
+ghost use Rattle.transform_json.specs.Written.{has_entries, has_sizes, HasWords, flagged, lower_data, upper_data, are_unlabelled, with_labels, with_number, domain_data, nested_data, map_data, transform_data};
+
+use cells::Name;
+use index_intervals::{INFINITY, Interval};
+use index_transform::{Domain, OutMap, Transform};
+use serde_json::{Map, Value, put};
+use std::alloc::{AllocError, Global};
+
+/// The JSON of a domain: `exclusive_max`, `inclusive_min`, and `labels` where some label isn't empty. An implicit bound
+/// stands in a list of its own, and "+inf" and "-inf" for a missing one.
+///
+/// # Errors
+/// An allocation failed.
+pub fn write_domain(alloc: Global, d: &Domain) -> Result<Value, AllocError>
+    ensures value { IfOk result (λ v. view v ≡ domain_data d.now) }
+    ensures plain { IfOk result (λ v. has_float (view v) ≡ false) }
+{
+    Ok(Value::Object(members_of_domain(alloc, d)?))
+}
+
+fn members_of_domain(alloc: Global, d: &Domain) -> Result<Map<String, Value>, AllocError>
+    ensures { IfOk result (λ m. object (members_view m.entries) ≡ domain_data d.now) }
+{
+    let mut members = Map::new(alloc);
+    put_labels(alloc, &mut members, "labels", d.labels.items())?;
+    put(
+        &mut members,
+        alloc,
+        "inclusive_min",
+        lowers(alloc, d.dims.items())?,
+    )?;
+    put(
+        &mut members,
+        alloc,
+        "exclusive_max",
+        uppers(alloc, d.dims.items())?,
+    )?;
+    Ok(members)
+}
+
+/// The JSON of a transform: `input_exclusive_max`, `input_inclusive_min`, `input_labels` where some label isn't empty,
+/// `input_rank`, and `output`. An output map has `index_array` or `input_dimension`, `offset` where it isn't 0, and
+/// `stride` where it isn't 1.
+///
+/// TensorStore, "Index space", JSON of index transforms.
+///
+/// # Errors
+/// An allocation failed.
+pub fn write_transform(alloc: Global, t: &Transform) -> Result<Value, AllocError>
+    ensures value { IfOk result (λ v. view v ≡ transform_data t.now) }
+    ensures plain { IfOk result (λ v. has_float (view v) ≡ false) }
+    ensures again { IfOk result (λ v. IsTrue (list_all has_sizes t.now.maps) → transform_of (view v) ≡ Ok t.now) }
+{
+    Ok(Value::Object(members_of_transform(alloc, t)?))
+}
+
+fn members_of_transform(alloc: Global, t: &Transform) -> Result<Map<String, Value>, AllocError>
+    ensures value { IfOk result (λ m. object (members_view m.entries) ≡ transform_data t.now) }
+    ensures well_formed { IsTransform t.now }
+    ensures bounds { OnOk result (AllByRecursion AreBounds t.now.domain.dims) }
+    ensures words { OnOk result (AllByRecursion HasWords t.now.maps) }
+{
+    let domain = t.domain();
+    let mut members = Map::new(alloc);
+    put(&mut members, alloc, "output", outputs(alloc, t.maps())?)?;
+    let rank = domain.dims.items().len() as u64;
+    put(&mut members, alloc, "input_rank", Value::from(rank))?;
+    put_labels(alloc, &mut members, "input_labels", domain.labels.items())?;
+    let low = lowers(alloc, domain.dims.items())?;
+    put(&mut members, alloc, "input_inclusive_min", low)?;
+    let high = uppers(alloc, domain.dims.items())?;
+    put(&mut members, alloc, "input_exclusive_max", high)?;
+    Ok(members)
+}
+
+fn lowers(alloc: Global, dims: &[Interval]) -> Result<Value, AllocError>
+    ensures { IfOk result (λ v. view v ≡ list_of (map lower_data dims.now)) }
+{
+    let mut items = Vec::with_capacity(alloc, dims.len())?;
+    for dim in dims {
+        items.push(lower(alloc, dim)?)?;
+    }
+    Ok(Value::Array(items))
+}
+
+fn uppers(alloc: Global, dims: &[Interval]) -> Result<Value, AllocError>
+    ensures value { IfOk result (λ v. view v ≡ list_of (map upper_data dims.now)) }
+    ensures bounds { OnOk result (AllByRecursion AreBounds dims.now) }
+{
+    let mut items = Vec::with_capacity(alloc, dims.len())?;
+    for dim in dims {
+        items.push(upper(alloc, dim)?)?;
+    }
+    Ok(Value::Array(items))
+}
+
+fn lower(alloc: Global, dim: &Interval) -> Result<Value, AllocError>
+    ensures { IfOk result (λ v. view v ≡ lower_data dim.now) }
+{
+    let bound = if dim.lo == -INFINITY {
+        Value::try_from_str(alloc, "-inf")?
+    } else {
+        Value::from(dim.lo)
+    };
+    flagged(alloc, dim.lo_implicit, bound)
+}
+
+fn upper(alloc: Global, dim: &Interval) -> Result<Value, AllocError>
+    ensures value { IfOk result (λ v. view v ≡ upper_data dim.now) }
+    ensures bounds { AreBounds dim.now }
+{
+    let bound = if dim.hi == INFINITY {
+        Value::try_from_str(alloc, "+inf")?
+    } else {
+        Value::from(dim.hi + 1)
+    };
+    flagged(alloc, dim.hi_implicit, bound)
+}
+
+fn flagged(alloc: Global, implicit: bool, value: Value) -> Result<Value, AllocError>
+    ensures { IfOk result (λ v. view v ≡ flagged implicit (view value)) }
+{
+    if implicit {
+        let mut items = Vec::new(alloc);
+        items.push(value)?;
+        Ok(Value::Array(items))
+    } else {
+        Ok(value)
+    }
+}
+
+fn put_labels(
+    alloc: Global,
+    members: &mut Map<String, Value>,
+    name: &str,
+    labels: &[Name],
+) -> Result<(), AllocError>
+    ensures { OnOk result (members_view members.new.entries ≡ with_labels name.now labels.now (members_view members.old.entries)) }
+{
+    if are_unlabelled(labels) {
+        return Ok(());
+    }
+    put(members, alloc, name, texts(alloc, labels)?)
+}
+
+fn are_unlabelled(labels: &[Name]) -> bool
+    ensures { result ≡ are_unlabelled labels.now }
+{
+    labels.iter().all(|label| label.items().len() == 0)
+}
+
+fn texts(alloc: Global, labels: &[Name]) -> Result<Value, AllocError>
+    ensures { IfOk result (λ v. view v ≡ list_of (map string labels.now)) }
+{
+    let mut items = Vec::with_capacity(alloc, labels.len())?;
+    for label in labels {
+        items.push(Value::try_from_str(alloc, label.items())?)?;
+    }
+    Ok(Value::Array(items))
+}
+
+fn outputs(alloc: Global, maps: &[OutMap]) -> Result<Value, AllocError>
+    requires { IsTrue (list_all has_entries maps.now) }
+    ensures value { IfOk result (λ v. view v ≡ list_of (map map_data maps.now)) }
+    ensures words { OnOk result (AllByRecursion HasWords maps.now) }
+{
+    let mut items = Vec::with_capacity(alloc, maps.len())?;
+    for one in maps {
+        items.push(output(alloc, one)?)?;
+    }
+    Ok(Value::Array(items))
+}
+
+fn output(alloc: Global, one: &OutMap) -> Result<Value, AllocError>
+    requires { IsTrue (has_entries one.now) }
+    ensures value { IfOk result (λ v. view v ≡ map_data one.now) }
+    ensures words { OnOk result (HasWords one.now) }
+{
+    match one {
+        OutMap::Constant { offset } => constant(alloc, *offset),
+        OutMap::Strided {
+            offset,
+            stride,
+            dim,
+        } => strided(alloc, *offset, *stride, *dim),
+        OutMap::Indexed {
+            offset,
+            stride,
+            sizes,
+            entries,
+        } => indexed(alloc, *offset, *stride, sizes.items(), entries.items()),
+    }
+}
+
+fn constant(alloc: Global, offset: i64) -> Result<Value, AllocError>
+    ensures value { IfOk result (λ v. view v ≡ map_data (OutMap.Constant offset)) }
+    ensures words { OnOk result (HasWords (OutMap.Constant offset)) }
+{
+    let mut members = Map::new(alloc);
+    put_number(alloc, &mut members, "offset", 0, offset)?;
+    Ok(Value::Object(members))
+}
+
+fn strided(alloc: Global, offset: i64, stride: i64, dim: u32) -> Result<Value, AllocError>
+    ensures value { IfOk result (λ v. view v ≡ map_data (OutMap.Strided offset stride dim)) }
+    ensures words { OnOk result (HasWords (OutMap.Strided offset stride dim)) }
+{
+    let mut members = Map::new(alloc);
+    put_number(alloc, &mut members, "stride", 1, stride)?;
+    put_number(alloc, &mut members, "offset", 0, offset)?;
+    let dim = Value::from(u64::from(dim));
+    put(&mut members, alloc, "input_dimension", dim)?;
+    Ok(Value::Object(members))
+}
+
+fn indexed(
+    alloc: Global,
+    offset: i64,
+    stride: i64,
+    sizes: &[u64],
+    entries: &[i64],
+) -> Result<Value, AllocError>
+    requires { length entries.now ≡ cell_count sizes.now }
+    ensures value { IfOk result (λ v. view v ≡ map_data (OutMap.Indexed offset stride sizes.now entries.now)) }
+    ensures words { OnOk result (HasWords (OutMap.Indexed offset stride sizes.now entries.now)) }
+{
+    let mut members = Map::new(alloc);
+    put_number(alloc, &mut members, "stride", 1, stride)?;
+    put_number(alloc, &mut members, "offset", 0, offset)?;
+    let array = nested(alloc, sizes, entries)?;
+    put(&mut members, alloc, "index_array", array)?;
+    Ok(Value::Object(members))
+}
+
+fn put_number(
+    alloc: Global,
+    members: &mut Map<String, Value>,
+    name: &str,
+    usual: i64,
+    number: i64,
+) -> Result<(), AllocError>
+    ensures { OnOk result (members_view members.new.entries ≡ with_number name.now usual number (members_view members.old.entries)) }
+{
+    if number == usual {
+        return Ok(());
+    }
+    put(members, alloc, name, Value::from(number))
+}
+
+// Entries as nested lists of these sizes.
+fn nested(alloc: Global, sizes: &[u64], entries: &[i64]) -> Result<Value, AllocError>
+    requires { length entries.now ≡ cell_count sizes.now }
+    ensures { IfOk result (λ v. view v ≡ nested_data sizes.now entries.now) }
+{
+    let [size, behind @ ..] = sizes else {
+        return Ok(Value::from(entries[0]));
+    };
+    let size = *size as usize;
+    let mut items = Vec::with_capacity(alloc, size)?;
+    if size == 0 {
+        return Ok(Value::Array(items));
+    }
+    let row = entries.len() / size;
+    for i in 0..size {
+        let from = i * row;
+        items.push(nested(alloc, behind, &entries[from..from + row])?)?;
+    }
+    Ok(Value::Array(items))
+}
