@@ -1,0 +1,59 @@
+-- Dimensions that go to other positions, and back.
+use Rattle.std.proofs.Common.{◌≡◌, ◌∙◌, ℕ, ◌<◌, false, List, length, get_or, unwrap_or, refl, ap, arith, Option, Some, None}
+use Rattle.dim_expressions.specs.Dims.{place_in, others}
+use Rattle.dim_expressions.specs.Selection.{has_repeat}
+use Rattle.dim_expressions.specs.Arrangements.{carried, carried_by}
+use Rattle.dim_expressions.proofs.CountLaws.{others-count}
+use Rattle.dim_expressions.proofs.PlaceLaws.{place_in-Some}
+use Rattle.dim_expressions.proofs.RestLaws.{rest_at, rest_distinct, place_distinct, left_place}
+
+-- dimensions of a rank, none twice
+pub record AreDims (rank : ℕ) (dims : List ℕ) : Type 0 where
+  pub once : has_repeat dims ≡ false
+  pub below : (k d : ℕ) → k < length dims → get_or dims k d < rank
+
+module _ (rank : ℕ) (from to : List ℕ) (f : AreDims rank from) (t : AreDims rank to) (same : length from ≡ length to) where
+  as-many : length (others from rank) ≡ length (others to rank)
+  as-many =
+      let a = others-count from rank f.once f.below in
+      let b = others-count to rank t.once t.below in
+      omega (arith, a, b, same)
+
+  -- the new number lies below the rank, and comes from the old one
+  pub record IsCarried (x y : ℕ) : Type 0 where
+    pub below : y < rank
+    pub back : carried rank to from y ≡ x
+
+  to-place : (x place : ℕ) → place_in from x ≡ Some place → IsCarried x (get_or to place 0)
+  to-place x place e =
+      let p = place_in-Some from x place e in
+      let l = p.inside in
+      let h : place < length to = omega (arith, l, same) in
+      let q : place_in to (get_or to place 0) ≡ Some place = place_distinct to place 0 t.once h in
+      record {
+        below = t.below place 0 h;
+        back = ap (carried_by (others to rank) from (others from rank) (get_or to place 0)) q ∙ p.there 0;
+      }
+
+  to-other : (x : ℕ) → x < rank → place_in from x ≡ None → IsCarried x (get_or (others to rank) (unwrap_or (place_in (others from rank) x) 0) 0)
+  to-other x h e =
+      let p = left_place from rank x h e in
+      let i = p.inside in
+      let k : p.place < length (others to rank) = omega (arith, i, as-many) in
+      let l = rest_at to 0 rank p.place 0 k in
+      let b = l.below in
+      let q : place_in (others to rank) (get_or (others to rank) p.place 0) ≡ Some p.place = place_distinct (others to rank) p.place 0 (rest_distinct to 0 rank) k in
+      let at : unwrap_or (place_in (others from rank) x) 0 ≡ p.place = ap (λ (o : Option ℕ). unwrap_or o 0) p.found in
+      let here : IsCarried x (get_or (others to rank) p.place 0) = record {
+        below = omega (arith, b);
+        back = ap (carried_by (others to rank) from (others from rank) (get_or (others to rank) p.place 0)) l.kept
+            ∙ ap (λ (o : Option ℕ). get_or (others from rank) (unwrap_or o 0) 0) q ∙ p.there 0;
+      } in
+      rw at here
+
+  pub IsCarried-of : (x : ℕ) → x < rank → IsCarried x (carried rank from to x)
+  IsCarried-of x h = told (place_in from x) refl
+    where
+      told : (o : Option ℕ) → place_in from x ≡ o → IsCarried x (carried_by (others from rank) to (others to rank) x o)
+      told None e = to-other x h e
+      told (Some place) e = to-place x place e

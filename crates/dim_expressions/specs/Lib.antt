@@ -1,0 +1,10 @@
+pub mod Answers
+pub mod Applying
+pub mod Arrangements
+pub mod Causes
+pub mod Cuts
+pub mod Dims
+pub mod Forms
+pub mod Marks
+pub mod Selection
+pub mod Steps
