@@ -85,14 +85,6 @@ chunks-kept old new key g there same =
 pub at_same : (cuts : Cuts) (a b : Key) → a.items ≡ b.items → at cuts a ≡ at cuts b
 at_same cuts a b e = ap (λ xs. lookup (λ k. is_eq (slice_cmp nat_cmp xs k.items)) cuts.entries) e
 
--- nothing yet
-pub AreCuts-none : (cuts : Cuts) (chunk : List ℕ) → cuts.entries ≡ [] → AreCuts chunk [] cuts
-AreCuts-none cuts chunk e = record {
-  chunks = ap indices e;
-  runs = λ key. ap (lookup (is_at (by_key key))) e;
-  before = λ key. subst (λ es. IfSome (lookup (is_at (by_key key)) es) (IsUpTo 0)) (sym e) tt;
-}
-
 -- one index vector more
 module _ (chunk : List ℕ) (targets : List (List ℕ)) (x c : List ℕ) (p : Pair) (old new : Cuts) where
   more_at : (q : Key) (b : Bool) → at old q ≡ grown_of (pairs_in chunk q.items targets)

@@ -12,7 +12,7 @@ abbrev pub next : Option Grown → Pair → Option Grown
 next g p = Some (with_pair p g)
 
 -- the runs with all pairs are those that are done, and the rest cut
-runs-fold : (pairs : List Pair) (g : Grown) → runs_of_growing (fold grown g pairs) ≡ g.done ++ cut_from g.run pairs
+pub runs-fold : (pairs : List Pair) (g : Grown) → runs_of_growing (fold grown g pairs) ≡ g.done ++ cut_from g.run pairs
 runs-fold [] g = refl
 runs-fold (p ∷ pairs) g = runs-fold pairs (grown g p) ∙ told (goes_on g.run p) refl
   where

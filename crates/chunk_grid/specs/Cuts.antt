@@ -31,13 +31,9 @@ abbrev pub with_pair : Pair → Option Grown → Grown
 with_pair p None = first_run p
 with_pair p (Some g) = grown g p
 
--- the runs with further pairs
-abbrev pub with_pairs : List Pair → Option Grown → Option Grown
-with_pairs pairs g = fold (λ g p. Some (with_pair p g)) g pairs
-
 -- the runs of some pairs, where there are any
 abbrev pub grown_of : List Pair → Option Grown
-grown_of pairs = with_pairs pairs None
+grown_of pairs = fold (λ g p. Some (with_pair p g)) None pairs
 
 -- the runs reach no further than this place of the view
 abbrev pub IsUpTo : ℕ → Grown → Type 0

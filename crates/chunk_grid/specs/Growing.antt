@@ -12,6 +12,10 @@ pub record Grown : Type 0 where
 abbrev pub first_run : Pair → Grown
 first_run p = record { done = []; run = run_of_one p }
 
+-- no pair yet, where the first one is to be this
+abbrev pub before_first : Pair → Grown
+before_first p = record { done = []; run = record (run_of_one p) { len = 0 } }
+
 -- with a pair more
 abbrev pub grown : Grown → Pair → Grown
 grown g p =

@@ -4,8 +4,8 @@ ghost use Rattle.std.specs.Str.{bytes_eq};
 ghost use Rattle.std.specs.BTreeMap.{IsOrdered};
 ghost use Rattle.chunk_grid.specs.Grid.{IsInShape, numbers};
 ghost use Rattle.chunk_grid.specs.Pieces.{among};
-ghost use Rattle.chunk_grid.specs.Cuts.{Key, by_key, AreCuts, IsUpTo, at, chunks_of, with_pair, with_pairs, piece_of};
-ghost use Rattle.chunk_grid.specs.Rows.{ArePlaces, pairs_along};
+ghost use Rattle.chunk_grid.specs.Cuts.{Key, by_key, AreCuts, IsUpTo, at, chunks_of, with_pair, piece_of};
+ghost use Rattle.chunk_grid.specs.Loops.{ArePlaces};
 
 use crate::grid::Grid;
 use crate::growing::Growing;
@@ -42,36 +42,6 @@ fn put(
     }
     let key = Vec::from_slice(alloc, chunk)?;
     match cuts.insert(key, Growing::new(alloc, view, place)) {
-        Ok(_) => Ok(()),
-        Err(_) => Err(AllocError),
-    }
-}
-
-/// Puts the pairs of a row behind those of their chunk: the view's place rises by 1, the chunk's by a step.
-pub(crate) fn put_row(
-    alloc: Global,
-    cuts: &mut Cuts,
-    chunk: &Vec<u64>,
-    view: u32,
-    place: u32,
-    step: i64,
-    len: u32,
-) -> Result<(), AllocError>
-    requires before { IfSome (at cuts.old chunk.now) (IsUpTo view) }
-    requires small { view + len ≤ 4194304 }
-    requires some { 0 < len }
-    requires places { ArePlaces place step len }
-    ensures runs { OnOk result ((key : Key) → at cuts.new key
-        ≡ (if bytes_eq chunk.now.items key.items then with_pairs (pairs_along view place step 0 len) (at cuts.old key) else at cuts.old key)) }
-    ensures chunks { OnOk result (chunks_of cuts.new ≡ among (chunks_of cuts.old) chunk.now.items) }
-{
-    if let Some(growing) = cuts.get_mut(chunk) {
-        return growing.push_row(view, place, step, len, 0);
-    }
-    let mut growing = Growing::new(alloc, view, place);
-    growing.push_row(view, place, step, len, 1)?;
-    let key = Vec::from_slice(alloc, chunk)?;
-    match cuts.insert(key, growing) {
         Ok(_) => Ok(()),
         Err(_) => Err(AllocError),
     }

@@ -1,4 +1,4 @@
-ghost use Rattle.std.specs.Prelude.{◌≡◌, ◌≤◌, [], IsTrue, IfOk, OnOk, length, map};
+ghost use Rattle.std.specs.Prelude.{◌≡◌, ◌≢◌, ◌≤◌, [], IsTrue, IfOk, OnOk, length, map};
 ghost use Rattle.std.specs.List.{All, list_all};
 ghost use Rattle.index_transform.specs.Cells.{is_finite, cells_of};
 ghost use Rattle.index_transform.specs.Values.{value_at};
@@ -6,13 +6,14 @@ ghost use Rattle.chunk_grid.specs.Grid.{IsInShape, numbers};
 ghost use Rattle.chunk_grid.specs.Cuts.{AreCuts};
 ghost use Rattle.chunk_grid.specs.Pieces.{pieces_by_chunk};
 ghost use Rattle.chunk_grid.specs.Runs.{run_pieces, unrolled};
+ghost use Rattle.chunk_grid.specs.Boxes.{is_regular};
 
+use crate::boxing::cut_boxes;
 use crate::cuts::{Cuts, add, new_cuts, pieces_of};
 use crate::grid::Grid;
 use crate::piece::RunPiece;
-use crate::rows::{are_regular, cut_rows};
 use cells::{Index, List};
-use index_transform::{Transform, Walk};
+use index_transform::{OutMap, Transform, Walk};
 use std::alloc::{AllocError, Global};
 
 /// The chunks that a list of index vectors touches, in lexical order of their indices, each once. A run's pairs are the
@@ -47,6 +48,9 @@ pub fn runs_of(alloc: Global, targets: &[Index], grid: &Grid) -> Result<List<Run
 
 /// The same of a view: of the values of its transform at the cells of its finite domain, in C order.
 ///
+/// Without an index array the work goes with the runs: a view is cut into one box for each chunk that it touches, and a
+/// box takes a step for each run. With one it takes a step for each cell.
+///
 /// The view has at most 2^22 cells, and each value lies inside the array.
 ///
 /// # Errors
@@ -59,29 +63,46 @@ pub fn runs(alloc: Global, t: &Transform, grid: &Grid) -> Result<List<RunPiece>,
     ensures pieces { IfOk result (λ pieces. pieces ≡ run_pieces grid.now.chunk (map (λ cell. numbers (value_at t.now cell)) (cells_of t.now.domain.dims))) }
     ensures cells { IfOk result (λ pieces. map unrolled pieces ≡ pieces_by_chunk grid.now.chunk (map (λ cell. numbers (value_at t.now cell)) (cells_of t.now.domain.dims))) }
 {
-    let mut cuts = new_cuts(alloc);
-    cut_view(alloc, &mut cuts, t, grid)?;
-    pieces_of(alloc, cuts)
-}
-
-// Cuts a view: row by row where it has no index array, else cell by cell.
-fn cut_view(alloc: Global, cuts: &mut Cuts, t: &Transform, grid: &Grid) -> Result<(), AllocError>
-    requires finite { IsTrue (list_all is_finite t.now.domain.dims) }
-    requires few { length (cells_of t.now.domain.dims) ≤ 4194304 }
-    requires inside { All (λ cell. IsInShape grid.now.shape (value_at t.now cell)) (cells_of t.now.domain.dims) }
-    requires empty { AreCuts grid.now.chunk [] cuts.old }
-    ensures { OnOk result (AreCuts grid.now.chunk (map (λ cell. numbers (value_at t.now cell)) (cells_of t.now.domain.dims)) cuts.new) }
-{
-    let dims = t.domain().dims.items();
-    if dims.len() > 0 && are_regular(t.maps()) {
-        cut_rows(alloc, cuts, t, grid)
+    if are_regular(t.maps()) && has_cells(t) {
+        cut_boxes(alloc, t, grid)
     } else {
-        cut_cells(alloc, cuts, t, grid)
+        cut_cells(alloc, t, grid)
     }
 }
 
+fn has_cells(t: &Transform) -> bool
+    ensures { IsTrue result → cells_of t.now.domain.dims ≢ [] }
+{
+    match t.count() {
+        Ok(count) => count > 0,
+        Err(_) => false,
+    }
+}
+
+// Whether no output has an index array.
+fn are_regular(maps: &[OutMap]) -> bool
+    ensures { result ≡ list_all is_regular maps.now }
+{
+    maps.iter().all(|map| match map {
+        OutMap::Constant { .. } | OutMap::Strided { .. } => true,
+        OutMap::Indexed { .. } => false,
+    })
+}
+
+// The pieces of a view, cell by cell.
+fn cut_cells(alloc: Global, t: &Transform, grid: &Grid) -> Result<List<RunPiece>, AllocError>
+    requires finite { IsTrue (list_all is_finite t.now.domain.dims) }
+    requires few { length (cells_of t.now.domain.dims) ≤ 4194304 }
+    requires inside { All (λ cell. IsInShape grid.now.shape (value_at t.now cell)) (cells_of t.now.domain.dims) }
+    ensures { IfOk result (λ pieces. pieces ≡ run_pieces grid.now.chunk (map (λ cell. numbers (value_at t.now cell)) (cells_of t.now.domain.dims))) }
+{
+    let mut cuts = new_cuts(alloc);
+    put_cells(alloc, &mut cuts, t, grid)?;
+    pieces_of(alloc, cuts)
+}
+
 // Cuts a view cell by cell.
-fn cut_cells(alloc: Global, cuts: &mut Cuts, t: &Transform, grid: &Grid) -> Result<(), AllocError>
+fn put_cells(alloc: Global, cuts: &mut Cuts, t: &Transform, grid: &Grid) -> Result<(), AllocError>
     requires finite { IsTrue (list_all is_finite t.now.domain.dims) }
     requires few { length (cells_of t.now.domain.dims) ≤ 4194304 }
     requires inside { All (λ cell. IsInShape grid.now.shape (value_at t.now cell)) (cells_of t.now.domain.dims) }

@@ -1,8 +1,8 @@
-ghost use Rattle.std.specs.Prelude.{◌≡◌, ◌≤◌, ◌<◌, ◌+◌, ◌-◌, ◌^◌, ◌∷◌, ◌++◌, [], ℤ, pos, ◌+ℤ◌, ◌*ℤ◌, unsigned_abs, IfOk, IfErr, OnOk, OnErr};
+ghost use Rattle.std.specs.Prelude.{◌≡◌, ◌≤◌, ◌<◌, ◌+◌, ◌-◌, ◌*◌, ◌^◌, ◌∷◌, ◌++◌, [], ℕ, ℤ, pos, ◌+ℤ◌, ◌*ℤ◌, unsigned_abs, IfOk, IfErr, OnOk, OnErr};
 ghost use Rattle.std.specs.List.{fold};
 ghost use Rattle.chunk_grid.specs.Runs.{run_of_one, goes_on, longer};
-ghost use Rattle.chunk_grid.specs.Growing.{first_run, grown, runs_of_growing};
-ghost use Rattle.chunk_grid.specs.Rows.{IsPlace, ArePlaces, pairs_along};
+ghost use Rattle.chunk_grid.specs.Growing.{first_run, before_first, grown, runs_of_growing};
+ghost use Rattle.chunk_grid.specs.Loops.{IsPlace, ArePlaces, pairs_on};
 
 use cells::{List, Run};
 use std::alloc::{AllocError, Global};
@@ -34,6 +34,17 @@ impl Growing {
         }
     }
 
+    /// No pair yet; the first one is to be this.
+    pub(crate) fn before(alloc: Global, view: u32, chunk: u32) -> Growing
+        ensures { result ≡ before_first (record { view = view; chunk = chunk }) }
+    {
+        let one = run_of_one(view, chunk);
+        Growing {
+            done: Vec::new(alloc),
+            run: Run { len: 0, ..one },
+        }
+    }
+
     /// Puts a pair behind the others. After an error it isn't there.
     pub(crate) fn push(&mut self, view: u32, chunk: u32) -> Result<(), AllocError>
         requires before { self.old.run.view + self.old.run.len ≤ view }
@@ -50,25 +61,27 @@ impl Growing {
         Ok(())
     }
 
-    /// Puts the pairs of a row behind the others, from one of them on: the view's place rises by 1, the chunk's by a step.
-    pub(crate) fn push_row(
+    /// Puts the pairs of a line behind the others: both places go by steps, and the view's rises.
+    pub(crate) fn push_line(
         &mut self,
         view: u32,
+        view_step: u64,
         chunk: u32,
         step: i64,
         len: u32,
-        from: u32,
     ) -> Result<(), AllocError>
-        requires before { self.old.run.view + self.old.run.len ≤ view + from }
-        requires small { view + len ≤ 4194304 }
-        requires from { from ≤ len }
+        requires before { self.old.run.view + self.old.run.len ≤ view }
+        requires rise { 0 < view_step }
+        requires few { len ≤ 4194304 }
+        requires small { (k : ℕ) → k < len → view + view_step * k < 4194304 }
         requires places { ArePlaces chunk step len }
-        ensures { OnOk result (self.new ≡ fold grown self.old (pairs_along view chunk step from (len - from))) }
+        ensures { OnOk result (self.new ≡ fold grown self.old (pairs_on view view_step chunk step 0 len)) }
     {
         // Three pairs tell the steps; the others follow by them.
-        let some = len.min(from + 3);
-        for k in from..some {
-            self.push(view + k, place_along(chunk, step, k))?;
+        let some = len.min(3);
+        for k in 0..some {
+            let next = view_along(view, view_step, k);
+            self.push(next, place_along(chunk, step, k))?;
         }
         self.run.len += len - some;
         Ok(())
@@ -84,8 +97,16 @@ impl Growing {
     }
 }
 
-// The chunk's place of a pair of a row.
-fn place_along(chunk: u32, step: i64, k: u32) -> u32
+// The view's place of a pair of a line.
+pub(crate) fn view_along(view: u32, step: u64, k: u32) -> u32
+    requires { view + step * k < 4194304 }
+    ensures { result ≡ view + step * k }
+{
+    (u64::from(view) + step * u64::from(k)) as u32
+}
+
+// The chunk's place of a pair of a line.
+pub(crate) fn place_along(chunk: u32, step: i64, k: u32) -> u32
     requires { IsPlace (pos chunk +ℤ step *ℤ pos k) }
     ensures { result ≡ unsigned_abs (pos chunk +ℤ step *ℤ pos k) }
 {

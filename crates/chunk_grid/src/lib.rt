@@ -4,12 +4,14 @@
 //! each cell of the view once, at its own place, by `run_pieces`.
 #![tactic(auto)]
 
+mod boxes;
+mod boxing;
 mod cuts;
 mod cutting;
 mod grid;
 mod growing;
+mod lines;
 mod piece;
-mod rows;
 
 pub use cutting::{runs, runs_of};
 pub use grid::Grid;

@@ -5,6 +5,7 @@ ghost use Rattle.index_transform.specs.Values.{value_at};
 ghost use Rattle.chunk_grid.specs.Grid.{IsGrid, IsInShape};
 
 use super::*;
+use crate::lines::{Loop, runs_of_loops};
 use cells::{Index, List, Name, Run, Sizes, count_cells};
 use index_intervals::Interval;
 use index_transform::{Domain, OutMap, Transform, Walk};
@@ -294,5 +295,31 @@ fn a_cell_is_told_by_its_chunk_and_place(rt: HostRuntime) -> Result<(), Fail> {
     let (chunk, place) = told(alloc, &edged, &[2, 3])?.ok_or("not inside")?;
     assert_eq!(rt; chunk.as_slice(), [1, 1].as_slice());
     assert_eq!(rt; place, 1);
+    Ok(())
+}
+
+fn a_loop(times: u64, view_step: u64, chunk_step: i64) -> Loop
+    ensures { result ≡ record { times = times; view_step = view_step; chunk_step = chunk_step } }
+{
+    Loop {
+        times,
+        view_step,
+        chunk_step,
+    }
+}
+
+#[test]
+fn nested_loops_are_cut_line_by_line(rt: HostRuntime) -> Result<(), Fail> {
+    let alloc = rt.alloc();
+    let loops = [
+        a_loop(2, 100, -50),
+        a_loop(1, 50, 7),
+        a_loop(3, 8, 20),
+        a_loop(2, 4, 10),
+    ];
+    let runs = runs_of_loops(alloc, &loops, 5, 200)?;
+    assert!(rt; runs.items() == [run(5, 4, 200, 10, 6), run(105, 4, 150, 10, 6)].as_slice());
+    let one = runs_of_loops(alloc, &[], 3, 9)?;
+    assert!(rt; one.items() == [run(3, 0, 9, 0, 1)].as_slice());
     Ok(())
 }
