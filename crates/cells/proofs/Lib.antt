@@ -1,5 +1,9 @@
+pub mod Backwards
 pub mod ByteLaws
+pub mod DtypeLaws
 pub mod IndexVectors
+pub mod Laws
 pub mod NumberLaws
 pub mod PlaceLaws
 pub mod PlaceSteps
+pub mod ShapeLaws

@@ -9,13 +9,14 @@ mod bytes;
 mod convert;
 mod dense;
 mod dtype;
+mod dtype_names;
+mod limits;
 mod list;
 mod name;
 mod order;
 mod places;
 mod run;
-#[cfg(test)]
-mod tests;
+mod shapes;
 mod words;
 
 pub use boxed::Boxed;
@@ -23,9 +24,14 @@ pub use bytes::{put_word, take_word};
 pub use convert::conv;
 pub use dense::Dense;
 pub use dtype::Dtype;
+pub use limits::{
+    GREATEST_INDEX, INFINITY, LARGEST_RANK, LARGEST_SIZE, LONGEST_LABEL, MOST_CELLS,
+    MOST_CHUNK_CELLS, MOST_ENTRIES,
+};
 pub use list::List;
 pub use name::Name;
 pub use order::Order;
 pub use places::{count_cells, index_of, place};
 pub use run::Run;
+pub use shapes::{is_chunk_shape, is_inside, is_shape};
 pub use words::{Index, Sizes, Words};

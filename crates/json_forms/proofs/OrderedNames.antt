@@ -22,7 +22,7 @@ least_before k (x ∷ ks) test below =
     elim (test x) as (λ b. lesser (string_bytes k) (option_map string_bytes (cond b (Some x) (find test ks))) ≡ string_bytes k) [ true ↦ rw below.0 refl | false ↦ least_before k ks test below.1 ]
 
 -- the least that passes a test is the first
-least_name-filter : (test : List ℕ → Bool) (test' : Text → Bool) → ((k : Text) → test (string_bytes k) ≡ test' k) → (ks : List Text) → IsStrictlySortedBy string_cmp ks
+pub least_name-filter : (test : List ℕ → Bool) (test' : Text → Bool) → ((k : Text) → test (string_bytes k) ≡ test' k) → (ks : List Text) → IsStrictlySortedBy string_cmp ks
     → least_name (filter test (map string_bytes ks)) ≡ option_map string_bytes (find test' ks)
 unfolding IsStrictlySortedBy
 least_name-filter test test' agree [] sorted = refl
@@ -31,7 +31,7 @@ least_name-filter test test' agree (k ∷ ks) sorted =
     (λ b. least_name (cond b (string_bytes k ∷ filter test (map string_bytes ks)) (filter test (map string_bytes ks))) ≡ option_map string_bytes (cond b (Some k) (find test' ks)))
     [ true ↦ ap Some (ap (lesser (string_bytes k)) (least_name-filter test test' agree ks sorted.1) ∙ least_before k ks test' sorted.0) | false ↦ least_name-filter test test' agree ks sorted.1 ])
 
-names_of-members_view : (es : List (Text × Value)) → names_of (members_view es) ≡ map string_bytes (keys_of es)
+pub names_of-members_view : (es : List (Text × Value)) → names_of (members_view es) ≡ map string_bytes (keys_of es)
 names_of-members_view [] = refl
 names_of-members_view (e ∷ es) = ap (λ names. string_bytes e.0 ∷ names) (names_of-members_view es)
 

@@ -10,8 +10,6 @@ mod bytes;
 mod lists;
 mod members;
 mod numbers;
-#[cfg(test)]
-mod tests;
 
 pub use bytes::{ParseError, compact, parse};
 pub use lists::{i64_list, list_from_i64s, list_from_u64s, list_items, u64_list, whole_list};

@@ -4,14 +4,8 @@ use Rattle.std.specs.List.{fold, range_with_len}
 use Rattle.std.proofs.lemmas.List.Sums.{fold-append}
 use Rattle.std.proofs.lemmas.List.FromFn.{map-range_with_len_more}
 use Rattle.cells.specs.declared.run.Run.{Run}
-use Rattle.rebase_writes.specs.Runs.{view_place, chunk_place, pairs_of, pairs_written, pairs_read}
-
--- the first pairs of a run
-abbrev pub first_pairs : Run → ℕ → Run
-first_pairs run k = record run { len = k }
-
-pub first_pairs-all : (run : Run) (k : ℕ) → k ≡ run.len → first_pairs run k ≡ run
-first_pairs-all run k all = ap (λ (n : ℕ). first_pairs run n) all
+use Rattle.cells.specs.Runs.{view_place, chunk_place, pair_at, pairs_of, first_pairs}
+use Rattle.rebase_writes.specs.Runs.{pairs_written, pairs_read}
 
 -- a fold over the first numbers, and one more
 fold_more : {A B : Type 0} (f : B → A → B) (g : ℕ → A) (b : B) (k : ℕ) → fold f b (map g (range_with_len 0 (k + 1))) ≡ f (fold f b (map g (range_with_len 0 k))) (g k)
@@ -21,9 +15,9 @@ fold_more f g b k =
 pub pairs_written-more : (run : Run) (words : List ℕ) (cells : List (Option ℕ)) (k : ℕ) → pairs_written (pairs_of (first_pairs run (k + 1))) words cells
     ≡ set (pairs_written (pairs_of (first_pairs run k)) words cells) (chunk_place run k) (Some (get_or words (view_place run k) 0))
 pairs_written-more run words cells k =
-    fold_more (λ staged pair. set staged pair.1 (Some (get_or words pair.0 0))) (λ n. (view_place run n, chunk_place run n)) cells k
+    fold_more (λ staged pair. set staged pair.chunk (Some (get_or words pair.view 0))) (pair_at run) cells k
 
 pub pairs_read-more : (run : Run) (words out : List ℕ) (k : ℕ) → pairs_read (pairs_of (first_pairs run (k + 1))) words out
     ≡ set (pairs_read (pairs_of (first_pairs run k)) words out) (view_place run k) (get_or words (chunk_place run k) 0)
 pairs_read-more run words out k =
-    fold_more (λ shown pair. set shown pair.0 (get_or words pair.1 0)) (λ n. (view_place run n, chunk_place run n)) out k
+    fold_more (λ shown pair. set shown pair.view (get_or words pair.chunk 0)) (pair_at run) out k

@@ -10,6 +10,3 @@ mod staged;
 
 pub use run::read_run;
 pub use staged::Staged;
-
-#[cfg(test)]
-mod tests;

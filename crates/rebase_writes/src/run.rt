@@ -1,6 +1,7 @@
 ghost use Rattle.std.specs.Prelude.{◌≡◌, ℕ, ◌+◌, ◌*◌, ◌<◌, ◌^◌, pos, ◌≤ℤ◌, ◌<ℤ◌, length};
 ghost use Rattle.rebase_writes.specs.Staged.{staged_cells};
-ghost use Rattle.rebase_writes.specs.Runs.{view_place, chunk_number, chunk_place, IsRunInside, pairs_of, pairs_written, pairs_read};
+ghost use Rattle.cells.specs.Runs.{view_place, chunk_number, chunk_place, IsRunInside, pairs_of};
+ghost use Rattle.rebase_writes.specs.Runs.{pairs_written, pairs_read};
 
 use cells::{Dense, Run};
 

@@ -1,7 +1,8 @@
 ghost use Rattle.std.specs.Prelude.{◌≡◌, ℕ, ◌<◌, ◌≤◌, ◌^◌, ◌↔◌, None, Some, Bool, true, length, replicate, slice_get, slice_index, slice_set, unwrap_or, IfOk, IsTrue, IsSome};
 ghost use Rattle.cells.specs.Dense.{DenseCells, IsDense};
 ghost use Rattle.rebase_writes.specs.Staged.{staged_cells, staged_at, AreWords, CoverAll, laid_over};
-ghost use Rattle.rebase_writes.specs.Runs.{IsRunInside, pairs_of, pairs_written};
+ghost use Rattle.cells.specs.Runs.{IsRunInside, pairs_of};
+ghost use Rattle.rebase_writes.specs.Runs.{pairs_written};
 
 use crate::run::stage_run;
 use cells::{Dense, Run, Sizes, Words};

@@ -1,7 +1,9 @@
 -- One pair more puts one word more.
 use Rattle.std.proofs.Common.{sym, ◌∙◌, ap, arith}
-use Rattle.rebase_writes.specs.Runs.{pairs_of, pairs_read}
-use Rattle.rebase_writes.proofs.RunLaws.{first_pairs-all, pairs_read-more}
+use Rattle.cells.specs.Runs.{pairs_of}
+use Rattle.rebase_writes.specs.Runs.{pairs_read}
+use Rattle.cells.proofs.Laws.{first_pairs-all}
+use Rattle.rebase_writes.proofs.RunLaws.{pairs_read-more}
 use Rattle.rebase_writes.proofs.run.read_run.Goals as goal
 
 pub loop-k-preserved : goal.loop-k-preserved

@@ -1,7 +1,8 @@
 -- The view is what the pairs so far make of it.
 use Rattle.std.proofs.Common.{◌≡◌}
-use Rattle.rebase_writes.specs.Runs.{pairs_of, pairs_read}
-use Rattle.rebase_writes.proofs.RunLaws.{first_pairs}
+use Rattle.cells.specs.Runs.{pairs_of}
+use Rattle.rebase_writes.specs.Runs.{pairs_read}
+use Rattle.cells.specs.Runs.{first_pairs}
 use Rattle.rebase_writes.proofs.run.read_run.Given as goal
 
 abbrev pub invariant-loop-k : goal.invariant-loop-k

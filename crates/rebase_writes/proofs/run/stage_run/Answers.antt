@@ -1,9 +1,11 @@
 -- One pair more stages one cell more.
 use Rattle.std.proofs.Common.{◌≡◌, length, sym, ◌∙◌, ap, arith}
 use Rattle.rebase_writes.specs.Staged.{staged_cells}
-use Rattle.rebase_writes.specs.Runs.{pairs_of, pairs_written}
+use Rattle.cells.specs.Runs.{pairs_of}
+use Rattle.rebase_writes.specs.Runs.{pairs_written}
 use Rattle.rebase_writes.proofs.StagedLaws.{staged_cells-set}
-use Rattle.rebase_writes.proofs.RunLaws.{first_pairs-all, pairs_written-more}
+use Rattle.cells.proofs.Laws.{first_pairs-all}
+use Rattle.rebase_writes.proofs.RunLaws.{pairs_written-more}
 use Rattle.rebase_writes.proofs.run.stage_run.Goals as goal
 
 pub loop-pair-preserved : goal.loop-pair-preserved

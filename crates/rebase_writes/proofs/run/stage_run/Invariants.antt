@@ -1,8 +1,9 @@
 -- The staged cells are what the pairs so far make of them.
 use Rattle.std.proofs.Common.{◌≡◌}
 use Rattle.rebase_writes.specs.Staged.{staged_cells}
-use Rattle.rebase_writes.specs.Runs.{pairs_of, pairs_written}
-use Rattle.rebase_writes.proofs.RunLaws.{first_pairs}
+use Rattle.cells.specs.Runs.{pairs_of}
+use Rattle.rebase_writes.specs.Runs.{pairs_written}
+use Rattle.cells.specs.Runs.{first_pairs}
 use Rattle.rebase_writes.proofs.run.stage_run.Given as goal
 
 abbrev pub invariant-loop-pair : goal.invariant-loop-pair
