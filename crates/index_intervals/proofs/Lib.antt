@@ -1,5 +1,7 @@
 pub mod MemberLemmas
+pub mod EndsLemmas
 pub mod MeetLemmas
+pub mod AroundLemmas
 pub mod ShiftLemmas
 pub mod QuotientLemmas
 pub mod StrideLemmas
@@ -8,3 +10,4 @@ pub mod SlicedLemmas
 pub mod RangeLemmas
 pub mod KeepingLemmas
 pub mod SliceLemmas
+pub mod Laws

@@ -1,5 +1,5 @@
 -- The two bounds of an interval of indices, each with its flag, and when they belong together.
-use Rattle.std.specs.Prelude.{ℤ, pos, negsuc, ◌+ℤ◌, ◌≤ℤ◌, ◌<ℤ◌, int_lt, Bool, ◌&&◌}
+use Rattle.std.specs.Prelude.{ℤ, pos, negsuc, ◌+ℤ◌, ◌≤ℤ◌, ◌<ℤ◌, int_le, int_lt, Bool, ◌&&◌}
 
 -- what a contract sees of an interval: inclusive bounds, and for each whether it is implicit
 pub record Bounds : Type 0 where
@@ -31,3 +31,12 @@ pub record AreBounds (b : Bounds) : Type 0 where
   pub hi_above : minus_infinity <ℤ b.hi
   pub hi_to : b.hi ≤ℤ plus_infinity
   pub ordered : b.lo ≤ℤ (b.hi +ℤ pos 1)
+
+-- the bounds cross by one at most
+abbrev pub is_ordered : Bounds → Bool
+is_ordered dim = int_le dim.lo (dim.hi +ℤ pos 1)
+
+-- the rule on bounds as a test
+abbrev pub are_bounds : Bounds → Bool
+are_bounds dim =
+    int_le minus_infinity dim.lo && int_lt dim.lo plus_infinity && int_lt minus_infinity dim.hi && int_le dim.hi plus_infinity && is_ordered dim

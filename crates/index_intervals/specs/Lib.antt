@@ -1,5 +1,7 @@
 pub mod Bounds
 pub mod Members
+pub mod Around
+pub mod Edges
 pub mod Meet
 pub mod Shift
 pub mod Stride

@@ -1,6 +1,6 @@
 -- The members of an interval as a set of integers.
-use Rattle.std.specs.Prelude.{◌≡◌, ℤ, ◌≤ℤ◌, false, if◌then◌else◌}
-use Rattle.index_intervals.specs.Bounds.{Bounds, IsIndex, minus_infinity, plus_infinity}
+use Rattle.std.specs.Prelude.{◌≡◌, ℕ, ℤ, pos, ◌+ℤ◌, ◌-ℤ◌, ◌≤ℤ◌, int_le, unsigned_abs, Bool, false, ◌&&◌, ◌||◌, if◌then◌else◌}
+use Rattle.index_intervals.specs.Bounds.{Bounds, IsIndex, is_index, minus_infinity, plus_infinity}
 
 -- a finite index between the bounds, both included, implicit bounds counted as they stand
 pub record IsMember (b : Bounds) (x : ℤ) : Type 0 where
@@ -29,3 +29,15 @@ effective_hi b = if b.hi_implicit then plus_infinity else b.hi
 -- the interval with these bounds and the old flags
 abbrev pub effective_bounds : Bounds → Bounds
 effective_bounds b = record b { lo = effective_lo b; hi = effective_hi b }
+
+-- both bounds are finite, implicit ones counted as they stand
+abbrev pub is_finite : Bounds → Bool
+is_finite dim = is_index dim.lo && is_index dim.hi
+
+-- how many indices a finite interval has
+abbrev pub size_of : Bounds → ℕ
+size_of dim = unsigned_abs (dim.hi +ℤ pos 1 -ℤ dim.lo)
+
+-- the effective interval has an index: a bound sets no limit, or the two are in order
+abbrev pub has_index : Bounds → Bool
+has_index dim = dim.lo_implicit || dim.hi_implicit || int_le dim.lo dim.hi

@@ -1,8 +1,8 @@
-ghost use Rattle.std.specs.Prelude.{◌≡◌, ◌≢◌, ℤ, pos, ◌≤ℤ◌, ◌<ℤ◌, ◌+ℤ◌, ◌*ℤ◌, ◌↔◌, unsigned_abs, IsTrue, IsOk, IfOk};
+ghost use Rattle.std.specs.Prelude.{◌≡◌, ◌≢◌, int_lt, ◌&&◌, ◌||◌, length, ℤ, pos, ◌≤ℤ◌, ◌<ℤ◌, ◌+ℤ◌, ◌-ℤ◌, ◌*ℤ◌, ◌↔◌, unsigned_abs, IsTrue, IsOk, IfOk};
 ghost use Rattle.std.specs.Int.{int_min};
 ghost use Rattle.index_intervals.specs.Bounds.{Bounds, AreBounds, IsIndex, is_index, minus_infinity, plus_infinity};
-ghost use Rattle.index_intervals.specs.Members.{IsMember, IsEffectiveMember, IsWithin, effective_lo, effective_hi, effective_bounds};
-ghost use Rattle.index_intervals.specs.Meet.{met, lower, upper, greater_bound, lesser_bound, IsTieFlag};
+ghost use Rattle.index_intervals.specs.Members.{IsMember, IsEffectiveMember, IsWithin, effective_lo, effective_hi, effective_bounds, is_finite, size_of, has_index};
+ghost use Rattle.index_intervals.specs.Meet.{met, IsTieFlag};
 ghost use Rattle.index_intervals.specs.Shift.{moved, shifted, CanShift};
 ghost use Rattle.index_intervals.specs.Stride.{strided, mirrored, contracted, facing, RoundsInward};
 
@@ -83,6 +83,38 @@ impl Interval {
         is_finite && self.lo <= x && x <= self.hi
     }
 
+    /// Whether both bounds are finite, implicit ones counted as they stand.
+    pub fn is_finite(&self) -> bool
+        ensures { result ≡ is_finite self.now }
+    {
+        self.lo != -INFINITY && self.hi != INFINITY
+    }
+
+    /// How many indices a finite interval has.
+    pub fn size(&self) -> u64
+        requires { IsTrue (is_finite self.now) }
+        ensures value { result ≡ size_of self.now }
+        ensures last { pos result ≡ self.now.hi +ℤ pos 1 -ℤ self.now.lo }
+    {
+        (self.hi + 1 - self.lo) as u64
+    }
+
+    /// Whether the effective interval has an index.
+    pub fn has_index(&self) -> bool
+        ensures value { result ≡ has_index self.now }
+        ensures some { IsTrue result → (x : ℤ) × IsEffectiveMember self.now x }
+        ensures only { (x : ℤ) → IsEffectiveMember self.now x → IsTrue result }
+    {
+        self.is_open_or_ordered()
+    }
+
+    fn is_open_or_ordered(&self) -> bool
+        ensures value { result ≡ has_index self.now }
+        ensures bounds { AreBounds self.now }
+    {
+        self.lo_implicit || self.hi_implicit || self.lo <= self.hi
+    }
+
     /// The interval with an infinite bound in place of each implicit one. The flags stay.
     ///
     /// Indexing is checked against it.
@@ -117,8 +149,8 @@ impl Interval {
     pub fn meet(&self, other: &Interval) -> Interval
         ensures value { result ≡ met self.now other.now }
         ensures members { (x : ℤ) → IsMember result x ↔ (IsMember self.now x × IsMember other.now x) }
-        ensures lo_flag { IsTieFlag (lower self.now) (lower other.now) result.lo result.lo_implicit }
-        ensures hi_flag { IsTieFlag (upper self.now) (upper other.now) (int_min self.now.hi other.now.hi) result.hi_implicit }
+        ensures lo_flag { IsTieFlag self.now.lo self.now.lo_implicit other.now.lo other.now.lo_implicit result.lo result.lo_implicit }
+        ensures hi_flag { IsTieFlag self.now.hi self.now.hi_implicit other.now.hi other.now.hi_implicit (int_min self.now.hi other.now.hi) result.hi_implicit }
     {
         let lo = self.lo.max(other.lo);
         let hi = self.hi.min(other.hi).max(lo - 1);
@@ -131,13 +163,13 @@ impl Interval {
     }
 
     fn is_met_lo_implicit(&self, other: &Interval) -> bool
-        ensures { result ≡ (met self.now other.now).lo_implicit }
+        ensures { result ≡ ((int_lt self.now.lo other.now.lo || self.now.lo_implicit) && (int_lt other.now.lo self.now.lo || other.now.lo_implicit)) }
     {
         (self.lo < other.lo || self.lo_implicit) && (other.lo < self.lo || other.lo_implicit)
     }
 
     fn is_met_hi_implicit(&self, other: &Interval) -> bool
-        ensures { result ≡ (met self.now other.now).hi_implicit }
+        ensures { result ≡ ((int_lt other.now.hi self.now.hi || self.now.hi_implicit) && (int_lt self.now.hi other.now.hi || other.now.hi_implicit)) }
     {
         (other.hi < self.hi || self.hi_implicit) && (self.hi < other.hi || other.hi_implicit)
     }

@@ -5,13 +5,14 @@
 //! `strided` and `slice` give exactly the bounds, flags and members that `specs/` defines.
 #![tactic(auto)]
 
+mod around;
+mod edge;
 mod error;
 mod interval;
 mod slice;
 
+pub use around::around_all;
+pub use edge::{Edge, Ends, interval_of};
 pub use error::{BadBounds, Overflow, ZeroStep};
 pub use interval::{INFINITY, Interval, is_index};
 pub use slice::{SliceError, Sliced};
-
-#[cfg(test)]
-mod tests;

@@ -1,13 +1,16 @@
 -- The number of cells, and one cell after another.
-use Rattle.std.proofs.Common.{◌≡◌, ◌∙◌, zero, suc, ℕ, ◌+◌, ◌*◌, ◌==◌, Bool, true, false, cond, ◌||◌, List, [], ◌∷◌, length, map, refl, sym, ap, arith, ℤ, pos, ◌+ℤ◌, Ok, Err, Result, IfOk, nat_le}
+use Rattle.std.proofs.Common.{◌≡◌, ◌∙◌, zero, suc, ℕ, ◌+◌, ◌*◌, ◌==◌, Bool, true, false, cond, ◌||◌, List, [], ◌∷◌, ◌++◌, ◌≤ℤ◌, length, map, refl, sym, ap, arith, ℤ, pos, ◌+ℤ◌, Ok, Err, Result, IfOk, nat_le}
 use Rattle.std.proofs.lemmas.List.{length-map, length-append}
 use Rattle.std.proofs.lemmas.Bool.Decides.{nat_tests}
-use Rattle.std.specs.List.{flat_map, list_any}
+use Rattle.std.specs.List.{flat_map, list_any, list_all}
 use Rattle.cells.specs.Places.{cell_count}
-use Rattle.index_intervals.specs.Bounds.{Bounds}
+use Rattle.std.proofs.lemmas.Int.{ints}
+use Rattle.cells.proofs.Laws.{both}
+use Rattle.index_intervals.specs.Bounds.{Bounds, is_ordered}
 use Rattle.index_transform.specs.declared.error.CountError.{CountError}
 use Rattle.index_transform.specs.declared.error.CountError.TheVariants.{TooMany}
 use Rattle.index_transform.specs.Maps.{size_of}
+use Rattle.index_transform.specs.Walks.{IsCell}
 use Rattle.index_transform.specs.Cells.{counting, members_of, cells_of, counted_from}
 
 pub length-counting : (x : ℤ) (n : ℕ) → length (counting x n) ≡ n
@@ -66,3 +69,33 @@ number-counted dims r e = rw e (along (counted_from 1 0 (map size_of dims)) (cou
     along : (r : Result ℕ CountError) → IfOk r (λ m. m ≡ 1 * cell_count (map size_of dims)) → IfOk r (λ n. n ≡ length (cells_of dims))
     along (Ok m) h = h ∙ omega (arith, length-cells_of dims)
     along (Err e) h = tt
+
+-- each of the index vectors is a cell
+abbrev pub AreCells : List Bounds → List (List ℤ) → Type 0
+AreCells ds [] = Unit {0}
+AreCells ds (xs ∷ cells) = IsCell ds xs × AreCells ds cells
+
+AreCells-append : (ds : List Bounds) (a b : List (List ℤ)) → AreCells ds a → AreCells ds b → AreCells ds (a ++ b)
+AreCells-append ds [] b p q = q
+AreCells-append ds (xs ∷ a) b p q = (p.0, AreCells-append ds a b p.1 q)
+
+AreCells-put : (d : Bounds) (ds : List Bounds) (x : ℤ) (a : List (List ℤ)) → d.lo ≤ℤ x → x ≤ℤ d.hi → AreCells ds a
+    → AreCells (d ∷ ds) (map (λ cell. x ∷ cell) a)
+AreCells-put d ds x [] l h p = tt
+AreCells-put d ds x (xs ∷ a) l h p = ((l, h, p.0), AreCells-put d ds x a l h p.1)
+
+AreCells-counting : (d : Bounds) (ds : List Bounds) (x : ℤ) (n : ℕ) (a : List (List ℤ)) → d.lo ≤ℤ x → (x +ℤ pos n) ≤ℤ (d.hi +ℤ pos 1) → AreCells ds a
+    → AreCells (d ∷ ds) (flat_map (λ y. map (λ cell. y ∷ cell) a) (counting x n))
+AreCells-counting d ds x zero a l h p = tt
+AreCells-counting d ds x (suc n) a l h p =
+    AreCells-append (d ∷ ds) (map (λ cell. x ∷ cell) a) (flat_map (λ y. map (λ cell. y ∷ cell) a) (counting (x +ℤ pos 1) n))
+    (AreCells-put d ds x a l (omega (arith, ints, h)) p)
+    (AreCells-counting d ds (x +ℤ pos 1) n a (omega (arith, ints, l)) (omega (arith, ints, h)) p)
+
+-- the cells of dimensions are cells
+pub AreCells-cells_of : (ds : List Bounds) → list_all is_ordered ds ≡ true → AreCells ds (cells_of ds)
+AreCells-cells_of [] e = (tt, tt)
+AreCells-cells_of (d ∷ ds) e =
+    let p = both (is_ordered d) (list_all is_ordered ds) e in
+    let o : d.lo ≤ℤ (d.hi +ℤ pos 1) = grind (arith, ints, p.0) in
+    AreCells-counting d ds d.lo (size_of d) (cells_of ds) (omega (arith, ints)) (omega (arith, ints, o)) (AreCells-cells_of ds p.1)

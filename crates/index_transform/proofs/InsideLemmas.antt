@@ -70,7 +70,7 @@ has_value-is_map ds xs (Indexed offset stride sizes entries) l g e =
     let same : length ds ≡ length sizes = grind (arith, nat_tests, q.0) in
     and-true (reaches ds sizes xs) (are_entries sizes entries) (reaches-fits ds sizes xs same l q.1 g) p.1
 
-all_have_value : (ds : List Bounds) (xs : List ℤ) (ms : List OutMap) → length xs ≡ length ds
+pub all_have_value : (ds : List Bounds) (xs : List ℤ) (ms : List OutMap) → length xs ≡ length ds
     → list_all (λ p. is_effective p.0 p.1) (zip ds xs) ≡ true → list_all (is_map ds) ms ≡ true → list_all (has_value ds xs) ms ≡ true
 all_have_value ds xs [] l g e = refl
 all_have_value ds xs (m ∷ ms) l g e =

@@ -4,13 +4,8 @@ pub mod ListLemmas
 pub mod InsideLemmas
 pub mod CellLemmas
 pub mod WalkLemmas
-pub mod EdgeLemmas
-pub mod TightLemmas
-pub mod FitLemmas
 pub mod NumberLemmas
-pub mod ReadLemmas
-pub mod FiniteLemmas
-pub mod JoinLemmas
-pub mod ValueLemmas
-pub mod AgreeLemmas
-pub mod IdentityLemmas
+pub mod Laws
+pub mod IdentityLaws
+pub mod ShapeLemmas
+pub mod ValueLaws

@@ -72,3 +72,19 @@ position_from-next {X} p xs k x h e =
     let one : k + 1 ≡ suc k = omega arith in
     let a = drop-cons xs k x h ∙ ap (λ (z : X). z ∷ drop (suc k) xs) (sym e) in
     rw (a, one) refl
+
+-- a place inside a list holds the same whatever stands past the end
+pub get_or-inside : {X : Type 0} (xs : List X) (k : ℕ) (d e : X) → k < length xs → get_or xs k d ≡ get_or xs k e
+get_or-inside [] k d e h = absurd (omega (arith, h))
+get_or-inside (x ∷ xs) zero d e h = refl
+get_or-inside (x ∷ xs) (suc k) d e h = get_or-inside xs k d e (omega (arith, h))
+
+-- a pair further in two lists
+pub position_from-zip : {X Y : Type 0} (p : X × Y → Bool) (xs : List X) (ys : List Y) (k : ℕ) (x : X) (y : Y) → k < length xs → k < length ys
+    → x ≡ get_or xs k x → y ≡ get_or ys k y
+    → position_from p k (zip (drop k xs) (drop k ys)) ≡ cond (p (x, y)) (Some k) (position_from p (k + 1) (zip (drop (k + 1) xs) (drop (k + 1) ys)))
+position_from-zip {X} {Y} p xs ys k x y h i e f =
+    let one : k + 1 ≡ suc k = omega arith in
+    let a = drop-cons xs k x h ∙ ap (λ (z : X). z ∷ drop (suc k) xs) (sym e) in
+    let b = drop-cons ys k y i ∙ ap (λ (z : Y). z ∷ drop (suc k) ys) (sym f) in
+    rw (a, b, one) refl

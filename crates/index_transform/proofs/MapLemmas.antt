@@ -3,7 +3,7 @@ use Rattle.std.proofs.Common.{◌≡◌, ℕ, ◌+◌, Bool, true, false, cond, 
 use Rattle.std.proofs.lemmas.List.{length-map}
 use Rattle.std.specs.List.{list_all, position_from}
 use Rattle.std.specs.Ordering.{int_eq}
-use Rattle.index_intervals.specs.Bounds.{Bounds}
+use Rattle.index_intervals.specs.Bounds.{Bounds, are_bounds}
 use Rattle.index_transform.specs.declared.domain.Domain.{Domain}
 use Rattle.index_transform.specs.declared.map.OutMap.{OutMap}
 use Rattle.index_transform.specs.declared.map.OutMap.TheVariants.{Constant, Strided, Indexed}
@@ -63,10 +63,11 @@ all_plain-plain_map (m ∷ ms) = rw (is_plain-plain_map m) (all_plain-plain_map 
 
 -- what passed the tests is a transform
 pub IsTransform-plain : (domain : Domain) (ms : List OutMap) → has_ranks domain ms ≡ true → are_labels domain.labels ≡ true
-    → first_bad_map domain ms ≡ None → IsTransform (record { domain = domain; maps = map plain_map ms })
-IsTransform-plain domain ms r l f = record {
+    → first_bad_map domain ms ≡ None → list_all are_bounds domain.dims ≡ true → IsTransform (record { domain = domain; maps = map plain_map ms })
+IsTransform-plain domain ms r l f b = record {
   ranks = rw length-map r;
   labels = l;
   maps = all_map-plain_map domain.dims ms (list_all-position_from (is_map domain.dims) 0 ms f);
   plain = all_plain-plain_map ms;
+  bounds = b;
 }

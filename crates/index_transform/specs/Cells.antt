@@ -1,8 +1,9 @@
 -- The index vectors of a finite domain in C order, and how many there are.
-use Rattle.std.specs.Prelude.{ℕ, zero, suc, ◌+◌, ◌*◌, nat_le, ◌==◌, ℤ, pos, ◌+ℤ◌, Bool, not, ◌&&◌, if◌then◌else◌, List, [], ◌∷◌, map, Option, Some, None, Result, Ok, Err}
+use Rattle.std.specs.Prelude.{ℕ, zero, suc, ◌+◌, ◌*◌, nat_le, ◌==◌, ℤ, pos, ◌+ℤ◌, not, if◌then◌else◌, List, [], ◌∷◌, map, Option, Some, None, Result, Ok, Err}
 use Rattle.std.specs.List.{flat_map, list_any, position_from}
-use Rattle.index_intervals.specs.Bounds.{Bounds, is_index}
-use Rattle.index_transform.specs.Maps.{size_of}
+use Rattle.index_intervals.specs.Bounds.{Bounds}
+pub use Rattle.index_intervals.specs.Members.{is_finite}
+use Rattle.index_intervals.specs.Members.{size_of}
 use Rattle.index_transform.specs.declared.error.CountError.{CountError}
 use Rattle.index_transform.specs.declared.error.CountError.TheVariants.{Unbounded, TooMany}
 
@@ -19,10 +20,6 @@ members_of dim = counting dim.lo (size_of dim)
 abbrev pub cells_of : List Bounds → List (List ℤ)
 cells_of [] = [] ∷ []
 cells_of (dim ∷ dims) = flat_map (λ x. map (λ cell. x ∷ cell) (cells_of dims)) (members_of dim)
-
--- both bounds are finite, implicit ones counted as they stand
-abbrev pub is_finite : Bounds → Bool
-is_finite dim = is_index dim.lo && is_index dim.hi
 
 -- the product of sizes, or the dimension at which it is first over 2^22
 abbrev pub counted_from : ℕ → ℕ → List ℕ → Result ℕ CountError

@@ -1,11 +1,7 @@
-pub mod Agreeing
 pub mod Cells
-pub mod Composing
-pub mod Edges
-pub mod Inside
+pub mod Identity
 pub mod Maps
-pub mod Reading
-pub mod Tightening
+pub mod Shapes
 pub mod Transforms
 pub mod Values
 pub mod Walks

@@ -1,5 +1,5 @@
 -- The value of a transform at an index vector.
-use Rattle.std.specs.Prelude.{ℕ, ◌+◌, ◌*◌, ◌==◌, ℤ, ◌+ℤ◌, ◌-ℤ◌, ◌*ℤ◌, pos, unsigned_abs, int_le, nat_lt, Bool, true, false, not, ◌&&◌, ◌||◌, if◌then◌else◌, List, [], ◌∷◌, length, map, slice_index_or, Option, Some, None, Result, Ok, Err}
+use Rattle.std.specs.Prelude.{ℕ, ◌+◌, ◌*◌, ◌==◌, ℤ, ◌+ℤ◌, ◌-ℤ◌, ◌*ℤ◌, pos, negsuc, unsigned_abs, int_le, int_lt, nat_lt, Bool, true, false, not, ◌&&◌, ◌||◌, if◌then◌else◌, List, [], ◌∷◌, length, map, slice_index_or, Option, Some, None, Result, Ok, Err}
 use Rattle.std.specs.List.{zip, position_from}
 use Rattle.cells.specs.Places.{cell_count}
 use Rattle.index_intervals.specs.Bounds.{Bounds, is_index}
@@ -55,6 +55,10 @@ is_effective dim x = is_index x && (dim.lo_implicit || int_le dim.lo x) && (dim.
 -- the first dimension whose effective interval lacks its index
 abbrev pub first_outside : List Bounds → List ℤ → Option ℕ
 first_outside dims index = position_from (λ p. not (is_effective p.0 p.1)) 0 (zip dims index)
+
+-- the number fits 64 bits with a sign
+abbrev pub is_word : ℤ → Bool
+is_word x = int_le (negsuc 9223372036854775807) x && int_lt x (pos 9223372036854775808)
 
 -- the first output whose number is no finite index
 abbrev pub first_overflow : List ℤ → Option ℕ

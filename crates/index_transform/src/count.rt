@@ -6,8 +6,9 @@ ghost use Rattle.index_transform.specs.Cells.{is_finite, counted_from, count_ans
 ghost use Rattle.index_transform.specs.Walks.{IsNonEmpty};
 
 use crate::error::CountError;
-use crate::map::{MOST_ENTRIES, size_of};
+use crate::map::size_of;
 use crate::transform::Transform;
+use cells::MOST_ENTRIES;
 use index_intervals::{INFINITY, Interval};
 
 impl Transform {

@@ -5,27 +5,21 @@
 //! each call gives.
 #![tactic(auto)]
 
-mod composing;
+mod copies;
 mod count;
 mod domain;
-mod edge;
 mod error;
-mod inside;
 mod map;
-mod reading;
-mod tighten;
+mod number;
+mod shape;
 mod transform;
 mod value;
 mod walk;
 
-pub use composing::compose;
-pub use domain::Domain;
-pub use error::{AtError, ComposeError, CountError, TransformError};
-pub use map::OutMap;
+pub use copies::{copied_map, copied_maps};
+pub use domain::{Domain, copied_names, look_at_all};
+pub use error::{AtError, CountError, TransformError};
+pub use map::{OutMap, size_of};
 pub use transform::Transform;
-pub use walk::Walk;
-
-#[cfg(test)]
-mod tests;
-#[cfg(test)]
-mod tests_compose;
+pub use value::{is_effective, scaled};
+pub use walk::{Walk, lower_bounds};

@@ -4,7 +4,7 @@ ghost use Rattle.index_intervals.specs.Bounds.{is_index};
 ghost use Rattle.index_transform.specs.Maps.{size_of, is_fixed, fits_dim, fits, are_entries, is_map, has_ranks};
 
 use crate::domain::Domain;
-use cells::{Index, Sizes, count_cells};
+use cells::{Index, LARGEST_RANK, MOST_ENTRIES, Sizes, count_cells};
 use index_intervals::{INFINITY, Interval, is_index};
 
 /// How one output number follows from an index vector.
@@ -31,9 +31,6 @@ pub enum OutMap {
         entries: Index,
     },
 }
-
-/// The most entries that an index array has.
-pub const MOST_ENTRIES: u64 = 4_194_304;
 
 impl OutMap {
     ghost use Rattle.index_transform.specs.Maps.{is_map, is_plain, plain_map};
@@ -100,8 +97,8 @@ pub(crate) fn is_fixed(dim: &Interval) -> bool
     !dim.lo_implicit && !dim.hi_implicit && dim.lo != -INFINITY && dim.hi != INFINITY
 }
 
-// The number of indices of a finite interval.
-pub(crate) fn size_of(dim: &Interval) -> u64
+/// The number of indices of an interval, infinite bounds counted as the numbers that stand for them.
+pub fn size_of(dim: &Interval) -> u64
     ensures { result ≡ size_of dim.now }
 {
     (dim.hi + 1 - dim.lo) as u64
@@ -122,9 +119,6 @@ fn are_indices(numbers: &[i64]) -> bool
 {
     numbers.iter().all(|x| is_index((*x).into()))
 }
-
-/// The most dimensions and outputs.
-pub const LARGEST_RANK: usize = 32;
 
 // Whether there is one label per dimension, and not too many dimensions or outputs.
 pub(crate) fn ranks_fit(domain: &Domain, maps: &[OutMap]) -> bool

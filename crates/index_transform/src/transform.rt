@@ -1,9 +1,10 @@
 ghost use Rattle.std.specs.Prelude.{◌≡◌, IsTrue, length, map};
 ghost use Rattle.std.specs.List.{list_all};
 ghost use Rattle.index_transform.specs.Maps.{is_map, plain_map};
-ghost use Rattle.index_transform.specs.Tightening.{on_dims};
+ghost use Rattle.index_intervals.specs.Bounds.{are_bounds};
+ghost use Rattle.index_transform.specs.Transforms.{on_dims};
 
-use crate::domain::{Domain, are_labels};
+use crate::domain::{Domain, are_labels, look_at_all};
 use crate::error::TransformError;
 use crate::map::{OutMap, first_bad_map, ranks_fit};
 use cells::List;
@@ -52,6 +53,7 @@ impl Transform {
         if !are_labels(domain.labels.items()) {
             return Err(TransformError::BadLabel);
         }
+        look_at_all(domain.dims.items());
         match first_bad_map(&domain, &maps) {
             Some(output) => Err(TransformError::BadMap {
                 output: output as u32,
@@ -79,8 +81,8 @@ impl Transform {
         self.maps.items()
     }
 
-    // The transform of a domain and maps that keep the rules.
-    pub(crate) fn of(domain: Domain, maps: Vec<OutMap>) -> Transform
+    /// The transform of a domain and maps that keep the rules, without a check.
+    pub fn of(domain: Domain, maps: Vec<OutMap>) -> Transform
         requires { IsTransform (record { domain = domain; maps = maps.items }) }
         ensures { result ≡ record { domain = domain; maps = maps.items } }
     {
@@ -90,10 +92,11 @@ impl Transform {
         }
     }
 
-    // Puts other dimensions in place of the domain's.
-    pub(crate) fn set_dims(&mut self, dims: Vec<Interval>)
+    /// Puts other dimensions in place of the domain's.
+    pub fn set_dims(&mut self, dims: Vec<Interval>)
         requires rank { length dims.items ≡ length self.old.domain.dims }
         requires fit { IsTrue (list_all (is_map dims.items) self.old.maps) }
+        requires bounds { IsTrue (list_all are_bounds dims.items) }
         ensures { self.new ≡ on_dims self.old dims.items }
     {
         self.domain.dims = List::wrap(dims);

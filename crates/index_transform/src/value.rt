@@ -1,7 +1,7 @@
 ghost use Rattle.std.specs.Prelude.{◌≡◌, ◌≢◌, ◌<◌, ◌≤◌, ◌+ℤ◌, ◌*ℤ◌, IsTrue, IfOk, IfErr, IfSome, length, map};
 ghost use Rattle.std.specs.List.{list_all};
 ghost use Rattle.cells.specs.Places.{cell_count};
-ghost use Rattle.index_transform.specs.Values.{entry_index, entry_place, reaches_dim, reaches, has_value, map_value, is_effective, first_outside, numbers_of};
+ghost use Rattle.index_transform.specs.Values.{entry_index, entry_place, reaches_dim, reaches, has_value, map_value, is_effective, first_outside, is_word, numbers_of};
 
 use crate::error::AtError;
 use crate::map::OutMap;
@@ -10,8 +10,8 @@ use index_intervals::{Interval, is_index};
 use std::alloc::Global;
 
 impl OutMap {
-    // The output number at an index vector.
-    pub(crate) fn value(&self, dims: &[Interval], index: &[i64]) -> i128
+    /// The output number at an index vector at which the map has one.
+    pub fn value(&self, dims: &[Interval], index: &[i64]) -> i128
         requires { IsTrue (has_value dims.now index.now self.now) }
         ensures { result ≡ map_value dims.now index.now self.now }
     {
@@ -58,6 +58,30 @@ impl Transform {
         }
         numbers_at(alloc, dims, self.maps(), index)
     }
+
+    /// Writes the output numbers at an index vector. Nothing is checked, and no memory is taken.
+    ///
+    /// Each map has a number there, and it fits 64 bits.
+    pub fn value_into(&self, index: &[i64], out: &mut [i64])
+        requires room { length out.old ≡ length self.now.maps }
+        requires known { IsTrue (list_all (has_value self.now.domain.dims index.now) self.now.maps) }
+        requires fits { IsTrue (list_all is_word (value_at self.now index.now)) }
+        ensures { out.new ≡ value_at self.now index.now }
+    {
+        values_into(self.domain().dims.items(), self.maps(), index, out)
+    }
+}
+
+fn values_into(dims: &[Interval], maps: &[OutMap], index: &[i64], out: &mut [i64])
+    requires room { length out.old ≡ length maps.now }
+    requires known { IsTrue (list_all (has_value dims.now index.now) maps.now) }
+    requires fits { IsTrue (list_all is_word (map (map_value dims.now index.now) maps.now)) }
+    ensures { out.new ≡ map (map_value dims.now index.now) maps.now }
+{
+    for (j, map) in maps.iter().enumerate() {
+        let number = map.value(dims, index);
+        out[j] = number as i64;
+    }
 }
 
 // The output numbers at an index vector that the domain has.
@@ -97,14 +121,15 @@ fn first_outside(dims: &[Interval], index: &[i64]) -> Option<usize>
         .position(|(dim, x)| !is_effective(dim, *x))
 }
 
-// Whether the index is an effective member of the interval.
-pub(crate) fn is_effective(dim: &Interval, x: i64) -> bool
+/// Whether the index is an effective member of the interval.
+pub fn is_effective(dim: &Interval, x: i64) -> bool
     ensures { result ≡ is_effective dim.now x }
 {
     is_index(x.into()) && (dim.lo_implicit || dim.lo <= x) && (dim.hi_implicit || x <= dim.hi)
 }
 
-pub(crate) fn scaled(offset: i64, stride: i64, x: i64) -> i128
+/// A number times a stride, and an offset.
+pub fn scaled(offset: i64, stride: i64, x: i64) -> i128
     ensures { result ≡ offset +ℤ stride *ℤ x }
 {
     i128::from(offset) + i128::from(stride) * i128::from(x)

@@ -37,7 +37,8 @@ impl Walk {
         Walk::over(alloc, domain.dims.items())
     }
 
-    pub(crate) fn over(alloc: Global, dims: &[Interval]) -> Result<Walk, AllocError>
+    /// A walk through the index vectors of intervals with finite bounds.
+    pub fn over(alloc: Global, dims: &[Interval]) -> Result<Walk, AllocError>
         requires { IsTrue (list_all is_finite dims.now) }
         ensures { IfOk result (λ walk. walk ≡ record { rank = length dims.now; cells = cells_of dims.now }) }
     {
@@ -64,7 +65,8 @@ impl Walk {
     }
 }
 
-pub(crate) fn lower_bounds(alloc: Global, dims: &[Interval]) -> Result<Vec<i64>, AllocError>
+/// The lower bounds of intervals.
+pub fn lower_bounds(alloc: Global, dims: &[Interval]) -> Result<Vec<i64>, AllocError>
     ensures { IfOk result (λ los. los.items ≡ lows dims.now) }
 {
     dims.iter().map(|dim| dim.lo).collect(alloc)

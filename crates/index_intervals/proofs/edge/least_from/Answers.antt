@@ -1,0 +1,25 @@
+use Rattle.std.proofs.Common.{◌≡◌, ◌∙◌, ap, sym, ℤ, ◌-ℤ◌, arith, to_z, of_z, Some, Option}
+use Rattle.std.proofs.lemmas.Int.{ints}
+use Rattle.std.specs.Int.{w128}
+use Rattle.std.specs.Option.{option_map}
+use Rattle.index_intervals.specs.Edges.{least_from}
+use Rattle.index_intervals.proofs.edge.least_from.Goals as goal
+
+pub overflow_sub-low : goal.overflow_sub-low
+overflow_sub-low c =
+    let i = c.requires.low c.in-Some.low c.in-Some.is in
+    omega (arith, ints, i.above, i.below)
+
+pub quotient_up-requires-clause-small : goal.quotient_up-requires-clause-small
+quotient_up-requires-clause-small c =
+    let i = c.requires.low c.in-Some.low c.in-Some.is in
+    omega (arith, ints, i.above, i.below)
+
+pub returns-in-Some : goal.returns-in-Some
+returns-in-Some c =
+    let i = c.requires.low c.in-Some.low c.in-Some.is in
+    let d : to_z w128 (of_z w128 (to_z w128 (of_z w128 c.in-Some.low) -ℤ to_z w128 (of_z w128 c.from.result))) ≡ c.in-Some.low -ℤ c.args.offset = omega (arith, ints, i.above, i.below) in
+    let s : to_z w128 (of_z w128 c.into.result) ≡ c.args.stride = omega (arith, ints) in
+    let q = (rw (d, s) at c.quotient_up.ensures) in
+    let r : to_z w128 (of_z w128 c.quotient_up.result) ≡ c.quotient_up.result = omega (arith, ints) in
+    ap Some (r ∙ q) ∙ sym (ap (λ (o : Option ℤ). option_map (least_from c.args.offset c.args.stride) o) c.in-Some.is)

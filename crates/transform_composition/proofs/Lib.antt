@@ -1,0 +1,11 @@
+pub mod EdgeLemmas
+pub mod TightLemmas
+pub mod FitLemmas
+pub mod ReadLemmas
+pub mod FiniteLemmas
+pub mod JoinLemmas
+pub mod ValueLemmas
+pub mod AgreeLemmas
+pub mod IdentityLemmas
+pub mod MeetingLemmas
+pub mod ReachLemmas
