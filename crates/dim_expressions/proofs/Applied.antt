@@ -4,8 +4,8 @@ use Rattle.std.specs.Result.{IfOk}
 use Rattle.std.proofs.lemmas.List.{drop_more, drop_all, take_more, take_all}
 use Rattle.index_transform.specs.Transforms.{DomainAndMaps}
 use Rattle.dim_expressions.specs.Applying.{IsAfter, IsAfterAll, after_step, answer_on, numbered, applied_from}
-use Rattle.dim_expressions.specs.declared.act.Step.{Step}
-use Rattle.dim_expressions.specs.declared.cause.ApplyError.{ApplyError}
+use Rattle.step_forms.specs.declared.act.Step.{Step}
+use Rattle.dim_expressions.specs.declared.error.ApplyError.{ApplyError}
 
 pub if_ok_more : {A B : Type 0} (r : Result A B) (P Q : A → Type 0) → ((x : A) → P x → Q x) → IfOk r P → IfOk r Q
 if_ok_more (Ok x) P Q more p = more x p

@@ -5,12 +5,12 @@ use Rattle.std.specs.List.{list_all}
 use Rattle.index_intervals.specs.Bounds.{Bounds}
 use Rattle.index_intervals.specs.Members.{effective_lo, effective_hi}
 use Rattle.index_transform.specs.Values.{is_effective}
-use Rattle.dim_expressions.specs.declared.cause.Cause.TheVariants.{OutOfRange, TooLarge}
-use Rattle.dim_expressions.specs.Causes.{first_cause}
-use Rattle.dim_expressions.specs.Dims.{place_in, dim_at}
-use Rattle.dim_expressions.specs.Arrangements.{entries_cause, length_cause, array_causes, array_at}
-use Rattle.dim_expressions.proofs.CauseLaws.{NoneOf-first, none-mapped}
-use Rattle.dim_expressions.proofs.PlaceLaws.{place_in-Some}
+use Rattle.dim_changes.specs.declared.cause.Cause.TheVariants.{OutOfRange, TooLarge}
+use Rattle.dim_changes.specs.Causes.{first_cause}
+use Rattle.dim_changes.specs.Dims.{place_in, dim_at}
+use Rattle.dim_expressions.specs.Arrays.{entries_cause, length_cause, array_causes, array_at}
+use Rattle.dim_changes.proofs.CauseLaws.{NoneOf-first, none-mapped}
+use Rattle.dim_changes.proofs.PlaceLaws.{place_in-Some}
 use Rattle.dim_expressions.proofs.OindexLaws.{IsArrayFor}
 
 no_entries_cause : (dim : Bounds) (entries : List ℤ) → entries_cause dim entries ≡ None → list_all (is_effective dim) entries ≡ true

@@ -3,19 +3,19 @@ use Rattle.std.proofs.Common.{◌≡◌, ◌∙◌, zero, suc, ℕ, ◌+◌, ◌
 use Rattle.std.specs.List.{enumerate_from}
 use Rattle.index_intervals.specs.Bounds.{Bounds, AreBounds}
 use Rattle.index_intervals.specs.Members.{effective_lo, effective_hi}
-use Rattle.index_transform.specs.Reading.{point}
-use Rattle.index_transform.specs.Tightening.{tighten_answer}
-use Rattle.index_transform.specs.Transforms.{DomainAndMaps, IsTransform}
+use Rattle.transform_composition.specs.Reading.{point}
+use Rattle.transform_composition.specs.Tightening.{tighten_answer}
+use Rattle.index_transform.specs.Transforms.{DomainAndMaps, IsTransform, KeepsRules}
 use Rattle.index_transform.specs.Values.{is_effective}
-use Rattle.dim_expressions.specs.declared.act.Numbers.{Numbers}
-use Rattle.dim_expressions.specs.declared.cause.Cause.{Cause}
-use Rattle.dim_expressions.specs.declared.cause.Cause.TheVariants.{OutOfRange}
-use Rattle.dim_expressions.specs.Causes.{with_cause, first_cause, outside_cause}
-use Rattle.dim_expressions.specs.Dims.{place_in}
-use Rattle.dim_expressions.specs.Arrangements.{at_number, at_cause, at_causes, at_map, at_view}
-use Rattle.dim_expressions.proofs.PlaceLaws.{place_in-Some}
-use Rattle.dim_expressions.proofs.LeftLaws.{rest_few}
-use Rattle.dim_expressions.proofs.TightAnswers.{tighten_answer-Ok}
+use Rattle.step_forms.specs.declared.act.Numbers.{Numbers}
+use Rattle.dim_changes.specs.declared.cause.Cause.{Cause}
+use Rattle.dim_changes.specs.declared.cause.Cause.TheVariants.{OutOfRange}
+use Rattle.dim_changes.specs.Causes.{with_cause, first_cause, outside_cause}
+use Rattle.dim_changes.specs.Dims.{place_in}
+use Rattle.dim_expressions.specs.At.{at_number, at_cause, at_causes, at_map, at_view}
+use Rattle.dim_changes.proofs.PlaceLaws.{place_in-Some}
+use Rattle.dim_changes.proofs.LeftLaws.{rest_few}
+use Rattle.dim_changes.proofs.TightAnswers.{tighten_answer-Ok}
 use Rattle.dim_expressions.proofs.WithoutLaws.{GoIn, rank_few, becomes, is_transform}
 
 none_of_two : (c later : Option Cause) → with_cause c later ≡ None → (c ≡ None) × (later ≡ None)
@@ -59,7 +59,7 @@ at_goes u selected by t good = record {
 
 module _ (u : DomainAndMaps) (selected : List ℕ) (by : Numbers) (t : IsTransform u) (bounds : (i : ℕ) → i < length u.domain.dims → AreBounds (get_or u.domain.dims i point))
     (good : first_cause (at_causes by u.domain.dims selected) ≡ None) where
-  pub IsTransform-at : IsTransform (at_view u selected by)
+  pub IsTransform-at : KeepsRules (at_view u selected by)
   IsTransform-at = is_transform u selected 0 (at_map by) [] [] t bounds (at_goes u selected by t good)
 
   pub tight-at : tighten_answer (at_view u selected by) u.domain ≡ Ok (at_view u selected by)

@@ -1,11 +1,12 @@
 -- Dimensions that go to other positions, and back.
-use Rattle.std.proofs.Common.{◌≡◌, ◌∙◌, ℕ, ◌<◌, false, List, length, get_or, unwrap_or, refl, ap, arith, Option, Some, None}
-use Rattle.dim_expressions.specs.Dims.{place_in, others}
-use Rattle.dim_expressions.specs.Selection.{has_repeat}
-use Rattle.dim_expressions.specs.Arrangements.{carried, carried_by}
+use Rattle.std.proofs.Common.{◌≡◌, ◌∙◌, ℕ, ◌<◌, false, List, length, get_or, unwrap_or, refl, sym, ap, arith, Option, Some, None, Result, Ok, Err}
+use Rattle.std.specs.Result.{OnOk}
+use Rattle.dim_changes.specs.Dims.{place_in, others}
+use Rattle.step_forms.specs.Selection.{has_repeat}
+use Rattle.dim_expressions.specs.Transpose.{AreInverse, carried, carried_by}
 use Rattle.dim_expressions.proofs.CountLaws.{others-count}
-use Rattle.dim_expressions.proofs.PlaceLaws.{place_in-Some}
-use Rattle.dim_expressions.proofs.RestLaws.{rest_at, rest_distinct, place_distinct, left_place}
+use Rattle.dim_changes.proofs.PlaceLaws.{place_in-Some}
+use Rattle.dim_changes.proofs.LeftLaws.{rest_at, rest_distinct, place_distinct, left_place}
 
 -- dimensions of a rank, none twice
 pub record AreDims (rank : ℕ) (dims : List ℕ) : Type 0 where
@@ -57,3 +58,13 @@ module _ (rank : ℕ) (from to : List ℕ) (f : AreDims rank from) (t : AreDims 
       told : (o : Option ℕ) → place_in from x ≡ o → IsCarried x (carried_by (others from rank) to (others to rank) x o)
       told None e = to-other x h e
       told (Some place) e = to-place x place e
+
+-- the two lists of a transposition are inverse
+pub are-inverse : (rank : ℕ) (selected targets : List ℕ) → AreDims rank selected → AreDims rank targets → length targets ≡ length selected → AreInverse rank selected targets
+are-inverse rank selected targets f g same =
+    λ k h. ((IsCarried-of rank selected targets f g (sym same) k h).back, (IsCarried-of rank targets selected g f same k h).back)
+
+-- what holds anyway holds of a result
+pub on-ok : {A B : Type 0} (r : Result A B) (P : Type 0) → P → OnOk r P
+on-ok (Ok x) P p = p
+on-ok (Err e) P p = tt

@@ -2,8 +2,8 @@
 use Rattle.std.proofs.Common.{◌≡◌, ◌≢◌, ◌∙◌, zero, suc, ℕ, ◌+◌, ◌<◌, ◌≤◌, ◌==◌, ◌||◌, not, Bool, true, false, cond, List, [], ◌∷◌, length, filter, get_or, refl, sym, ap, arith, Some, is_none}
 use Rattle.std.proofs.lemmas.Bool.Decides.{nat_tests}
 use Rattle.std.specs.List.{list_any, position_from, range_with_len}
-use Rattle.dim_expressions.specs.Dims.{place_in, others}
-use Rattle.dim_expressions.specs.Selection.{has_repeat}
+use Rattle.dim_changes.specs.Dims.{place_in, others}
+use Rattle.step_forms.specs.Selection.{has_repeat}
 
 module _ (p q : ℕ → Bool) where
   -- tests that agree on what comes let as many pass

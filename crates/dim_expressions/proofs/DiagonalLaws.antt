@@ -1,21 +1,24 @@
 -- One dimension in place of several, whose interval is the meet of theirs.
-use Rattle.std.proofs.Common.{◌≡◌, ◌∙◌, zero, suc, ℕ, ◌+◌, ◌<◌, ◌≤◌, ◌==◌, Bool, true, false, cond, List, [], ◌∷◌, length, map, filter, get_or, refl, ap, subst, arith, ℤ, pos, Option, Some, None, is_some, is_none, Ok, unwrap_or}
+use Rattle.std.proofs.Common.{◌≡◌, ◌∙◌, zero, suc, ℕ, ◌+◌, ◌<◌, ◌≤◌, ◌==◌, Bool, true, false, cond, List, [], ◌∷◌, length, map, filter, get_or, refl, sym, ap, subst, arith, ℤ, pos, Option, Some, None, is_some, is_none, Ok, unwrap_or}
 use Rattle.std.proofs.lemmas.Bool.Decides.{nat_tests}
 use Rattle.std.specs.List.{All, range_with_len}
-use Rattle.index_intervals.specs.Bounds.{Bounds, AreBounds}
-use Rattle.index_transform.specs.Edges.{lower_edge, upper_edge, preimage_lower, preimage_upper}
-use Rattle.index_transform.specs.Inside.{are_ends_inside}
-use Rattle.index_transform.specs.Reading.{point}
-use Rattle.index_transform.specs.Tightening.{preimages, tighten_answer}
-use Rattle.index_transform.specs.Transforms.{DomainAndMaps, IsTransform}
-use Rattle.index_transform.specs.Values.{value_at, map_value}
-use Rattle.dim_expressions.specs.Dims.{place_in, others, dim_at}
-use Rattle.dim_expressions.specs.Causes.{AgreesOnCells}
-use Rattle.dim_expressions.specs.Arrangements.{left_by, left_map, without, unbounded, meet_of, selected_dims, diagonal_map, diagonal_view}
-use Rattle.dim_expressions.proofs.LeftLaws.{rest_fewer}
-use Rattle.dim_expressions.proofs.MeetLaws.{AtLeast, AtMost, low_of, high_of, AllBelow, AllAbove, low_holds, high_holds, low_index, high_index, meet_within}
-use Rattle.dim_expressions.proofs.TightBounds.{Edge, preimage_lower-same, preimage_upper-same}
-use Rattle.dim_expressions.proofs.TightAnswers.{IsTightened, tighten_answer-Ok}
+use Rattle.index_intervals.specs.Bounds.{Bounds, AreBounds, IsIndex}
+use Rattle.index_intervals.specs.Edges.{lower_edge, upper_edge, ends_of, interval_of, preimage}
+use Rattle.transform_composition.specs.Inside.{are_ends_inside}
+use Rattle.transform_composition.specs.Reading.{point}
+use Rattle.transform_composition.specs.Tightening.{preimages, tighten_answer, met, tight_lower, tight_upper}
+use Rattle.index_transform.specs.Transforms.{DomainAndMaps, IsTransform, KeepsRules}
+use Rattle.index_transform.specs.Values.{first_outside, value_at, map_value}
+use Rattle.dim_changes.specs.Dims.{place_in, others, dim_at}
+use Rattle.dim_changes.specs.Causes.{Follows}
+use Rattle.dim_expressions.specs.Left.{left_by, left_map, without}
+use Rattle.dim_expressions.specs.Diagonal.{unbounded, meet_of, selected_dims, diagonal_map, diagonal_view, meet_ends}
+use Rattle.dim_changes.proofs.LeftLaws.{rest_fewer}
+use Rattle.dim_expressions.proofs.MeetLaws.{AtLeast, AtMost, low_of, high_of, AllBelow, AllAbove, low_holds, high_holds, meet_within, meet_low_index, meet_high_index}
+use Rattle.dim_changes.proofs.TightBounds.{Edge, preimage-same}
+use Rattle.dim_changes.proofs.TightAnswers.{IsTightened, tighten_answer-Ok}
+use Rattle.std.specs.Option.{ForSome, option_map}
+use Rattle.index_intervals.specs.declared.edge.Ends.{Ends}
 use Rattle.dim_expressions.proofs.WithoutLaws.{GoIn, rank_few, becomes, is_transform, maps}
 
 -- where dimensions are selected, one less stays
@@ -34,7 +37,7 @@ abbrev chosen : List Bounds → List ℕ → ℕ → ℕ → List Bounds
 chosen dims selected a n = map (dim_at dims) (filter (λ dim. is_some (place_in selected dim)) (range_with_len a n))
 
 -- the pre-images of the first dimension are the selected ones
-preimages_chosen : (side : Bounds → ℤ → ℤ → Edge) (edge : Bounds → Edge) → ((b : Bounds) → side b (pos 0) (pos 1) ≡ edge b)
+preimages_chosen : (side : Bounds → ℤ → ℤ → Ends) (edge : Bounds → Ends) → ((b : Bounds) → side b (pos 0) (pos 1) ≡ edge b)
     → (dims : List Bounds) (selected rest : List ℕ) (a : ℕ) (outers : List Bounds) → ((i : ℕ) → i < length outers → get_or outers i point ≡ dim_at dims (a + i))
     → preimages side 0 outers (map (left_map selected rest 1 diagonal_map) (range_with_len a (length outers))) ≡ map edge (chosen dims selected a (length outers))
 preimages_chosen side edge same dims selected rest a [] each = refl
@@ -45,7 +48,7 @@ preimages_chosen side edge same dims selected rest a (d ∷ outers) each =
     here : d ≡ dim_at dims a
     here = each 0 (omega arith) ∙ (let z : a + 0 ≡ a = omega arith in ap (dim_at dims) z)
 
-    more : List Edge
+    more : List Ends
     more = preimages side 0 outers (map (left_map selected rest 1 diagonal_map) (range_with_len (a + 1) (length outers)))
 
     told : (o : Option ℕ)
@@ -53,8 +56,8 @@ preimages_chosen side edge same dims selected rest a (d ∷ outers) each =
         → preimages side 0 (d ∷ outers) (left_by rest 1 diagonal_map a o ∷ map (left_map selected rest 1 diagonal_map) (range_with_len (a + 1) (length outers)))
         ≡ map edge (map (dim_at dims) (cond (is_some o) (a ∷ filter (λ dim. is_some (place_in selected dim)) (range_with_len (a + 1) (length outers))) (filter (λ dim. is_some (place_in selected dim)) (range_with_len (a + 1) (length outers)))))
     told (Some place) rest_is =
-        ap (λ (e : Edge). e ∷ preimages side 0 outers (map (left_map selected rest 1 diagonal_map) (range_with_len (a + 1) (length outers)))) (same d ∙ ap edge here)
-        ∙ ap (λ (es : List Edge). edge (dim_at dims a) ∷ es) rest_is
+        ap (λ (e : Ends). e ∷ preimages side 0 outers (map (left_map selected rest 1 diagonal_map) (range_with_len (a + 1) (length outers)))) (same d ∙ ap edge here)
+        ∙ ap (λ (es : List Ends). edge (dim_at dims a) ∷ es) rest_is
     told None rest_is =
         let apart : (1 + unwrap_or (place_in rest a) 0 == 0) ≡ false = grind (arith, nat_tests) in
         rw apart rest_is
@@ -88,6 +91,15 @@ one_above m dims selected a (suc n) dim low high there all = told (is_some (plac
     told false true e f all later = let same : a ≡ dim = grind (arith, nat_tests) in absurd (let g = ap (λ k. is_some (place_in selected k)) same in cc)
     told false false e f all later = let l : (a + 1) ≤ dim = grind (arith, nat_tests) in later l all
 
+-- a side of a meet that there may be
+low_of_met : (o : Option Ends) → unwrap_or (option_map (λ m. m.lower) o) (lower_edge unbounded) ≡ (unwrap_or o (ends_of unbounded)).lower
+low_of_met None = refl
+low_of_met (Some m) = refl
+
+high_of_met : (o : Option Ends) → unwrap_or (option_map (λ m. m.upper) o) (upper_edge unbounded) ≡ (unwrap_or o (ends_of unbounded)).upper
+high_of_met None = refl
+high_of_met (Some m) = refl
+
 -- what is built has an unbounded dimension in place of the meet
 abbrev pub diagonal_built : DomainAndMaps → List ℕ → DomainAndMaps
 diagonal_built u selected = without u selected (unbounded ∷ []) diagonal_map
@@ -115,20 +127,28 @@ module _ (u : DomainAndMaps) (selected : List ℕ) (t : IsTransform u) (bounds :
       shifted : (i : ℕ) → i < length u.domain.dims → get_or u.domain.dims i point ≡ dim_at u.domain.dims (0 + i)
       shifted i h = let z : i ≡ 0 + i = omega arith in ap (dim_at u.domain.dims) z
 
-      lows : preimages preimage_lower 0 u.domain.dims (maps u selected 1 diagonal_map) ≡ map lower_edge (selected_dims u selected)
-      lows = preimages_chosen preimage_lower lower_edge preimage_lower-same u.domain.dims selected (others selected (length u.domain.dims)) 0 u.domain.dims shifted
+      pres : preimages preimage 0 u.domain.dims (maps u selected 1 diagonal_map) ≡ map ends_of (selected_dims u selected)
+      pres = preimages_chosen preimage ends_of preimage-same u.domain.dims selected (others selected (length u.domain.dims)) 0 u.domain.dims shifted
 
-      highs : preimages preimage_upper 0 u.domain.dims (maps u selected 1 diagonal_map) ≡ map upper_edge (selected_dims u selected)
-      highs = preimages_chosen preimage_upper upper_edge preimage_upper-same u.domain.dims selected (others selected (length u.domain.dims)) 0 u.domain.dims shifted
+      low : tight_lower 0 unbounded u.domain.dims (maps u selected 1 diagonal_map) ≡ (meet_ends (selected_dims u selected)).lower
+      low = ap (λ (es : List Ends). unwrap_or (option_map (λ m. m.lower) (met es)) (lower_edge unbounded)) pres ∙ low_of_met (met (map ends_of (selected_dims u selected)))
+
+      high : tight_upper 0 unbounded u.domain.dims (maps u selected 1 diagonal_map) ≡ (meet_ends (selected_dims u selected)).upper
+      high = ap (λ (es : List Ends). unwrap_or (option_map (λ m. m.upper) (met es)) (upper_edge unbounded)) pres ∙ high_of_met (met (map ends_of (selected_dims u selected)))
 
       first : IsTightened 0 unbounded (meet_of (selected_dims u selected)) u.domain.dims (maps u selected 1 diagonal_map)
-      first = record { interval = rw (lows, highs) refl; low_index = rw lows (low_index (selected_dims u selected)); high_index = rw highs (high_index (selected_dims u selected)) }
+      first = record {
+        interval = ap (λ (e : Edge). interval_of e (tight_upper 0 unbounded u.domain.dims (maps u selected 1 diagonal_map))) low
+            ∙ ap (λ (e : Edge). interval_of ((meet_ends (selected_dims u selected)).lower) e) high;
+        low_index = subst (λ (e : Edge). ForSome e.at IsIndex) (sym low) (meet_low_index (selected_dims u selected));
+        high_index = subst (λ (e : Edge). ForSome e.at IsIndex) (sym high) (meet_high_index (selected_dims u selected));
+      }
 
       tight : (i : ℕ) → i < 1 → IsTightened i (get_or (unbounded ∷ []) i point) (get_or (meet_of (selected_dims u selected) ∷ []) i point) u.domain.dims (maps u selected 1 diagonal_map)
       tight zero h = first
       tight (suc i) h = absurd (omega (arith, h))
 
-  pub IsTransform-diagonal : IsTransform (diagonal_built u selected)
+  pub IsTransform-diagonal : KeepsRules (diagonal_built u selected)
   IsTransform-diagonal = is_transform u selected 1 diagonal_map (unbounded ∷ []) (meet_of (selected_dims u selected) ∷ []) t bounds goes
 
   pub tight-diagonal : tighten_answer (diagonal_built u selected) u.domain ≡ Ok (diagonal_view u selected)
@@ -151,5 +171,8 @@ same_values u selected index = each (range_with_len 0 (length u.domain.dims))
         (one ((diagonal_built u selected).domain.dims) ((diagonal_view u selected).domain.dims) x (place_in selected x))
         ∙ ap (λ ys. map_value ((diagonal_view u selected).domain.dims) index (left_map selected (others selected (length u.domain.dims)) 1 diagonal_map x) ∷ ys) (each xs)
 
-pub agrees_diagonal : (t u : DomainAndMaps) (selected : List ℕ) → AgreesOnCells t u (diagonal_built u selected) → AgreesOnCells t u (diagonal_view u selected)
-agrees_diagonal t u selected agrees index cell = agrees index cell ∙ ap (value_at u) (same_values u selected index)
+pub agrees_diagonal : (t u : DomainAndMaps) (selected : List ℕ) → Follows t u (diagonal_built u selected) → Follows t u (diagonal_view u selected)
+agrees_diagonal t u selected follows = record {
+  values = λ index cell. follows.values index cell ∙ ap (value_at u) (same_values u selected index);
+  inside = λ finite index cell. ap (first_outside u.domain.dims) (sym (same_values u selected index)) ∙ follows.inside finite index cell;
+}

@@ -1,17 +1,18 @@
 -- The meet of intervals lies in each of them.
-use Rattle.std.proofs.Common.{◌≡◌, Bool, true, false, cond, not, ◌&&◌, ◌||◌, List, [], ◌∷◌, map, refl, sym, subst, arith, ℤ, pos, ◌≤ℤ◌, ◌<ℤ◌, ◌+ℤ◌, ◌-ℤ◌, Option, Some, None, unwrap_or, fold, if◌then◌else◌}
+use Rattle.std.proofs.Common.{◌≡◌, ◌∙◌, ap, Bool, true, false, cond, not, ◌&&◌, ◌||◌, List, [], ◌∷◌, map, refl, sym, subst, arith, ℤ, pos, ◌≤ℤ◌, ◌<ℤ◌, ◌+ℤ◌, ◌-ℤ◌, Option, Some, None, unwrap_or, fold, if◌then◌else◌}
 use Rattle.std.proofs.lemmas.Int.{ints}
 use Rattle.std.specs.Option.{ForSome}
 use Rattle.std.specs.Int.{int_max, int_min}
 use Rattle.std.specs.Int.RustNames.{int_lt}
 use Rattle.index_intervals.specs.Bounds.{Bounds, AreBounds, IsIndex, is_index, minus_infinity, plus_infinity}
-use Rattle.index_intervals.proofs.MemberLemmas.{lo_infinite, hi_infinite}
-use Rattle.index_transform.specs.Edges.{finite_part, lower_edge, upper_edge}
-use Rattle.index_transform.specs.Inside.{end_inside, are_ends_inside}
-use Rattle.index_transform.specs.Tightening.{greater_at, greater_edge, lesser_at, lesser_edge, met_from}
-use Rattle.dim_expressions.specs.Arrangements.{unbounded, meet_of}
+use Rattle.index_intervals.proofs.Laws.{lo_infinite, hi_infinite}
+use Rattle.index_intervals.specs.Edges.{finite_part, lower_edge, upper_edge, ends_of, interval_of}
+use Rattle.transform_composition.specs.Inside.{end_inside, are_ends_inside}
+use Rattle.index_intervals.specs.Meet.{greater_at, greater_edge, lesser_at, lesser_edge, cross_at, below, uncrossed}
+use Rattle.dim_expressions.specs.Diagonal.{unbounded, meet_of, meet_ends}
+use Rattle.index_intervals.specs.declared.edge.Ends.{Ends}
 use Rattle.dim_expressions.proofs.PassedLaws.{as_it_is, lies}
-use Rattle.dim_expressions.proofs.TightBounds.{Edge, finite_part-index}
+use Rattle.dim_changes.proofs.TightBounds.{Edge, finite_part-index}
 
 -- one lower bound is at least another, and one upper bound at most another; none is infinite
 abbrev pub AtLeast : Option ℤ → Option ℤ → Type 0
@@ -94,6 +95,11 @@ abbrev pub AllIndex : List Edge → Type 0
 AllIndex [] = Unit {0}
 AllIndex (e ∷ es) = ForSome e.at IsIndex × AllIndex es
 
+abbrev pub met_from : (Edge → Edge → Edge) → Option Edge → List Edge → Option Edge
+met_from further None [] = None
+met_from further None (edge ∷ edges) = Some (fold further edge edges)
+met_from further (Some edge) edges = Some (fold further edge edges)
+
 module _ (further : Edge → Edge → Edge) (Holds : Option ℤ → Option ℤ → Type 0) (self : (o : Option ℤ) → Holds o o)
     (trans : (a b c : Option ℤ) → Holds a b → Holds b c → Holds a c)
     (left : (a b : Edge) → Holds ((further a b).at) a.at) (right : (a b : Edge) → Holds ((further a b).at) b.at)
@@ -118,7 +124,7 @@ module _ (further : Edge → Edge → Edge) (Holds : Option ℤ → Option ℤ �
   met_index [] other p q = p
   met_index (e ∷ es) other p q = fold_index es e q.0 q.1
 
--- the lower and the upper bounds of intervals
+-- the lower and the upper bounds of intervals, before they are put right where they cross
 
 abbrev pub low_of : List Bounds → Edge
 low_of dims = unwrap_or (met_from greater_edge None (map lower_edge dims)) (lower_edge unbounded)
@@ -186,8 +192,71 @@ bounds_at low high f g p q = whole (unwrap_or low minus_infinity) (unwrap_or hig
             let most : lo ≤ℤ (hi +ℤ pos 1) = grind (arith, ints) in
             record { lo_from = r.0; lo_below = r.1; hi_above = s.0; hi_to = s.1; ordered = most }
 
+-- the meet's ends are these bounds put right
+lows_mapped : (dims : List Bounds) → map (λ e. e.lower) (map ends_of dims) ≡ map lower_edge dims
+lows_mapped [] = refl
+lows_mapped (d ∷ dims) = ap (λ (es : List Edge). lower_edge d ∷ es) (lows_mapped dims)
+
+highs_mapped : (dims : List Bounds) → map (λ e. e.upper) (map ends_of dims) ≡ map upper_edge dims
+highs_mapped [] = refl
+highs_mapped (d ∷ dims) = ap (λ (es : List Edge). upper_edge d ∷ es) (highs_mapped dims)
+
+abbrev raw : List Bounds → Ends
+raw dims = record { lower = low_of dims; upper = high_of dims }
+
+pub meet_ends-raw : (dims : List Bounds) → meet_ends dims ≡ uncrossed (raw dims)
+meet_ends-raw [] = refl
+meet_ends-raw (d ∷ dims) =
+    ap (λ (es : List Edge). uncrossed (record { lower = fold greater_edge (lower_edge d) es; upper = fold lesser_edge (upper_edge d) (map (λ e. e.upper) (map ends_of dims)) })) (lows_mapped dims)
+    ∙ ap (λ (es : List Edge). uncrossed (record { lower = fold greater_edge (lower_edge d) (map lower_edge dims); upper = fold lesser_edge (upper_edge d) es })) (highs_mapped dims)
+
+-- an interval puts crossed bounds right itself
+interval_of-uncrossed : (e : Ends) → interval_of ((uncrossed e).lower) ((uncrossed e).upper) ≡ interval_of e.lower e.upper
+interval_of-uncrossed e = told e.lower.at e.upper.at
+  where
+    same : (m n : Option ℤ) → (let lo = unwrap_or m minus_infinity in let hi = unwrap_or (if cross_at m n then below m else n) plus_infinity in if int_lt (hi +ℤ pos 1) lo then lo -ℤ pos 1 else hi)
+        ≡ (let lo = unwrap_or m minus_infinity in let hi = unwrap_or n plus_infinity in if int_lt (hi +ℤ pos 1) lo then lo -ℤ pos 1 else hi)
+    same None n = refl
+    same (Some x) None = refl
+    same (Some x) (Some y) = crossing (int_lt (y +ℤ pos 1) x) refl
+      where
+        crossing : (b : Bool) → int_lt (y +ℤ pos 1) x ≡ b
+            → (let hi = unwrap_or (if b then Some (x -ℤ pos 1) else Some y) plus_infinity in if int_lt (hi +ℤ pos 1) x then x -ℤ pos 1 else hi) ≡ (if int_lt (y +ℤ pos 1) x then x -ℤ pos 1 else y)
+        crossing true c = let n : int_lt (x -ℤ pos 1 +ℤ pos 1) x ≡ false = grind (arith, ints) in rw (c, n) refl
+        crossing false c = rw c refl
+
+    told : (m n : Option ℤ) → interval_of ((uncrossed e).lower) ((uncrossed e).upper) ≡ interval_of e.lower e.upper
+    told m n = ap (λ (h : ℤ). let r : Bounds = record { lo = unwrap_or e.lower.at minus_infinity; hi = h; lo_implicit = e.lower.implicit; hi_implicit = e.upper.implicit } in r) (same e.lower.at e.upper.at)
+
+pub meet_of-raw : (dims : List Bounds) → meet_of dims ≡ interval_of (low_of dims) (high_of dims)
+meet_of-raw dims = ap (λ (e : Ends). interval_of e.lower e.upper) (meet_ends-raw dims) ∙ interval_of-uncrossed (raw dims)
+
+-- and they are finite indices or missing
+uncrossed_index : (m n : Option ℤ) → ForSome m IsIndex → ForSome n IsIndex → ForSome (if cross_at m n then below m else n) IsIndex
+uncrossed_index None n p q = q
+uncrossed_index (Some x) None p q = q
+uncrossed_index (Some x) (Some y) p q = told (int_lt (y +ℤ pos 1) x) refl
+  where
+    told : (b : Bool) → int_lt (y +ℤ pos 1) x ≡ b → ForSome (if b then Some (x -ℤ pos 1) else Some y) IsIndex
+    told false c = q
+    told true c =
+        let i = p x refl in
+        let j = q y refl in
+        let a = i.below in
+        let d = j.above in
+        of_some IsIndex (x -ℤ pos 1) (record { above = grind (arith, ints, c, d); below = omega (arith, ints, a) })
+
+pub meet_low_index : (dims : List Bounds) → ForSome ((meet_ends dims).lower.at) IsIndex
+meet_low_index dims = subst (λ (e : Ends). ForSome e.lower.at IsIndex) (sym (meet_ends-raw dims)) (low_index dims)
+
+pub meet_high_index : (dims : List Bounds) → ForSome ((meet_ends dims).upper.at) IsIndex
+meet_high_index dims = subst (λ (e : Ends). ForSome e.upper.at IsIndex) (sym (meet_ends-raw dims)) (uncrossed_index ((low_of dims).at) ((high_of dims).at) (low_index dims) (high_index dims))
+
+raw_bounds : (dims : List Bounds) → AreBounds (interval_of (low_of dims) (high_of dims))
+raw_bounds dims = bounds_at ((low_of dims).at) ((high_of dims).at) ((low_of dims).implicit) ((high_of dims).implicit) (low_index dims) (high_index dims)
+
 pub meet_bounds : (dims : List Bounds) → AreBounds (meet_of dims)
-meet_bounds dims = bounds_at ((low_of dims).at) ((high_of dims).at) ((low_of dims).implicit) ((high_of dims).implicit) (low_index dims) (high_index dims)
+meet_bounds dims = subst AreBounds (sym (meet_of-raw dims)) (raw_bounds dims)
 
 -- an interval within another one goes into it
 within : (m outer : Bounds) → AreBounds m → AreBounds outer → (m.lo ≤ℤ m.hi → outer.lo ≤ℤ m.lo) → (m.lo ≤ℤ m.hi → m.hi ≤ℤ outer.hi) → are_ends_inside m outer (pos 0) (pos 1) ≡ true
@@ -238,10 +307,11 @@ within m outer p o above below = told (int_lt m.hi m.lo) refl
 -- the meet goes into an interval that neither of its bounds passes
 pub meet_within : (dims : List Bounds) (outer : Bounds) → AreBounds outer → AtLeast ((low_of dims).at) (finite_part outer.lo) → AtMost ((high_of dims).at) (finite_part outer.hi)
     → are_ends_inside (meet_of dims) outer (pos 0) (pos 1) ≡ true
-meet_within dims outer o least most = within (meet_of dims) outer (meet_bounds dims) o
+meet_within dims outer o least most =
+    subst (λ (m : Bounds). are_ends_inside m outer (pos 0) (pos 1) ≡ true) (sym (meet_of-raw dims)) (within (interval_of (low_of dims) (high_of dims)) outer (raw_bounds dims) o
     (λ h. lower ((low_of dims).at) (low_index dims) (is_index outer.lo) refl least)
     (λ h. kept (unwrap_or ((low_of dims).at) minus_infinity) (unwrap_or ((high_of dims).at) plus_infinity) (int_lt (unwrap_or ((high_of dims).at) plus_infinity +ℤ pos 1) (unwrap_or ((low_of dims).at) minus_infinity)) refl h
-    (upper ((high_of dims).at) (high_index dims) (is_index outer.hi) refl most))
+    (upper ((high_of dims).at) (high_index dims) (is_index outer.hi) refl most)))
   where
     lower : (low : Option ℤ) → ForSome low IsIndex → (b : Bool) → is_index outer.lo ≡ b → AtLeast low (cond b (Some outer.lo) None) → outer.lo ≤ℤ unwrap_or low minus_infinity
     lower None p true e r = absurd r

@@ -1,30 +1,32 @@
 -- Dimensions of one cell, put between the old ones.
+use Rattle.index_intervals.proofs.Laws.{preimage-ordered}
 use Rattle.std.proofs.Common.{◌≡◌, ◌≢◌, ◌∙◌, ℕ, ◌+◌, ◌<◌, ◌≤◌, true, false, List, [], length, map, get_or, unwrap_or, refl, sym, ap, arith, pos, Option, Some, None, IsTrue}
 use Rattle.std.proofs.lemmas.Int.{ints}
 use Rattle.std.proofs.lemmas.Bool.Decides.{nat_tests}
 use Rattle.std.specs.List.{range_with_len}
 use Rattle.index_intervals.specs.Bounds.{Bounds, AreBounds}
 use Rattle.index_transform.specs.declared.map.OutMap.{OutMap}
-use Rattle.index_transform.specs.Edges.{preimage_lower, preimage_upper}
+use Rattle.index_intervals.specs.Edges.{preimage_lower, preimage_upper}
 use Rattle.index_transform.specs.Maps.{is_map, is_plain, are_labels, has_ranks}
-use Rattle.index_transform.specs.Inside.{is_inside_by}
-use Rattle.index_transform.specs.Reading.{point}
-use Rattle.index_transform.specs.Composing.{nowhere}
-use Rattle.index_transform.specs.Transforms.{DomainAndMaps, IsTransform}
-use Rattle.index_transform.proofs.EdgeLemmas.{get_or-inside}
-use Rattle.dim_expressions.specs.Dims.{place_in, others}
-use Rattle.dim_expressions.specs.Arrangements.{passed, new_axis, axis_by, axis_label_by, newaxis_view}
+use Rattle.transform_composition.specs.Inside.{is_inside_by}
+use Rattle.transform_composition.specs.Reading.{point}
+use Rattle.transform_composition.specs.Composing.{nowhere}
+use Rattle.index_transform.specs.Transforms.{DomainAndMaps, IsTransform, KeepsRules}
+use Rattle.index_transform.proofs.Laws.{get_or-inside}
+use Rattle.dim_changes.specs.Dims.{place_in, others}
+use Rattle.dim_expressions.specs.Left.{passed}
+use Rattle.dim_expressions.specs.Newaxis.{new_axis, axis_by, axis_label_by, newaxis_view}
 use Rattle.dim_expressions.proofs.CarriedLaws.{AreDims}
 use Rattle.dim_expressions.proofs.CountLaws.{others-count}
-use Rattle.dim_expressions.proofs.PlaceLaws.{place_in-Some}
-use Rattle.dim_expressions.proofs.RestLaws.{rest_at, rest_distinct, place_distinct}
-use Rattle.dim_expressions.proofs.LabelLaws.{AreLabels-from, are_labels-true, AreLabels-taken}
+use Rattle.dim_changes.proofs.PlaceLaws.{place_in-Some}
+use Rattle.dim_changes.proofs.LeftLaws.{rest_at, rest_distinct, place_distinct}
+use Rattle.dim_changes.proofs.LabelLaws.{AreLabels-from, are_labels-true, AreLabels-taken}
 use Rattle.dim_expressions.proofs.OindexLaws.{labels-length, ranks-few}
-use Rattle.dim_expressions.proofs.RangeLaws.{range-length, range-at, range-all, read-each}
+use Rattle.dim_changes.proofs.RangeLaws.{range-length, range-at, range-all, read-each}
 use Rattle.dim_expressions.proofs.PassedLaws.{ends_inside-same}
-use Rattle.dim_expressions.proofs.TightBounds.{IsTight, IsTight-none, IsTight-one, preimage_lower-same, preimage_upper-same}
-use Rattle.dim_expressions.proofs.TightMaps.{is_strided_from, preimages-none, preimages-one}
-use Rattle.dim_expressions.proofs.TightAnswers.{IsTightTransform}
+use Rattle.dim_changes.proofs.TightBounds.{IsTight, IsTight-none, IsTight-one, preimage_lower-same, preimage_upper-same}
+use Rattle.dim_changes.proofs.TightMaps.{is_strided_from, preimages-none, preimages-one}
+use Rattle.dim_changes.proofs.TightAnswers.{IsTightTransform}
 
 module _ (u : DomainAndMaps) (added : List ℕ) (t : IsTransform u)
     (bounds : (i : ℕ) → i < length u.domain.dims → AreBounds (get_or u.domain.dims i point))
@@ -124,7 +126,7 @@ module _ (u : DomainAndMaps) (added : List ℕ) (t : IsTransform u)
       grind (arith, nat_tests, a, b, c, few, old)
 
   -- what is built is a transform
-  pub IsTransform-newaxis : IsTransform (newaxis_view u added)
+  pub IsTransform-newaxis : KeepsRules (newaxis_view u added)
   IsTransform-newaxis = record {
     ranks = ranks;
     labels = good_labels;
@@ -170,6 +172,7 @@ module _ (u : DomainAndMaps) (added : List ℕ) (t : IsTransform u)
           let high = preimages-one preimage_upper position u.domain.dims maps k (pos 0) (pos 1) (omega (arith, i, lm)) lm m others in
           rw at
           (IsTight-one position (get_or u.domain.dims k point) u.domain.dims maps _ _ (bounds k is.inside) low high
+          (preimage-ordered (get_or u.domain.dims k point) (pos 0) (pos 1) (λ q. absurd (let no_such : ⊥ = cc in no_such)) (bounds k is.inside))
           (λ _. preimage_lower-same (get_or u.domain.dims k point)) (λ _. preimage_upper-same (get_or u.domain.dims k point)))
 
   inside : (dim : ℕ) → dim < rank → is_inside_by news (get_or u.domain.dims dim point) (passed (get_or olds dim 0)) ≡ true

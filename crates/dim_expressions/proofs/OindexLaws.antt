@@ -1,26 +1,29 @@
 -- Index arrays, each along a dimension of its own in place of a selected one.
+use Rattle.index_intervals.proofs.Laws.{preimage-ordered}
 use Rattle.std.proofs.Common.{◌≡◌, ◌≢◌, ◌∙◌, ℕ, ◌+◌, ◌<◌, ◌≤◌, ◌==◌, ◌&&◌, nat_le, Bool, true, false, List, [], length, map, get_or, refl, sym, ap, arith, ℤ, pos, Option, Some, None, IsTrue}
 use Rattle.std.proofs.lemmas.Int.{ints}
 use Rattle.std.proofs.lemmas.Bool.Decides.{nat_tests}
 use Rattle.std.specs.List.{list_all, range_with_len}
 use Rattle.index_intervals.specs.Bounds.{Bounds, AreBounds}
 use Rattle.index_transform.specs.declared.map.OutMap.{OutMap}
-use Rattle.index_transform.specs.Edges.{preimage_lower, preimage_upper}
+use Rattle.index_intervals.specs.Edges.{preimage_lower, preimage_upper}
 use Rattle.index_transform.specs.Maps.{is_map, is_plain, fits, are_entries, are_labels, has_ranks}
-use Rattle.index_transform.specs.Inside.{is_inside_by}
+use Rattle.transform_composition.specs.Inside.{is_inside_by}
 use Rattle.index_transform.specs.Values.{is_effective}
-use Rattle.index_transform.specs.Reading.{point}
-use Rattle.index_transform.specs.Composing.{nowhere}
-use Rattle.index_transform.specs.Transforms.{DomainAndMaps, IsTransform}
-use Rattle.index_transform.proofs.InsideLemmas.{both}
-use Rattle.dim_expressions.specs.Dims.{place_in, dim_at}
-use Rattle.dim_expressions.specs.Arrangements.{passed, array_map, array_dim, array_at, dim_by, label_by, map_by, indexed_dim, indexed_label, indexed_map, oindex_view, sizes_along}
-use Rattle.dim_expressions.proofs.LabelLaws.{AreLabels-from, are_labels-true, AreLabels-taken}
-use Rattle.dim_expressions.proofs.RangeLaws.{range-length, range-at, range-all}
+use Rattle.transform_composition.specs.Reading.{point}
+use Rattle.transform_composition.specs.Composing.{nowhere}
+use Rattle.index_transform.specs.Transforms.{DomainAndMaps, IsTransform, KeepsRules}
+use Rattle.index_transform.proofs.Laws.{both}
+use Rattle.dim_changes.specs.Dims.{place_in, dim_at}
+use Rattle.dim_expressions.specs.Left.{passed}
+use Rattle.dim_expressions.specs.Arrays.{array_map, array_dim, array_at, sizes_along}
+use Rattle.dim_expressions.specs.Oindex.{dim_by, label_by, map_by, indexed_dim, indexed_label, indexed_map, oindex_view}
+use Rattle.dim_changes.proofs.LabelLaws.{AreLabels-from, are_labels-true, AreLabels-taken}
+use Rattle.dim_changes.proofs.RangeLaws.{range-length, range-at, range-all}
 use Rattle.dim_expressions.proofs.PassedLaws.{ends_inside-same, entries_inside-same, entries-index, cell_count-along, fits-along}
-use Rattle.dim_expressions.proofs.TightBounds.{IsTight, IsTight-none, IsTight-one, preimage_lower-same, preimage_upper-same}
-use Rattle.dim_expressions.proofs.TightMaps.{is_strided_from, preimages-none, preimages-one}
-use Rattle.dim_expressions.proofs.TightAnswers.{IsTightTransform}
+use Rattle.dim_changes.proofs.TightBounds.{IsTight, IsTight-none, IsTight-one, preimage_lower-same, preimage_upper-same}
+use Rattle.dim_changes.proofs.TightMaps.{is_strided_from, preimages-none, preimages-one}
+use Rattle.dim_changes.proofs.TightAnswers.{IsTightTransform}
 
 -- the lists of the selected dimensions lie in them and are no longer than an index array
 abbrev pub IsArrayFor : Bounds → List ℤ → Type 0
@@ -134,7 +137,7 @@ module _ (u : DomainAndMaps) (selected : List ℕ) (arrays : List (List ℤ)) (t
       grind (arith, nat_tests, a, b, c, few, same)
 
   -- what is built is a transform
-  pub IsTransform-oindex : IsTransform (oindex_view u selected arrays)
+  pub IsTransform-oindex : KeepsRules (oindex_view u selected arrays)
   IsTransform-oindex = record {
     ranks = ranks;
     labels = labels;
@@ -167,6 +170,7 @@ module _ (u : DomainAndMaps) (selected : List ℕ) (arrays : List (List ℤ)) (t
           let high = preimages-one preimage_upper dim u.domain.dims maps dim (pos 0) (pos 1) k lm m apart in
           rw at
           (IsTight-one dim (get_or u.domain.dims dim point) u.domain.dims maps _ _ (bounds dim h) low high
+          (preimage-ordered (get_or u.domain.dims dim point) (pos 0) (pos 1) (λ q. absurd (let no_such : ⊥ = cc in no_such)) (bounds dim h))
           (λ _. preimage_lower-same (get_or u.domain.dims dim point)) (λ _. preimage_upper-same (get_or u.domain.dims dim point)))
       told (Some place) e =
           let at : get_or news dim point ≡ array_dim (array_at arrays place) = dim-at dim point h ∙ ap (dim_by u.domain.dims arrays dim) e in

@@ -7,13 +7,13 @@ use Rattle.std.specs.Int.RustNames.{int_lt, int_le}
 use Rattle.std.specs.List.{list_all, range_with_len, zip}
 use Rattle.cells.specs.Places.{cell_count}
 use Rattle.index_intervals.specs.Bounds.{Bounds, AreBounds, is_index, minus_infinity, plus_infinity}
-use Rattle.index_intervals.proofs.MemberLemmas.{IsIndex-true, lo_infinite, hi_infinite}
+use Rattle.index_intervals.proofs.Laws.{IsIndex-true, lo_infinite, hi_infinite}
 use Rattle.index_transform.specs.Maps.{fits_dim, fits}
-use Rattle.index_transform.specs.Inside.{end_inside, are_ends_inside}
+use Rattle.transform_composition.specs.Inside.{end_inside, are_ends_inside}
 use Rattle.index_transform.specs.Values.{is_effective}
-use Rattle.index_transform.proofs.InsideLemmas.{both}
-use Rattle.dim_expressions.specs.Arrangements.{sizes_along, array_dim}
-use Rattle.dim_expressions.proofs.RangeLaws.{range-length}
+use Rattle.index_transform.proofs.Laws.{both}
+use Rattle.dim_expressions.specs.Arrays.{sizes_along, array_dim}
+use Rattle.dim_changes.proofs.RangeLaws.{range-length}
 
 pub as_it_is : (x : ℤ) → pos 0 +ℤ pos 1 *ℤ x ≡ x
 unfolding one

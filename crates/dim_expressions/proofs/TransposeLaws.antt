@@ -1,25 +1,27 @@
 -- Dimensions in another order.
+use Rattle.index_intervals.proofs.Laws.{preimage-ordered}
 use Rattle.std.proofs.Common.{◌≡◌, ◌≢◌, ◌∙◌, ℕ, ◌+◌, ◌<◌, true, false, List, [], ◌++◌, length, map, get_or, refl, sym, ap, arith, pos, IsTrue}
 use Rattle.std.proofs.lemmas.Bool.Decides.{nat_tests}
 use Rattle.std.specs.List.{range_with_len}
 use Rattle.index_intervals.specs.Bounds.{Bounds, AreBounds}
 use Rattle.index_transform.specs.declared.map.OutMap.{OutMap}
-use Rattle.index_transform.specs.Edges.{preimage_lower, preimage_upper}
+use Rattle.index_intervals.specs.Edges.{preimage_lower, preimage_upper}
 use Rattle.index_transform.specs.Maps.{is_map, is_plain, are_labels, has_ranks}
-use Rattle.index_transform.specs.Inside.{is_inside_by}
-use Rattle.index_transform.specs.Reading.{point}
-use Rattle.index_transform.specs.Composing.{nowhere}
-use Rattle.index_transform.specs.Transforms.{DomainAndMaps, IsTransform}
-use Rattle.dim_expressions.specs.Dims.{dim_at, label_at}
-use Rattle.dim_expressions.specs.Arrangements.{passed, carried, transpose_view}
+use Rattle.transform_composition.specs.Inside.{is_inside_by}
+use Rattle.transform_composition.specs.Reading.{point}
+use Rattle.transform_composition.specs.Composing.{nowhere}
+use Rattle.index_transform.specs.Transforms.{DomainAndMaps, IsTransform, KeepsRules}
+use Rattle.dim_changes.specs.Dims.{dim_at, label_at}
+use Rattle.dim_expressions.specs.Left.{passed}
+use Rattle.dim_expressions.specs.Transpose.{carried, transpose_view}
 use Rattle.dim_expressions.proofs.CarriedLaws.{AreDims, IsCarried, IsCarried-of}
-use Rattle.dim_expressions.proofs.LabelLaws.{AreLabels-from, are_labels-true, AreLabels-taken}
+use Rattle.dim_changes.proofs.LabelLaws.{AreLabels-from, are_labels-true, AreLabels-taken}
 use Rattle.dim_expressions.proofs.OindexLaws.{labels-length, ranks-few}
-use Rattle.dim_expressions.proofs.RangeLaws.{range-length, range-at, range-all, map-map}
+use Rattle.dim_changes.proofs.RangeLaws.{range-length, range-at, range-all, map-map}
 use Rattle.dim_expressions.proofs.PassedLaws.{ends_inside-same}
-use Rattle.dim_expressions.proofs.TightBounds.{IsTight, IsTight-one, preimage_lower-same, preimage_upper-same}
-use Rattle.dim_expressions.proofs.TightMaps.{is_strided_from, preimages-one}
-use Rattle.dim_expressions.proofs.TightAnswers.{IsTightTransform}
+use Rattle.dim_changes.proofs.TightBounds.{IsTight, IsTight-one, preimage_lower-same, preimage_upper-same}
+use Rattle.dim_changes.proofs.TightMaps.{is_strided_from, preimages-one}
+use Rattle.dim_changes.proofs.TightAnswers.{IsTightTransform}
 
 module _ (u : DomainAndMaps) (selected targets : List ℕ) (t : IsTransform u)
     (bounds : (i : ℕ) → i < length u.domain.dims → AreBounds (get_or u.domain.dims i point))
@@ -94,7 +96,7 @@ module _ (u : DomainAndMaps) (selected targets : List ℕ) (t : IsTransform u)
       grind (arith, nat_tests, a, b, c, few)
 
   -- what is built is a transform
-  pub IsTransform-transpose : IsTransform (transpose_view u selected targets)
+  pub IsTransform-transpose : KeepsRules (transpose_view u selected targets)
   IsTransform-transpose = record {
     ranks = ranks;
     labels = good_labels;
@@ -113,6 +115,7 @@ module _ (u : DomainAndMaps) (selected targets : List ℕ) (t : IsTransform u)
       let high = preimages-one preimage_upper position u.domain.dims maps (old position) (pos 0) (pos 1) (omega (arith, k, lm)) lm m apart in
       rw at
       (IsTight-one position (get_or u.domain.dims (old position) point) u.domain.dims maps _ _ (bounds (old position) k) low high
+      (preimage-ordered (get_or u.domain.dims (old position) point) (pos 0) (pos 1) (λ q. absurd (let no_such : ⊥ = cc in no_such)) (bounds (old position) k))
       (λ _. preimage_lower-same (get_or u.domain.dims (old position) point)) (λ _. preimage_upper-same (get_or u.domain.dims (old position) point)))
     where
       apart : (j : ℕ) → j < length maps → j ≢ old position → is_strided_from position (get_or maps j nowhere) ≡ false

@@ -4,24 +4,26 @@ use Rattle.std.proofs.lemmas.Bool.Decides.{nat_tests}
 use Rattle.std.specs.List.{All, list_all}
 use Rattle.index_intervals.specs.Bounds.{Bounds, AreBounds}
 use Rattle.index_transform.specs.declared.map.OutMap.{OutMap}
-use Rattle.index_transform.specs.Edges.{preimage_lower, preimage_upper}
+use Rattle.index_intervals.specs.Edges.{preimage_lower, preimage_upper}
 use Rattle.index_transform.specs.Maps.{is_map, fits, are_entries}
-use Rattle.index_transform.specs.Reading.{point}
-use Rattle.index_transform.specs.Composing.{nowhere}
-use Rattle.index_transform.specs.Tightening.{tighten_answer}
-use Rattle.index_transform.specs.Transforms.{DomainAndMaps, IsTransform}
-use Rattle.index_transform.proofs.InsideLemmas.{both, and-true}
-use Rattle.dim_expressions.specs.Causes.{first_cause}
-use Rattle.dim_expressions.specs.Dims.{place_in, others, dim_at}
-use Rattle.dim_expressions.specs.Arrangements.{left_by, sizes_along, array_dim, array_at, array_causes, are_joined, vindex_map, vindex_view}
+use Rattle.transform_composition.specs.Reading.{point}
+use Rattle.transform_composition.specs.Composing.{nowhere}
+use Rattle.transform_composition.specs.Tightening.{tighten_answer}
+use Rattle.index_transform.specs.Transforms.{DomainAndMaps, IsTransform, KeepsRules}
+use Rattle.index_transform.proofs.Laws.{both, and-true}
+use Rattle.dim_changes.specs.Causes.{first_cause}
+use Rattle.dim_changes.specs.Dims.{place_in, others, dim_at}
+use Rattle.dim_expressions.specs.Left.{left_by}
+use Rattle.dim_expressions.specs.Arrays.{sizes_along, array_dim, array_at, array_causes}
+use Rattle.dim_expressions.specs.Vindex.{are_joined, vindex_map, vindex_view}
 use Rattle.dim_expressions.proofs.ArrayCauses.{few-entries, arrays-fit}
 use Rattle.dim_expressions.proofs.DiagonalLaws.{one_fewer}
 use Rattle.dim_expressions.proofs.OindexLaws.{IsArrayFor, are_entries-along, AreBounds-array}
 use Rattle.dim_expressions.proofs.PassedLaws.{fits-along, entries_inside-same}
-use Rattle.dim_expressions.proofs.PlaceLaws.{place_in-Some}
-use Rattle.dim_expressions.proofs.TightBounds.{IsTight-none}
-use Rattle.dim_expressions.proofs.TightMaps.{is_strided_from, preimages-none}
-use Rattle.dim_expressions.proofs.TightAnswers.{IsTightened, IsTightened-same, tighten_answer-Ok}
+use Rattle.dim_changes.proofs.PlaceLaws.{place_in-Some}
+use Rattle.dim_changes.proofs.TightBounds.{IsTight-none}
+use Rattle.dim_changes.proofs.TightMaps.{is_strided_from, preimages-none}
+use Rattle.dim_changes.proofs.TightAnswers.{IsTightened, IsTightened-same, tighten_answer-Ok}
 use Rattle.dim_expressions.proofs.WithoutLaws.{GoIn, becomes, is_transform, maps, stay, maps_length, map_at, stay_length}
 
 all_at : (p : List ℤ → Bool) (xs : List (List ℤ)) (k : ℕ) (d : List ℤ) → list_all p xs ≡ true → k < length xs → p (get_or xs k d) ≡ true
@@ -110,7 +112,7 @@ module _ (u : DomainAndMaps) (selected : List ℕ) (arrays : List (List ℤ)) (t
     tight = tight;
   }
 
-  pub IsTransform-vindex : IsTransform (vindex_view u selected arrays)
+  pub IsTransform-vindex : KeepsRules (vindex_view u selected arrays)
   IsTransform-vindex = is_transform u selected 1 put (first ∷ []) (first ∷ []) t bounds goes
 
   pub tight-vindex : tighten_answer (vindex_view u selected arrays) u.domain ≡ Ok (vindex_view u selected arrays)

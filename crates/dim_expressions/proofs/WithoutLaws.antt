@@ -1,26 +1,29 @@
 -- New dimensions, and behind them those that stay.
-use Rattle.std.proofs.Common.{◌≡◌, ◌≢◌, ◌∙◌, ℕ, ◌+◌, ◌-◌, ◌<◌, ◌≤◌, ◌==◌, ◌&&◌, nat_le, nat_lt, Bool, true, false, List, [], ◌++◌, length, map, get_or, refl, sym, ap, subst, arith, pos, Option, Some, None, IsTrue, unwrap_or, length-append}
+use Rattle.std.proofs.Common.{◌≡◌, ◌≢◌, ◌∙◌, ℕ, ◌+◌, ◌-◌, ◌<◌, ◌≤◌, ◌==◌, ◌&&◌, nat_le, nat_lt, Bool, true, false, List, [], ◌∷◌, ◌++◌, length, map, get_or, refl, sym, ap, subst, arith, pos, Option, Some, None, IsTrue, unwrap_or, length-append}
+use Rattle.index_intervals.proofs.Laws.{preimage-ordered}
 use Rattle.std.proofs.lemmas.Bool.Decides.{nat_tests}
 use Rattle.std.proofs.lemmas.List.{length-map, get_or-map, get_or-append-add, get_or_append_left}
 use Rattle.std.specs.List.{list_all, range_with_len}
 use Rattle.index_intervals.specs.Bounds.{Bounds, AreBounds}
 use Rattle.index_transform.specs.declared.map.OutMap.{OutMap}
-use Rattle.index_transform.specs.Edges.{preimage_lower, preimage_upper}
-use Rattle.index_transform.specs.Inside.{is_inside_by}
+use Rattle.index_intervals.specs.Edges.{preimage_lower, preimage_upper}
+use Rattle.transform_composition.specs.Inside.{is_inside_by}
 use Rattle.index_transform.specs.Maps.{is_map, is_plain, are_labels, has_ranks}
-use Rattle.index_transform.specs.Reading.{point}
-use Rattle.index_transform.specs.Composing.{nowhere}
-use Rattle.index_transform.specs.Transforms.{DomainAndMaps, IsTransform}
-use Rattle.index_transform.proofs.InsideLemmas.{both}
-use Rattle.dim_expressions.specs.Dims.{place_in, others, dim_at, label_at}
-use Rattle.dim_expressions.specs.Arrangements.{passed, left_by, left_map}
-use Rattle.dim_expressions.proofs.RangeLaws.{range-length, range-at, range-all}
-use Rattle.dim_expressions.proofs.LeftLaws.{rest_at, rest_distinct, place_distinct, left_place}
-use Rattle.dim_expressions.proofs.LabelLaws.{AreLabels-from, AreLabels-taken, are_labels-true}
+use Rattle.transform_composition.specs.Reading.{point}
+use Rattle.transform_composition.specs.Composing.{nowhere}
+use Rattle.index_transform.specs.Transforms.{DomainAndMaps, IsTransform, KeepsRules}
+use Rattle.index_transform.proofs.Laws.{both}
+use Rattle.dim_changes.specs.Dims.{place_in, others, dim_at, label_at}
+use Rattle.index_transform.specs.declared.domain.Domain.{Domain}
+use Rattle.dim_expressions.specs.Left.{passed, left_by, left_map, rank_of, without}
+use Rattle.dim_changes.proofs.StepLemmas.{made-of}
+use Rattle.dim_changes.proofs.RangeLaws.{range-length, range-at, range-all}
+use Rattle.dim_changes.proofs.LeftLaws.{rest_at, rest_distinct, place_distinct, left_place}
+use Rattle.dim_changes.proofs.LabelLaws.{AreLabels-from, AreLabels-taken, are_labels-true}
 use Rattle.dim_expressions.proofs.PassedLaws.{ends_inside-same}
-use Rattle.dim_expressions.proofs.TightBounds.{IsTight, IsTight-one, preimage_lower-same, preimage_upper-same}
-use Rattle.dim_expressions.proofs.TightMaps.{is_strided_from, preimages-one}
-use Rattle.dim_expressions.proofs.TightAnswers.{IsTightened, IsTightened-same, BecomesTight}
+use Rattle.dim_changes.proofs.TightBounds.{IsTight, IsTight-one, preimage_lower-same, preimage_upper-same}
+use Rattle.dim_changes.proofs.TightMaps.{is_strided_from, preimages-one}
+use Rattle.dim_changes.proofs.TightAnswers.{IsTightened, IsTightened-same, BecomesTight}
 
 -- a transform has one label per dimension, 32 at most
 pub labels_count : (u : DomainAndMaps) → IsTransform u → length u.domain.labels ≡ length u.domain.dims
@@ -128,6 +131,7 @@ module _ (u : DomainAndMaps) (selected : List ℕ) (count : ℕ) (put : ℕ → 
       IsTight-one (count + p) (get_or u.domain.dims dim point) u.domain.dims (maps u selected count put) _ _ (bounds dim below)
       (preimages-one preimage_lower (count + p) u.domain.dims (maps u selected count put) dim (pos 0) (pos 1) k lm m others_apart)
       (preimages-one preimage_upper (count + p) u.domain.dims (maps u selected count put) dim (pos 0) (pos 1) k lm m others_apart)
+      (preimage-ordered (get_or u.domain.dims dim point) (pos 0) (pos 1) (λ q. absurd (let no_such : ⊥ = cc in no_such)) (bounds dim below))
       (λ _. preimage_lower-same (get_or u.domain.dims dim point)) (λ _. preimage_upper-same (get_or u.domain.dims dim point))
 
   inside_at : (dim : ℕ) → dim < length u.domain.dims → is_inside_by (news ++ stay u selected count put) (get_or u.domain.dims dim point) (left_map selected (rest u selected count put) count put dim) ≡ true
@@ -237,7 +241,7 @@ module _ (u : DomainAndMaps) (selected : List ℕ) (count : ℕ) (put : ℕ → 
           omega (arith, d, one, two)
 
   -- what is built is a transform
-  pub is_transform : IsTransform (record { domain = record { dims = firsts ++ stay u selected count put; labels = names }; maps = maps u selected count put })
+  pub is_transform : KeepsRules (record { domain = record { dims = firsts ++ stay u selected count put; labels = names }; maps = maps u selected count put })
   is_transform = record {
     ranks = ranks;
     labels = are_names;
@@ -253,3 +257,21 @@ module _ (u : DomainAndMaps) (selected : List ℕ) (count : ℕ) (put : ℕ → 
           let few = g.few in
           let old = rank_few u t in
           grind (arith, nat_tests, a, b, c, few, old)
+
+-- what is made of the dimensions that stay, behind new ones, is the view
+pub without-made : (u : DomainAndMaps) (selected rest : List ℕ) (news : List Bounds) (put : ℕ → OutMap) (domain : Domain) (olds : List Bounds) (ms : List OutMap)
+    → rest ≡ others selected (rank_of u) → olds ≡ u.domain.dims
+    → domain ≡ (let x : Domain = record { dims = news ++ map (dim_at u.domain.dims) rest; labels = map (λ _. []) news ++ map (label_at u.domain.labels) rest } in x)
+    → ms ≡ map (left_map selected rest (length news) put) (range_with_len 0 (length olds))
+    → (let b : DomainAndMaps = record { domain = domain; maps = ms } in b) ≡ without u selected news put
+without-made u selected rest news put domain olds ms e o d m =
+    made-of (without u selected news put) domain ms
+    (d ∙ ap (λ (r : List ℕ). let x : Domain = record { dims = news ++ map (dim_at u.domain.dims) r; labels = map (λ _. []) news ++ map (label_at u.domain.labels) r } in x) e)
+    (m ∙ ap (λ (r : List ℕ). map (left_map selected r (length news) put) (range_with_len 0 (length olds))) e
+    ∙ ap (λ (os : List Bounds). map (left_map selected (others selected (rank_of u)) (length news) put) (range_with_len 0 (length os))) o)
+
+-- a first dimension in front, by another name
+pub front-is : (u : DomainAndMaps) (rest : List ℕ) (a b : Bounds) (domain : Domain)
+    → domain ≡ (let x : Domain = record { dims = a ∷ map (dim_at u.domain.dims) rest; labels = [] ∷ map (label_at u.domain.labels) rest } in x) → a ≡ b
+    → domain ≡ (let x : Domain = record { dims = (b ∷ []) ++ map (dim_at u.domain.dims) rest; labels = map (λ _. []) (b ∷ []) ++ map (label_at u.domain.labels) rest } in x)
+front-is u rest a b domain d e = d ∙ ap (λ (y : Bounds). let x : Domain = record { dims = y ∷ map (dim_at u.domain.dims) rest; labels = [] ∷ map (label_at u.domain.labels) rest } in x) e

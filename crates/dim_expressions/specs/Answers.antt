@@ -1,16 +1,26 @@
 -- What a step on selected dimensions gives, and the old index vector of a new one.
-use Rattle.std.specs.Prelude.{◌≡◌, ℕ, ℤ, List, [], unwrap_or, Result, Ok}
+use Rattle.std.specs.Prelude.{◌≡◌, ℕ, ℤ, List, [], unwrap_or, None, Result, Ok, Err, IsTrue}
+use Rattle.std.specs.List.{list_all}
+use Rattle.index_transform.specs.Cells.{is_finite}
 use Rattle.index_transform.specs.Transforms.{DomainAndMaps}
-use Rattle.index_transform.specs.Values.{value_at}
+use Rattle.index_transform.specs.Values.{value_at, first_outside}
 use Rattle.index_transform.specs.Walks.{IsCell}
 use Rattle.json_forms.specs.Lists.{all_of}
-use Rattle.dim_expressions.specs.declared.act.Act.{Act}
-use Rattle.dim_expressions.specs.declared.act.Act.TheVariants as act
-use Rattle.dim_expressions.specs.declared.cause.Cause.{Cause}
-use Rattle.dim_expressions.specs.Dims.{position_of}
-use Rattle.dim_expressions.specs.Cuts.{cut_view, cut_answer}
-use Rattle.dim_expressions.specs.Marks.{label_answer, mark_answer}
-use Rattle.dim_expressions.specs.Arrangements.{rank_of, at_view, at_answer, diagonal_view, diagonal_answer, oindex_view, oindex_answer, vindex_view, vindex_answer, transpose_view, transpose_answer, newaxis_view, newaxis_answer}
+use Rattle.step_forms.specs.declared.act.Act.{Act}
+use Rattle.dim_changes.specs.declared.cause.Cause.{Cause}
+use Rattle.dim_changes.specs.declared.cause.Fault.{Fault}
+use Rattle.dim_changes.specs.Causes.{IsFaultOf}
+use Rattle.dim_changes.specs.Dims.{position_of}
+use Rattle.dim_changes.specs.Cuts.{cut_view, cut_answer}
+use Rattle.dim_changes.specs.Marks.{label_answer, mark_answer}
+use Rattle.dim_expressions.specs.Left.{rank_of}
+use Rattle.dim_expressions.specs.At.{at_view, at_answer}
+use Rattle.dim_expressions.specs.Diagonal.{diagonal_view, diagonal_answer}
+use Rattle.dim_expressions.specs.Oindex.{oindex_view, oindex_answer}
+use Rattle.dim_expressions.specs.Vindex.{vindex_view, vindex_answer}
+use Rattle.dim_expressions.specs.Transpose.{transpose_view, transpose_answer}
+use Rattle.dim_expressions.specs.Newaxis.{newaxis_view, newaxis_answer}
+use Rattle.step_forms.specs.declared.act.Act.TheVariants as act
 
 abbrev pub step_answer : DomainAndMaps → List ℕ → Act → Result DomainAndMaps Cause
 step_answer u selected (act.Label labels) = label_answer u selected labels
@@ -45,7 +55,14 @@ old_index u selected act.Newaxis index = value_at (newaxis_view u selected) inde
 old_index u selected (act.MarkBoundsImplicit lower upper) index = index
 
 -- a step's result has the domain, labels and maps of the step, and at each index vector between its bounds the old value at
--- the old index vector
+-- the old index vector; where it is finite, the old effective domain has the old index vector of each cell
 pub record IsStepped (u : DomainAndMaps) (selected : List ℕ) (a : Act) (t : DomainAndMaps) : Type 0 where
   pub answer : step_answer u selected a ≡ Ok t
   pub values : (index : List ℤ) → IsCell t.domain.dims index → value_at t index ≡ value_at u (old_index u selected a index)
+  pub inside : IsTrue (list_all is_finite t.domain.dims) → (index : List ℤ) → IsCell t.domain.dims index
+      → first_outside u.domain.dims (old_index u selected a index) ≡ None
+
+-- what comes of a step: its result, or the cause against it; there may be no memory at any time
+abbrev pub IsOutcome : DomainAndMaps → List ℕ → Act → Result DomainAndMaps Fault → Type 0
+IsOutcome u selected a (Ok t) = IsStepped u selected a t
+IsOutcome u selected a (Err f) = IsFaultOf (step_answer u selected a) f

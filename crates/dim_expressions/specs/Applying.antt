@@ -1,38 +1,14 @@
 -- Steps one after another.
-use Rattle.std.specs.Prelude.{◌≡◌, ℕ, ◌+◌, Bool, true, false, List, [], ◌∷◌, Result, Ok, Err}
+use Rattle.std.specs.Prelude.{◌≡◌, ℕ, ◌+◌, List, [], ◌∷◌, Result, Ok, Err}
 use Rattle.index_transform.specs.Transforms.{DomainAndMaps}
-use Rattle.dim_expressions.specs.declared.act.Act.{Act}
-use Rattle.dim_expressions.specs.declared.act.Act.TheVariants as act
-use Rattle.dim_expressions.specs.declared.act.Step.{Step}
-use Rattle.dim_expressions.specs.declared.cause.Cause.{Cause}
-use Rattle.dim_expressions.specs.declared.cause.ApplyError.{ApplyError}
-use Rattle.dim_expressions.specs.declared.cause.ApplyError.TheVariants.{UnknownDim, RepeatedDim, Refused, Memory}
-use Rattle.dim_expressions.specs.declared.selection.SelectError.{SelectError}
-use Rattle.dim_expressions.specs.declared.selection.SelectError.TheVariants as select
-use Rattle.dim_expressions.specs.Selection.{selected_of, AreSelectors}
+use Rattle.step_forms.specs.declared.act.Step.{Step}
+use Rattle.dim_changes.specs.declared.cause.Cause.{Cause}
+use Rattle.dim_expressions.specs.declared.error.ApplyError.{ApplyError}
+use Rattle.dim_expressions.specs.declared.error.ApplyError.TheVariants.{UnknownDim, RepeatedDim, Refused, Memory}
+use Rattle.step_forms.specs.declared.selection.SelectError.{SelectError}
+use Rattle.step_forms.specs.Selection.{selected_of}
 use Rattle.dim_expressions.specs.Answers.{step_answer, IsStepped}
-use Rattle.dim_expressions.specs.Cuts.{HasIndicesAt}
-
--- the step is one that JSON can give: its selectors are those of a step, and its numbers are finite indices
-pub record IsGiven (step : Step) : Type 0 where
-  pub selectors : AreSelectors step
-  pub numbers : (place : ℕ) → HasIndicesAt step.act place
-
--- the step acts on each dimension by itself
-abbrev pub is_cut : Act → Bool
-is_cut (act.Label labels) = false
-is_cut (act.TranslateTo by) = true
-is_cut (act.TranslateBy by) = true
-is_cut (act.TranslateBackwardBy by) = true
-is_cut (act.Stride by) = true
-is_cut (act.Transpose targets) = false
-is_cut act.Diagonal = false
-is_cut (act.At by) = false
-is_cut (act.Slice by) = true
-is_cut (act.Oindex arrays) = false
-is_cut (act.Vindex arrays) = false
-is_cut act.Newaxis = false
-is_cut (act.MarkBoundsImplicit lower upper) = false
+use Rattle.step_forms.specs.declared.selection.SelectError.TheVariants as select
 
 -- why a step selects no dimensions, with its number
 abbrev pub select_error : ℕ → SelectError → ApplyError

@@ -1,35 +1,31 @@
 // Steps one after another.
-ghost use Rattle.std.specs.Prelude.{◌≡◌, ◌≢◌, ◌≤◌, ◌<◌, ℕ, true, length, Ok, Err, IfOk, IfErr};
 ghost use Rattle.std.specs.List.{All};
-ghost use Rattle.dim_expressions.specs.Applying.{is_cut, IsGiven, IsAfter, IsAfterAll, select_error, after_step, applied};
-ghost use Rattle.dim_expressions.specs.Answers.{IsStepped, step_answer};
-ghost use Rattle.dim_expressions.specs.Causes.{IsFaultOf};
-ghost use Rattle.dim_expressions.specs.Selection.{AreSelected};
-ghost use Rattle.dim_expressions.specs.Cuts.{HasIndicesAt};
-ghost use Rattle.dim_expressions.specs.declared.cause.ApplyError.{ApplyError};
+ghost use Rattle.std.specs.Prelude.{◌<◌, ◌≡◌, ◌≢◌, Err, IfErr, IfOk, Ok, length, true, ℕ};
+ghost use Rattle.dim_changes.specs.Cuts.{is_cut};
+ghost use Rattle.dim_expressions.specs.Answers.{IsOutcome};
+ghost use Rattle.dim_expressions.specs.Applying.{IsAfter, IsAfterAll, after_step, applied, select_error};
+ghost use Rattle.step_forms.specs.Given.{HasIndicesAt, IsGiven};
+ghost use Rattle.step_forms.specs.Selection.{AreSelected, selected_of};
+ghost use Rattle.dim_expressions.specs.declared.error.ApplyError.{ApplyError};
 
-use crate::act::{Act, Step};
-use crate::arranging::{at, diagonal};
-use crate::bounds::look_at_all;
-use crate::cause::{ApplyError, Fault};
-use crate::copies::copied;
-use crate::cutting::with_cuts;
-use crate::joining::vindex;
-use crate::labels::labelled;
-use crate::marks::with_marks;
-use crate::ordering::{newaxis, transpose};
-use crate::selection::{SelectError, selected};
-use crate::taking::oindex;
+use crate::at::at;
+use crate::diagonal::diagonal;
+use crate::error::ApplyError;
+use crate::newaxis::newaxis;
+use crate::oindex::oindex;
+use crate::transpose::transpose;
+use crate::vindex::vindex;
+use dim_changes::{Fault, labelled, look_at_all, with_cuts, with_marks};
 use index_transform::Transform;
 use std::alloc::Global;
+use step_forms::{Act, SelectError, Step, selected};
 
 // A step that acts on each dimension by itself.
 fn cut_by(alloc: Global, t: &Transform, dims: &[usize], act: &Act) -> Result<Transform, Fault>
     requires is_cut { is_cut act.now ≡ true }
     requires numbers { (place : ℕ) → HasIndicesAt act.now place }
     requires known { All (λ dim. dim < length t.now.domain.dims) dims.now }
-    ensures stepped { IfOk result (λ u. IsStepped t.now dims.now act.now u) }
-    ensures err { IfErr result (λ f. IsFaultOf (step_answer t.now dims.now act.now) f) }
+    ensures { IsOutcome t.now dims.now act.now result }
 {
     with_cuts(alloc, t, dims, act)
 }
@@ -38,8 +34,7 @@ fn cut_by(alloc: Global, t: &Transform, dims: &[usize], act: &Act) -> Result<Tra
 fn stepped_by(alloc: Global, t: &Transform, dims: &[usize], act: &Act) -> Result<Transform, Fault>
     requires numbers { (place : ℕ) → HasIndicesAt act.now place }
     requires selected { AreSelected act.now (length t.now.domain.dims) dims.now }
-    ensures stepped { IfOk result (λ u. IsStepped t.now dims.now act.now u) }
-    ensures err { IfErr result (λ f. IsFaultOf (step_answer t.now dims.now act.now) f) }
+    ensures { IsOutcome t.now dims.now act.now result }
 {
     look_at_all(t.domain().dims.items());
     match act {
@@ -79,11 +74,27 @@ fn after_step(
     ensures ok { IfOk result (λ u. IsAfter t.now step.now u) }
     ensures err { IfErr result (λ e. e ≢ ApplyError.Memory → after_step number t.now step.now ≡ Err e) }
 {
-    let dims = match selected(alloc, step, t.domain()) {
-        Ok(dims) => dims,
-        Err(e) => return Err(select_error(number, e)),
-    };
-    match stepped_by(alloc, t, &dims, &step.act) {
+    match selected(alloc, step, t.domain()) {
+        Ok(dims) => after_selected(alloc, number, t, step, &dims),
+        Err(e) => Err(select_error(number, e)),
+    }
+}
+
+// A step on the dimensions that it selects, with its number where it can't be done.
+fn after_selected(
+    alloc: Global,
+    number: u32,
+    t: &Transform,
+    step: &Step,
+    dims: &[usize],
+) -> Result<Transform, ApplyError>
+    requires given { IsGiven step.now }
+    requires found { selected_of step.now t.now.domain ≡ Ok dims.now }
+    requires selected { AreSelected step.now.act (length t.now.domain.dims) dims.now }
+    ensures ok { IfOk result (λ u. IsAfter t.now step.now u) }
+    ensures err { IfErr result (λ e. e ≢ ApplyError.Memory → after_step number t.now step.now ≡ Err e) }
+{
+    match stepped_by(alloc, t, dims, &step.act) {
         Ok(u) => Ok(u),
         Err(Fault::Refused { cause }) => Err(ApplyError::Refused {
             step: number,
@@ -113,7 +124,7 @@ pub fn apply(alloc: Global, t: &Transform, steps: &[Step]) -> Result<Transform, 
     ensures err { IfErr result (λ e. e ≢ ApplyError.Memory → applied t.now steps.now ≡ Err e) }
     ensures values { IfOk result (λ u. IsAfterAll t.now steps.now u) }
 {
-    let mut now = copied(alloc, t)?;
+    let mut now = t.copy(alloc)?;
     for k in 0..steps.len() {
         // So many steps would not fit the memory.
         let Ok(number) = u32::try_from(k) else {

@@ -1,41 +1,19 @@
-//! Dimension expressions: the steps by which views are cut out of index spaces.
+//! Dimension expressions: what steps make of an index transform, one after another.
 //!
-//! Other crates rest on `steps_of_json`, which says which steps a JSON value is, and on `applied`, the transform after the
-//! last of some steps.
+//! Other crates rest on `applied`, the transform after the last of some steps, and on `IsAfterAll`: each step's result has
+//! at each cell the value that the transform before it has at the step's old index vector.
 #![tactic(auto)]
 
-mod act;
 mod applying;
-mod arranging;
-mod bounds;
-mod cause;
-mod copies;
-mod cutting;
-mod dims;
+mod arrays;
+mod at;
+mod diagonal;
 mod error;
-mod joining;
-mod labels;
-mod marks;
-mod numbers;
-mod ordering;
-mod reading;
-mod selection;
-mod selector;
-mod slices;
-mod stepping;
-mod taking;
+mod left;
+mod newaxis;
+mod oindex;
+mod transpose;
+mod vindex;
 
-pub use act::{Act, Numbers, PerDim, Select, SlicePart, Slices, Step};
 pub use applying::apply;
-pub use cause::{ApplyError, Cause};
-pub use error::StepsError;
-pub use reading::read_steps;
-
-#[cfg(test)]
-mod tests;
-#[cfg(test)]
-mod tests_cuts;
-#[cfg(test)]
-mod tests_refused;
-#[cfg(test)]
-mod tests_steps;
+pub use error::ApplyError;

@@ -8,7 +8,7 @@ use Rattle.serde_json.specs.Find.{get, as_object, as_str, as_number, as_u64}
 use Rattle.json_forms.specs.Lists.{list_items, all_of}
 use Rattle.cells.specs.Places.{cell_count}
 use Rattle.index_intervals.specs.Bounds.{Bounds, is_index}
-use Rattle.index_transform.specs.Agreeing.{identity_maps}
+use Rattle.index_transform.specs.Identity.{identity_maps}
 use Rattle.index_transform.specs.Maps.{fits, are_entries, is_map, are_labels, has_ranks, plain_map}
 use Rattle.index_transform.specs.Transforms.{checked}
 use Rattle.index_transform.specs.declared.domain.Domain.{Domain}

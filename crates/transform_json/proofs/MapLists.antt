@@ -6,7 +6,7 @@ use Rattle.std.proofs.Math.ListN.{drop_of_length-le}
 use Rattle.serde_json.specs.View.{view}
 use Rattle.serde_json.specs.declared.value.Value.{Value}
 use Rattle.index_intervals.specs.Bounds.{Bounds}
-use Rattle.index_transform.specs.Agreeing.{identity_maps}
+use Rattle.index_transform.specs.Identity.{identity_maps}
 use Rattle.index_transform.specs.declared.map.OutMap.{OutMap}
 use Rattle.index_transform.specs.declared.map.OutMap.TheVariants.{Strided}
 use Rattle.transform_json.specs.declared.error.JsonError.{JsonError}

@@ -8,7 +8,7 @@ use Rattle.json_forms.specs.Numbers.{whole_number}
 use Rattle.json_forms.specs.Lists.{list_items}
 use Rattle.json_forms.specs.Members.{member_names, least_name}
 use Rattle.index_intervals.specs.Bounds.{Bounds, minus_infinity, plus_infinity}
-use Rattle.index_transform.specs.Agreeing.{identity_maps}
+use Rattle.index_transform.specs.Identity.{identity_maps}
 use Rattle.index_transform.specs.declared.map.OutMap.{OutMap}
 use Rattle.index_transform.specs.declared.map.OutMap.TheVariants.{Constant, Strided, Indexed}
 use Rattle.transform_json.specs.declared.arrays.IndexArray.{IndexArray}

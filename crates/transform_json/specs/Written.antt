@@ -1,6 +1,6 @@
 -- The written forms of domains and transforms.
-use Rattle.std.specs.Prelude.{ℕ, ◌*◌, ◌==◌, ℤ, pos, ◌+ℤ◌, ◌<ℤ◌, Bool, true, not, if◌then◌else◌, List, [], ◌∷◌, length, take, drop, map, codes, slice_index_or}
-use Rattle.std.specs.List.{list_all, range_with_len}
+use Rattle.std.specs.Prelude.{ℕ, ◌*◌, ◌==◌, ◌≤◌, ℤ, pos, ◌+ℤ◌, ◌<ℤ◌, Bool, true, not, if◌then◌else◌, List, [], ◌∷◌, length, take, drop, map, codes, slice_index_or, unwrap_or}
+use Rattle.std.specs.List.{list_all, position_from, range_with_len}
 use Rattle.std.specs.Ordering.{int_eq}
 use Rattle.serde_json.specs.Data.{Data, Members, string, object, no_members, put}
 use Rattle.json_forms.specs.Numbers.{natural, integer}
@@ -89,3 +89,13 @@ abbrev pub HasWords : OutMap → Type 0
 HasWords (Constant offset) = IsWord offset
 HasWords (Strided offset stride dim) = IsWord offset × IsWord stride
 HasWords (Indexed offset stride sizes entries) = IsWord offset × IsWord stride
+
+-- the sizes before the first that is 0
+abbrev pub before_zero : List ℕ → List ℕ
+before_zero sizes = take (unwrap_or (position_from (λ size. size == 0) 0 sizes) (length sizes)) sizes
+
+-- an index array takes 2^22 nested lists at most where a size of 0 ends them
+abbrev pub HasFewLists : OutMap → Type 0
+HasFewLists (Constant offset) = Unit {0}
+HasFewLists (Strided offset stride dim) = Unit {0}
+HasFewLists (Indexed offset stride sizes entries) = cell_count (before_zero sizes) ≤ 4194304

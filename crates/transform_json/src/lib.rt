@@ -12,8 +12,6 @@ mod member;
 mod output;
 mod read;
 mod rules;
-#[cfg(test)]
-mod tests;
 mod uppers;
 mod write;
 

@@ -1,7 +1,7 @@
 // Output maps, from their members.
 ghost use Rattle.std.specs.Prelude.{◌≡◌, ◌≢◌, ◌≤◌, ◌++◌, Ok, Err, IfOk, IfErr, codes, decimal, length, map};
 ghost use Rattle.std.specs.List.{list_all};
-ghost use Rattle.index_transform.specs.Agreeing.{identity_maps};
+ghost use Rattle.index_transform.specs.Identity.{identity_maps};
 ghost use Rattle.serde_json.specs.View.{view};
 ghost use Rattle.transform_json.specs.Output.{array_in, is_in_range, map_in, map_of, maps_from, maps_of};
 

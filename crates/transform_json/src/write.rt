@@ -1,6 +1,6 @@
 // Transforms and domains as JSON.
-ghost use Rattle.std.specs.Prelude.{◌≡◌, false, Ok, IsTrue, IfOk, OnOk, map, length};
-ghost use Rattle.std.specs.List.{AllByRecursion, list_all};
+ghost use Rattle.std.specs.Prelude.{◌≡◌, ◌≤◌, ◌<◌, ◌==◌, ◌↔◌, false, Ok, IsTrue, IfOk, IfSome, OnOk, map, length};
+ghost use Rattle.std.specs.List.{AllByRecursion, list_all, position_from};
 ghost use Rattle.serde_json.specs.View.{view, members_view};
 ghost use Rattle.serde_json.specs.Data.{string, object};
 ghost use Rattle.serde_json.specs.Written.{has_float};
@@ -9,9 +9,10 @@ ghost use Rattle.cells.specs.Places.{cell_count};
 ghost use Rattle.index_intervals.specs.Bounds.{AreBounds};
 ghost use Rattle.index_transform.specs.Transforms.{IsTransform};
 ghost use Rattle.transform_json.specs.Transforms.{transform_of};
-ghost use Rattle.transform_json.specs.Written.{has_entries, has_sizes, HasWords, flagged, lower_data, upper_data, are_unlabelled, with_labels, with_number, domain_data, nested_data, map_data, transform_data};
+ghost use Rattle.transform_json.specs.Written.{has_entries, has_sizes, HasWords, HasFewLists, before_zero, flagged, lower_data, upper_data, are_unlabelled, with_labels, with_number, domain_data, nested_data, map_data, transform_data};
 
-use cells::Name;
+use crate::rules::MOST_ENTRIES;
+use cells::{Name, count_cells};
 use index_intervals::{INFINITY, Interval};
 use index_transform::{Domain, OutMap, Transform};
 use serde_json::{Map, Value, put};
@@ -56,10 +57,12 @@ fn members_of_domain(alloc: Global, d: &Domain) -> Result<Map<String, Value>, Al
 /// TensorStore, "Index space", JSON of index transforms.
 ///
 /// # Errors
-/// An allocation failed.
+/// An allocation failed; so it is, too, where an index array has more than 2^22 nested lists before a size of 0, of which
+/// a short line could ask for 2^42.
 pub fn write_transform(alloc: Global, t: &Transform) -> Result<Value, AllocError>
     ensures value { IfOk result (λ v. view v ≡ transform_data t.now) }
     ensures plain { IfOk result (λ v. has_float (view v) ≡ false) }
+    ensures few { OnOk result (AllByRecursion HasFewLists t.now.maps) }
     ensures again { IfOk result (λ v. IsTrue (list_all has_sizes t.now.maps) → transform_of (view v) ≡ Ok t.now) }
 {
     Ok(Value::Object(members_of_transform(alloc, t)?))
@@ -70,6 +73,7 @@ fn members_of_transform(alloc: Global, t: &Transform) -> Result<Map<String, Valu
     ensures well_formed { IsTransform t.now }
     ensures bounds { OnOk result (AllByRecursion AreBounds t.now.domain.dims) }
     ensures words { OnOk result (AllByRecursion HasWords t.now.maps) }
+    ensures few { OnOk result (AllByRecursion HasFewLists t.now.maps) }
 {
     let domain = t.domain();
     let mut members = Map::new(alloc);
@@ -174,6 +178,7 @@ fn outputs(alloc: Global, maps: &[OutMap]) -> Result<Value, AllocError>
     requires { IsTrue (list_all has_entries maps.now) }
     ensures value { IfOk result (λ v. view v ≡ list_of (map map_data maps.now)) }
     ensures words { OnOk result (AllByRecursion HasWords maps.now) }
+    ensures few { OnOk result (AllByRecursion HasFewLists maps.now) }
 {
     let mut items = Vec::with_capacity(alloc, maps.len())?;
     for one in maps {
@@ -186,6 +191,7 @@ fn output(alloc: Global, one: &OutMap) -> Result<Value, AllocError>
     requires { IsTrue (has_entries one.now) }
     ensures value { IfOk result (λ v. view v ≡ map_data one.now) }
     ensures words { OnOk result (HasWords one.now) }
+    ensures few { OnOk result (HasFewLists one.now) }
 {
     match one {
         OutMap::Constant { offset } => constant(alloc, *offset),
@@ -234,7 +240,11 @@ fn indexed(
     requires { length entries.now ≡ cell_count sizes.now }
     ensures value { IfOk result (λ v. view v ≡ map_data (OutMap.Indexed offset stride sizes.now entries.now)) }
     ensures words { OnOk result (HasWords (OutMap.Indexed offset stride sizes.now entries.now)) }
+    ensures few { OnOk result (cell_count (before_zero sizes.now) ≤ 4194304) }
 {
+    if !has_few_lists(sizes) {
+        return Err(AllocError);
+    }
     let mut members = Map::new(alloc);
     put_number(alloc, &mut members, "stride", 1, stride)?;
     put_number(alloc, &mut members, "offset", 0, offset)?;
@@ -256,6 +266,30 @@ fn put_number(
         return Ok(());
     }
     put(members, alloc, name, Value::from(number))
+}
+
+// Whether 2^22 lists at most stand before a size of 0.
+fn has_few_lists(sizes: &[u64]) -> bool
+    ensures { IsTrue result ↔ (cell_count (before_zero sizes.now) ≤ 4194304) }
+{
+    count_cells(before_zero(sizes), MOST_ENTRIES).is_some()
+}
+
+// The sizes before the first that is 0.
+fn before_zero(sizes: &[u64]) -> &[u64]
+    ensures { result.now ≡ before_zero sizes.now }
+{
+    match first_zero(sizes) {
+        Some(place) => &sizes[..place],
+        None => sizes,
+    }
+}
+
+fn first_zero(sizes: &[u64]) -> Option<usize>
+    ensures place { result ≡ position_from (λ size. size == 0) 0 sizes.now }
+    ensures bound { IfSome result (λ place. place < length sizes.now) }
+{
+    sizes.iter().position(|size| *size == 0)
 }
 
 // Entries as nested lists of these sizes.

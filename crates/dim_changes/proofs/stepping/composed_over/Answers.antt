@@ -1,0 +1,14 @@
+use Rattle.std.proofs.Common.{ap, sym, subst}
+use Rattle.transform_composition.specs.Composing.{composed}
+use Rattle.dim_changes.specs.Causes.{or_cause, IsFaultOf}
+use Rattle.dim_changes.specs.declared.cause.Fault.{Fault}
+use Rattle.dim_changes.proofs.StepLemmas.{Follows-Agrees, IsFaultOf-refused}
+use Rattle.dim_changes.proofs.stepping.composed_over.Goals as goal
+
+pub returns-in-Ok : goal.returns-in-Ok
+returns-in-Ok c = (ap or_cause c.in-Ok.ensures.ok, Follows-Agrees c.in-Ok.t c.args.outer.now c.args.inner.now c.in-Ok.ensures.agrees c.in-Ok.ensures.inside)
+
+pub returns-in-Err : goal.returns-in-Err
+returns-in-Err c =
+    subst (λ (f : Fault). IsFaultOf (or_cause (composed c.args.outer.now c.args.inner.now)) f) (sym c.fault_of.ensures)
+    (IsFaultOf-refused (composed c.args.outer.now c.args.inner.now) c.in-Err.e c.in-Err.ensures.err)

@@ -1,0 +1,19 @@
+use Rattle.std.proofs.Common.{◌≡◌, to_z, of_z, arith}
+use Rattle.std.proofs.lemmas.Int.{ints}
+use Rattle.std.specs.Int.{w128}
+use Rattle.index_transform.proofs.Laws.{product_small}
+use Rattle.dim_changes.proofs.stride.old_index.Goals as goal
+
+pub overflow_add-result : goal.overflow_add-result
+overflow_add-result c =
+    let s : to_z w128 (of_z w128 c.from-2.result) ≡ c.args.stride = omega (arith, ints) in
+    let x : to_z w128 (of_z w128 c.from-3.result) ≡ c.args.x = omega (arith, ints) in
+    let p = product_small c.args.stride c.args.x c.ranges.stride c.ranges.x in
+    rw (s, x) (omega (arith, ints))
+
+pub returns : goal.returns
+returns c =
+    let s : to_z w128 (of_z w128 c.from-2.result) ≡ c.args.stride = omega (arith, ints) in
+    let x : to_z w128 (of_z w128 c.from-3.result) ≡ c.args.x = omega (arith, ints) in
+    let p = product_small c.args.stride c.args.x c.ranges.stride c.ranges.x in
+    rw (s, x) (omega (arith, ints))

@@ -1,0 +1,4 @@
+pub mod Causes
+pub mod Cuts
+pub mod Dims
+pub mod Marks

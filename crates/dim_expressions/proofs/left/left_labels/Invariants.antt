@@ -1,0 +1,6 @@
+use Rattle.std.proofs.Common.{◌≡◌, ◌++◌, map, take}
+use Rattle.dim_changes.specs.Dims.{label_at}
+use Rattle.dim_expressions.proofs.left.left_labels.Given as goal
+
+abbrev pub invariant-loop-dim : goal.invariant-loop-dim
+invariant-loop-dim l = l.news.items ≡ l.initial.news.items ++ map (label_at l.labels) (take l.dim-index l.rest)

@@ -1,6 +1,0 @@
-use Rattle.json_forms.proofs.Collecting.{Collected}
-use Rattle.dim_expressions.specs.Forms.{index_of, list_by}
-use Rattle.dim_expressions.proofs.numbers.arrays_of.Given as goal
-
-abbrev pub invariant-loop-item : goal.invariant-loop-item
-invariant-loop-item l = Collected (list_by index_of) l.items l.item-index l.arrays.items

@@ -1,8 +1,0 @@
-use Rattle.std.proofs.Common.{◌≡◌, map}
-use Rattle.std.specs.List.{range_with_len}
-use Rattle.dim_expressions.specs.Dims.{place_in}
-use Rattle.dim_expressions.specs.Arrangements.{axis_label_by}
-use Rattle.dim_expressions.proofs.ordering.axis_labels.Given as goal
-
-abbrev pub invariant-loop-position : goal.invariant-loop-position
-invariant-loop-position l = l.news.items ≡ map (λ position. axis_label_by l.labels (place_in l.olds position)) (range_with_len 0 l.position)

@@ -1,0 +1,5 @@
+pub mod Acts
+pub mod Forms
+pub mod Given
+pub mod Selection
+pub mod Steps
