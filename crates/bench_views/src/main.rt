@@ -2,7 +2,6 @@
 //! it has. The views are `contiguous`, `strided` and `indexed`.
 #![tactic(auto)]
 
-mod checks;
 mod views;
 
 use std::env;

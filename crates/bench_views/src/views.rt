@@ -1,6 +1,11 @@
-use crate::checks::{fits, grid};
-use cells::{Index, List, Name, Sizes};
-use chunk_grid::{Grid, RunPiece, runs};
+ghost use Rattle.std.specs.Prelude.{IsTrue};
+ghost use Rattle.std.specs.List.{All};
+ghost use Rattle.index_transform.specs.Cells.{cells_of};
+ghost use Rattle.index_transform.specs.Values.{value_at};
+ghost use Rattle.chunk_grid.specs.Grid.{IsInShape};
+
+use cells::{Index, List, MOST_CELLS, Name, Sizes};
+use chunk_grid::{Grid, RunPiece, is_grid, runs};
 use index_intervals::Interval;
 use index_transform::{Domain, OutMap, Transform};
 use std::alloc::{AllocError, Global};
@@ -67,6 +72,19 @@ fn counted(pieces: &List<RunPiece>) -> (usize, usize) {
     (pieces.items().len(), runs)
 }
 
+// Whether each value of the view lies inside the array.
+fn fits(t: &Transform, grid: &Grid) -> bool
+    ensures { IsTrue result → All (λ cell. IsInShape grid.now.shape (value_at t.now cell)) (cells_of t.now.domain.dims) }
+{
+    if !t.is_finite() || t.maps().len() != grid.shape().len() {
+        return false;
+    }
+    match t.first_leaving(grid.shape()) {
+        Some(_) => false,
+        None => true,
+    }
+}
+
 // The numbers of chunks and of runs of a view, after it was cut so many times; none where it can't be.
 fn cut_times(
     alloc: Global,
@@ -77,7 +95,7 @@ fn cut_times(
     let Ok(count) = t.count() else {
         return Ok(None);
     };
-    if count > 4_194_304 || !t.is_finite() || !fits(alloc, t, grid)? {
+    if count > MOST_CELLS || !t.is_finite() || !fits(t, grid) {
         return Ok(None);
     }
     let mut counts = (0, 0);
@@ -85,6 +103,15 @@ fn cut_times(
         counts = counted(&runs(alloc, t, grid)?);
     }
     Ok(Some(counts))
+}
+
+fn grid(alloc: Global, shape: &[u64], chunk: &[u64]) -> Result<Option<Grid>, AllocError> {
+    if !is_grid(shape, chunk) {
+        return Ok(None);
+    }
+    let shape = Sizes::wrap(Vec::from_slice(alloc, shape)?);
+    let chunk = Sizes::wrap(Vec::from_slice(alloc, chunk)?);
+    Ok(Some(Grid::new(shape, chunk)))
 }
 
 /// The same of a view by its name, over an array of 2000 by 3000 cells in chunks of 100 by 100.

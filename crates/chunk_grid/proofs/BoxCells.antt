@@ -10,8 +10,8 @@ use Rattle.index_intervals.specs.Bounds.{Bounds}
 use Rattle.index_transform.specs.Cells.{is_finite, counting, members_of, cells_of}
 use Rattle.index_transform.specs.Maps.{size_of}
 use Rattle.index_transform.specs.Walks.{IsCell, IsNonEmpty, lows}
-use Rattle.index_transform.specs.Tightening.{is_ordered}
-use Rattle.index_transform.proofs.ReadLemmas.{AreCells, AreCells-cells_of}
+use Rattle.index_intervals.specs.Bounds.{is_ordered}
+use Rattle.index_transform.proofs.Laws.{AreCells, AreCells-cells_of}
 use Rattle.chunk_grid.specs.BoxSteps.{IsNarrowed}
 use Rattle.chunk_grid.proofs.BoxBounds.{finite-bounds}
 

@@ -30,3 +30,5 @@ pub mod RunLaws
 pub mod StepLaws
 pub mod TouchedLaws
 pub mod ViewBoxes
+pub mod OnceLaws
+pub mod ViewLaws

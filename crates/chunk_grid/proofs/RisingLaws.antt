@@ -14,7 +14,7 @@ use Rattle.std.proofs.lemmas.List.Folds.{list_any_at}
 use Rattle.chunk_grid.specs.Pieces.{placed, among}
 use Rattle.chunk_grid.specs.Boxes.{AreRising}
 
-abbrev cmp : List ℕ → List ℕ → Ordering
+abbrev pub cmp : List ℕ → List ℕ → Ordering
 cmp = slice_cmp nat_cmp
 
 true_or_false : (b : Bool) → (b ≡ true) ⊎ (b ≡ false)
@@ -75,11 +75,11 @@ other_way Greater p e f g = e
 above : (c d : List ℕ) → is_lt (cmp c d) ≡ false → bytes_eq c d ≡ false → cmp d c ≡ Less
 above c d f g = other_way (cmp c d) (cmp d c) (nat_list_cmp_total.antisymm d c) f (is_eq-slice_cmp c d ∙ g)
 
-never_below : (c : List ℕ) → cmp c c ≡ Less → ⊥
+pub never_below : (c : List ℕ) → cmp c c ≡ Less → ⊥
 never_below c e = let clash : Less ≡ Equal = sym e ∙ tied_itself nat_list_cmp_total c in cc
 
 -- chunk indices rise: each is below all that follow
-abbrev IsBelow : List ℕ → List (List ℕ) → Type 0
+abbrev pub IsBelow : List ℕ → List (List ℕ) → Type 0
 IsBelow c cs = (x : List ℕ) → IsAmong x cs → cmp c x ≡ Less
 
 abbrev pub Rises : List (List ℕ) → Type 0

@@ -8,7 +8,7 @@ use Rattle.std.proofs.lemmas.List.{map-append}
 use Rattle.cells.specs.declared.run.Run.{Run}
 use Rattle.chunk_grid.specs.declared.piece.RunPiece.{RunPiece}
 use Rattle.chunk_grid.specs.Pieces.{Pair, pair_of, is_of, pairs_in, touched, pieces_by_chunk}
-use Rattle.chunk_grid.specs.Runs.{run_of_one, goes_on, longer, cut_from, runs_of_pairs, run_pieces, pairs_of_run, unrolled}
+use Rattle.chunk_grid.specs.Runs.{run_of_one, goes_on, longer, cut_from, runs_of_pairs, run_pieces, pairs_of, unrolled}
 use Rattle.chunk_grid.proofs.RangeLaws.{range-split}
 use Rattle.chunk_grid.proofs.GrowingLines.{second, first-longer, longer-more, follows}
 use Rattle.chunk_grid.proofs.PieceLaws.{run_piece, run_pieces-are}
@@ -30,24 +30,24 @@ second_at r p le =
     let c : unsigned_abs (pos r.chunk +ℤ (pos p.chunk -ℤ pos r.chunk) *ℤ pos 1) ≡ p.chunk = omega (arith, ints) in
     λ i. record { view = v i; chunk = c i }
 
-one_pairs : (r : Run) → r.len ≡ 1 → pairs_of_run r ≡ record { view = r.view; chunk = r.chunk } ∷ []
+one_pairs : (r : Run) → r.len ≡ 1 → pairs_of r ≡ record { view = r.view; chunk = r.chunk } ∷ []
 one_pairs r e = ap (λ n. map (at r) (range_with_len 0 n)) e ∙ ap (λ p. p ∷ []) (first_at r)
 
 -- a run with a pair more has its pairs and that one
-pairs-longer : (r : Run) (p : Pair) → r.view ≤ p.view → goes_on r p ≡ true → (r.len ≡ 1) ⊎ (2 ≤ r.len) → pairs_of_run (longer r p) ≡ pairs_of_run r ++ p ∷ []
+pairs-longer : (r : Run) (p : Pair) → r.view ≤ p.view → goes_on r p ≡ true → (r.len ≡ 1) ⊎ (2 ≤ r.len) → pairs_of (longer r p) ≡ pairs_of r ++ p ∷ []
 pairs-longer r p le on (inl one) =
-    ap pairs_of_run (first-longer r p one)
+    ap pairs_of (first-longer r p one)
     ∙ (λ i. first_at (second r p) i ∷ second_at r p le i ∷ [])
     ∙ sym (ap (λ ps. ps ++ p ∷ []) (one_pairs r one))
 pairs-longer r p le on (inr two) =
     let f = follows r p two on in
     let zero_more : 0 + r.len ≡ r.len = omega arith in
     let c : unsigned_abs (pos r.chunk +ℤ r.chunk_step *ℤ pos r.len) ≡ p.chunk = omega (arith, ints, f.1) in
-    ap pairs_of_run (longer-more r p two)
+    ap pairs_of (longer-more r p two)
     ∙ ap (map (at r)) (range-split r.len 1 0)
     ∙ map-append (at r) (range_with_len 0 r.len) (range_with_len (0 + r.len) 1)
-    ∙ ap (λ n. pairs_of_run r ++ at r n ∷ []) zero_more
-    ∙ (λ i. pairs_of_run r ++ record { view = sym f.0 i; chunk = c i } ∷ [])
+    ∙ ap (λ n. pairs_of r ++ at r n ∷ []) zero_more
+    ∙ (λ i. pairs_of r ++ record { view = sym f.0 i; chunk = c i } ∷ [])
 
 -- places of the view rise
 abbrev pub Rise : ℕ → List Pair → Type 0
@@ -62,7 +62,7 @@ abbrev pub AreRising : List Pair → Type 0
 AreRising [] = Unit {0}
 AreRising (p ∷ pairs) = Rise p.view pairs × AreRising pairs
 
-pairs-cut : (pairs : List Pair) (r : Run) → (r.len ≡ 1) ⊎ (2 ≤ r.len) → Rise r.view pairs → AreRising pairs → flat_map pairs_of_run (cut_from r pairs) ≡ pairs_of_run r ++ pairs
+pairs-cut : (pairs : List Pair) (r : Run) → (r.len ≡ 1) ⊎ (2 ≤ r.len) → Rise r.view pairs → AreRising pairs → flat_map pairs_of (cut_from r pairs) ≡ pairs_of r ++ pairs
 pairs-cut [] r begun low rise = refl
 pairs-cut (p ∷ pairs) r begun low rise =
     let more = begun-longer r p begun in
@@ -70,14 +70,14 @@ pairs-cut (p ∷ pairs) r begun low rise =
     (pairs-cut pairs (longer r p) (inr more.0) (subst (λ n. Rise n pairs) (sym more.1) low.1) rise.1)
     (pairs-cut pairs (run_of_one p) (inl refl) rise.0 rise.1)
   where
-    told : (b : Bool) → goes_on r p ≡ b → flat_map pairs_of_run (cut_from (longer r p) pairs) ≡ pairs_of_run (longer r p) ++ pairs
-        → flat_map pairs_of_run (cut_from (run_of_one p) pairs) ≡ pairs_of_run (run_of_one p) ++ pairs
-        → flat_map pairs_of_run (cond b (cut_from (longer r p) pairs) (r ∷ cut_from (run_of_one p) pairs)) ≡ pairs_of_run r ++ p ∷ pairs
-    told true e on off = on ∙ ap (λ ps. ps ++ pairs) (pairs-longer r p low.0 e begun) ∙ append_assoc (pairs_of_run r) (p ∷ []) pairs
-    told false e on off = ap (λ ps. pairs_of_run r ++ ps) (off ∙ ap (λ ps. ps ++ pairs) (one_pairs (run_of_one p) refl))
+    told : (b : Bool) → goes_on r p ≡ b → flat_map pairs_of (cut_from (longer r p) pairs) ≡ pairs_of (longer r p) ++ pairs
+        → flat_map pairs_of (cut_from (run_of_one p) pairs) ≡ pairs_of (run_of_one p) ++ pairs
+        → flat_map pairs_of (cond b (cut_from (longer r p) pairs) (r ∷ cut_from (run_of_one p) pairs)) ≡ pairs_of r ++ p ∷ pairs
+    told true e on off = on ∙ ap (λ ps. ps ++ pairs) (pairs-longer r p low.0 e begun) ∙ append_assoc (pairs_of r) (p ∷ []) pairs
+    told false e on off = ap (λ ps. pairs_of r ++ ps) (off ∙ ap (λ ps. ps ++ pairs) (one_pairs (run_of_one p) refl))
 
 -- rising pairs are those of their runs
-pub pairs-runs : (pairs : List Pair) → AreRising pairs → flat_map pairs_of_run (runs_of_pairs pairs) ≡ pairs
+pub pairs-runs : (pairs : List Pair) → AreRising pairs → flat_map pairs_of (runs_of_pairs pairs) ≡ pairs
 pairs-runs [] rise = refl
 pairs-runs (p ∷ pairs) rise = pairs-cut pairs (run_of_one p) (inl refl) rise.0 rise.1 ∙ ap (λ ps. ps ++ pairs) (one_pairs (run_of_one p) refl)
 
@@ -100,7 +100,7 @@ module _ (chunk c : List ℕ) where
     told true h = (rise_from xs (n + 1) n (omega arith), h)
     told false h = h
 
-  pub pairs-in-runs : (targets : List (List ℕ)) → flat_map pairs_of_run (runs_of_pairs (pairs_in chunk c targets)) ≡ pairs_in chunk c targets
+  pub pairs-in-runs : (targets : List (List ℕ)) → flat_map pairs_of (runs_of_pairs (pairs_in chunk c targets)) ≡ pairs_in chunk c targets
   pairs-in-runs targets = pairs-runs (pairs_in chunk c targets) (rising_from targets 0)
 
 -- the pieces have the pairs of their runs

@@ -1,7 +1,8 @@
 -- An array's cells and its chunks.
-use Rattle.std.specs.Prelude.{◌≡◌, ℕ, ◌+◌, ◌*◌, ◌/◌, ◌%◌, ◌^◌, ◌-◌, ◌<◌, ◌≤◌, ℤ, pos, ◌≤ℤ◌, ◌<ℤ◌, unsigned_abs, List, [], ◌∷◌, length, map}
+use Rattle.std.specs.Prelude.{◌≡◌, ℕ, ◌+◌, ◌*◌, ◌/◌, ◌%◌, ◌^◌, ◌-◌, ◌<◌, ◌≤◌, ℤ, pos, ◌≤ℤ◌, unsigned_abs, List, [], ◌∷◌, length, map}
 use Rattle.std.specs.List.{All}
 use Rattle.cells.specs.Places.{cell_count, c_place}
+pub use Rattle.index_transform.specs.Shapes.{IsInShape}
 
 -- an array's shape, and the shape of each of its chunks
 pub record Shapes : Type 0 where
@@ -15,13 +16,6 @@ pub record IsGrid (grid : Shapes) : Type 0 where
   pub finite : All (λ size. size ≤ 2 ^ 62 - 2) grid.shape
   pub positive : All (λ size. 0 < size) grid.chunk
   pub small : cell_count grid.chunk ≤ 2 ^ 24
-
--- the index vector lies inside the shape: one index per size, from 0 on and below it
-abbrev pub IsInShape : List ℕ → List ℤ → Type 0
-IsInShape [] [] = Unit {0}
-IsInShape [] (x ∷ index) = ⊥
-IsInShape (size ∷ shape) [] = ⊥
-IsInShape (size ∷ shape) (x ∷ index) = (pos 0 ≤ℤ x) × (x <ℤ pos size) × IsInShape shape index
 
 -- no index is below 0
 abbrev pub AreFromZero : List ℤ → Type 0

@@ -4,5 +4,6 @@ pub mod Cuts
 pub mod Grid
 pub mod Growing
 pub mod Loops
+pub mod Once
 pub mod Pieces
 pub mod Runs

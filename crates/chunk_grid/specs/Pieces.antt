@@ -4,12 +4,8 @@ use Rattle.std.specs.List.{list_any, enumerate_from}
 use Rattle.std.specs.Str.{bytes_eq}
 use Rattle.std.specs.Ordering.{nat_cmp, is_lt}
 use Rattle.std.specs.Cmp.Lexicographic.{slice_cmp}
+pub use Rattle.cells.specs.Runs.{Pair}
 use Rattle.chunk_grid.specs.Grid.{chunk_index, place_within}
-
--- a place in a list of index vectors, beside the place of that vector's cell in its chunk
-pub record Pair : Type 0 where
-  pub view : ℕ
-  pub chunk : ℕ
 
 -- a chunk's index, and the pairs of its cells
 pub record Piece : Type 0 where

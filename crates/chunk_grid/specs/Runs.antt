@@ -1,8 +1,9 @@
 -- Pairs cut into runs of equal steps.
-use Rattle.std.specs.Prelude.{ℕ, ◌+◌, ◌-◌, ◌*◌, ◌==◌, pos, ◌+ℤ◌, ◌-ℤ◌, ◌*ℤ◌, unsigned_abs, List, [], ◌∷◌, Bool, ◌&&◌, ◌||◌, map, if◌then◌else◌}
-use Rattle.std.specs.List.{flat_map, range_with_len}
+use Rattle.std.specs.Prelude.{ℕ, ◌+◌, ◌-◌, ◌*◌, ◌==◌, pos, ◌+ℤ◌, ◌-ℤ◌, ◌*ℤ◌, List, [], ◌∷◌, Bool, ◌&&◌, ◌||◌, map, if◌then◌else◌}
+use Rattle.std.specs.List.{flat_map}
 use Rattle.std.specs.Ordering.{int_eq}
 use Rattle.cells.specs.declared.run.Run.{Run}
+pub use Rattle.cells.specs.Runs.{pairs_of}
 use Rattle.chunk_grid.specs.declared.piece.RunPiece.{RunPiece}
 use Rattle.chunk_grid.specs.Pieces.{Pair, Piece, pieces_by_chunk}
 
@@ -44,14 +45,6 @@ abbrev pub run_pieces : List ℕ → List (List ℕ) → List RunPiece
 run_pieces chunk targets =
     map (λ piece. record { chunk = piece.chunk; runs = runs_of_pairs piece.pairs }) (pieces_by_chunk chunk targets)
 
--- the pairs of a run
-abbrev pub pairs_of_run : Run → List Pair
-pairs_of_run run =
-    map (λ k. record {
-      view = run.view + run.view_step * k;
-      chunk = unsigned_abs (pos run.chunk +ℤ run.chunk_step *ℤ pos k);
-    }) (range_with_len 0 run.len)
-
 -- a piece with the pairs of its runs
 abbrev pub unrolled : RunPiece → Piece
-unrolled piece = record { chunk = piece.chunk; pairs = flat_map pairs_of_run piece.runs }
+unrolled piece = record { chunk = piece.chunk; pairs = flat_map pairs_of piece.runs }

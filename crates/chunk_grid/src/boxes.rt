@@ -3,7 +3,7 @@ ghost use Rattle.std.specs.Prelude.{◌≡◌, ◌≢◌, ◌≤◌, ◌<◌, �
 ghost use Rattle.std.specs.List.{All, AllByRecursion, AllZip, list_all};
 ghost use Rattle.index_transform.specs.Cells.{is_finite, cells_of};
 ghost use Rattle.index_transform.specs.Maps.{is_map, is_plain, size_of};
-ghost use Rattle.index_transform.specs.Tightening.{is_ordered};
+ghost use Rattle.index_intervals.specs.Bounds.{is_ordered};
 ghost use Rattle.index_transform.specs.Values.{map_value, value_at};
 ghost use Rattle.index_transform.specs.Walks.{IsCell};
 ghost use Rattle.chunk_grid.specs.Boxes.{AreBoxes, chunk_along, key_along, is_regular};

@@ -7,6 +7,7 @@ ghost use Rattle.chunk_grid.specs.Cuts.{AreCuts};
 ghost use Rattle.chunk_grid.specs.Pieces.{pieces_by_chunk};
 ghost use Rattle.chunk_grid.specs.Runs.{run_pieces, unrolled};
 ghost use Rattle.chunk_grid.specs.Boxes.{is_regular};
+ghost use Rattle.chunk_grid.specs.Once.{IsCut};
 
 use crate::boxing::cut_boxes;
 use crate::cuts::{Cuts, add, new_cuts, pieces_of};
@@ -30,6 +31,7 @@ pub fn runs_of(alloc: Global, targets: &[Index], grid: &Grid) -> Result<List<Run
     requires inside { All (IsInShape grid.now.shape) targets.now }
     ensures pieces { IfOk result (λ pieces. pieces ≡ run_pieces grid.now.chunk (map numbers targets.now)) }
     ensures cells { IfOk result (λ pieces. map unrolled pieces ≡ pieces_by_chunk grid.now.chunk (map numbers targets.now)) }
+    ensures cut { IfOk result (λ pieces. IsCut grid.now.chunk (map numbers targets.now) pieces) }
 {
     let mut cuts = new_cuts(alloc);
     let mut chunk = Vec::from_elem(alloc, 0, grid.shape().len())?;
@@ -62,6 +64,7 @@ pub fn runs(alloc: Global, t: &Transform, grid: &Grid) -> Result<List<RunPiece>,
     requires inside { All (λ cell. IsInShape grid.now.shape (value_at t.now cell)) (cells_of t.now.domain.dims) }
     ensures pieces { IfOk result (λ pieces. pieces ≡ run_pieces grid.now.chunk (map (λ cell. numbers (value_at t.now cell)) (cells_of t.now.domain.dims))) }
     ensures cells { IfOk result (λ pieces. map unrolled pieces ≡ pieces_by_chunk grid.now.chunk (map (λ cell. numbers (value_at t.now cell)) (cells_of t.now.domain.dims))) }
+    ensures cut { IfOk result (λ pieces. IsCut grid.now.chunk (map (λ cell. numbers (value_at t.now cell)) (cells_of t.now.domain.dims)) pieces) }
 {
     if are_regular(t.maps()) && has_cells(t) {
         cut_boxes(alloc, t, grid)
@@ -111,12 +114,11 @@ fn put_cells(alloc: Global, cuts: &mut Cuts, t: &Transform, grid: &Grid) -> Resu
 {
     let mut chunk = Vec::from_elem(alloc, 0, grid.shape().len())?;
     let mut cell = Vec::from_elem(alloc, 0, t.domain().dims.items().len())?;
+    let mut target = Vec::from_elem(alloc, 0, t.maps().len())?;
     let mut walk = Walk::new(alloc, t.domain())?;
     let mut view = 0;
     'cells: while walk.advance(&mut cell) {
-        let Ok(target) = t.at(alloc, &cell) else {
-            return Err(AllocError);
-        };
+        t.value_into(&cell, &mut target);
         add(alloc, cuts, grid, &target, &mut chunk, view)?;
         view += 1;
     }

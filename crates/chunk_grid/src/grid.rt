@@ -1,10 +1,10 @@
-ghost use Rattle.std.specs.Prelude.{◌≡◌, ◌<◌, ◌≤◌, ◌^◌, length};
+ghost use Rattle.std.specs.Prelude.{◌≡◌, ◌<◌, ◌≤◌, ◌^◌, IsTrue, length};
 ghost use Rattle.std.specs.List.{All};
 ghost use Rattle.cells.specs.Places.{cell_count, index_at};
-ghost use Rattle.chunk_grid.specs.Grid.{IsInShape, IsInBox, AreFromZero, numbers, chunk_index, place_within, in_array};
+ghost use Rattle.chunk_grid.specs.Grid.{IsGrid, IsInShape, IsInBox, AreFromZero, numbers, chunk_index, place_within, in_array};
 ghost use Rattle.cells.specs.declared.order.Order.TheVariants.{C};
 
-use cells::Sizes;
+use cells::{LARGEST_RANK, LARGEST_SIZE, MOST_CHUNK_CELLS, Sizes, count_cells};
 use std::marker::Model;
 
 /// An array's shape, cut into chunks of one shape, both in cells. The chunk of the index 0 begins at index 0.
@@ -29,6 +29,17 @@ impl Model for Grid {
     ghost invariant = { λ grid. IsGrid (record { shape = grid.shape; chunk = grid.chunk }) };
 
     ghost inverse = { λ shapes. record { shape = shapes.shape; chunk = shapes.chunk } };
+}
+
+/// Whether shapes of an array and of its chunks make a grid.
+pub fn is_grid(shape: &[u64], chunk: &[u64]) -> bool
+    ensures grid { IsTrue result → IsGrid (record { shape = shape.now; chunk = chunk.now }) }
+    ensures only { IsGrid (record { shape = shape.now; chunk = chunk.now }) → IsTrue result }
+{
+    let ranks = shape.len() <= LARGEST_RANK && chunk.len() == shape.len();
+    let finite = shape.iter().all(|size| *size <= LARGEST_SIZE);
+    let positive = chunk.iter().all(|size| *size > 0);
+    ranks && finite && positive && count_cells(chunk, MOST_CHUNK_CELLS).is_some()
 }
 
 impl Grid {

@@ -14,8 +14,5 @@ mod lines;
 mod piece;
 
 pub use cutting::{runs, runs_of};
-pub use grid::Grid;
+pub use grid::{Grid, is_grid};
 pub use piece::RunPiece;
-
-#[cfg(test)]
-mod tests;

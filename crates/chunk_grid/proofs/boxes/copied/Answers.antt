@@ -1,6 +1,6 @@
 use Rattle.std.proofs.Common.{◌∙◌, ap, take}
 use Rattle.std.specs.List.{list_all}
-use Rattle.index_transform.specs.Tightening.{is_ordered}
+use Rattle.index_intervals.specs.Bounds.{is_ordered}
 use Rattle.chunk_grid.proofs.BoxLaws.{all-push, copied-more, taken-more}
 use Rattle.chunk_grid.proofs.boxes.copied.Goals as goal
 

@@ -1,6 +1,6 @@
 use Rattle.std.proofs.Common.{◌≡◌, take, true}
 use Rattle.std.specs.List.{list_all}
-use Rattle.index_transform.specs.Tightening.{is_ordered}
+use Rattle.index_intervals.specs.Bounds.{is_ordered}
 use Rattle.chunk_grid.proofs.boxes.copied.Given as goal
 
 -- the dimensions so far are copied, and their bounds are in order

@@ -14,6 +14,7 @@ invariant-cells l = record {
   room : length l.chunk.items ≡ length l.grid.shape;
   rank : l.walk.rank ≡ length l.cell.items;
   here : length l.cell.items ≡ length l.t.domain.dims;
+  outputs : length l.target.items ≡ length l.t.maps;
 }
 
 abbrev pub decreases-cells : goal.decreases-cells
