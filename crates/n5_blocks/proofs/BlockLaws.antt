@@ -76,7 +76,7 @@ IsDense-block_words m bytes shape words rules none same are =
     let all : All (IsWord m.dtype) (block_words m.dtype m.block bytes) = All-words_of_rows m.dtype m.block sizes (byte_count m.dtype) 0 elements fit in
     let volume : cell_count m.block ≤ 2 ^ 24 = rules.block.volume in
     record {
-      rank = omega (arith, ap length same, rules.ranks, rules.dimensions.greatest);
+      rank = omega (arith, ap length same, rules.ranks, rules.dimensions.rank);
       small = rw same volume;
       full = ap length are ∙ length-words_of_rows m.dtype m.block sizes (byte_count m.dtype) 0 elements fit ∙ ap cell_count (sym same);
       of_dtype = rw are all;

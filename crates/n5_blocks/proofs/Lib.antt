@@ -1,7 +1,5 @@
 pub mod RowSteps
 pub mod SizeLaws
-pub mod TestLaws
-pub mod FormLaws
 pub mod ReadLaws
 pub mod MetadataLaws
 pub mod RowLaws
@@ -9,6 +7,6 @@ pub mod ElementLaws
 pub mod FaultLaws
 pub mod HeaderLaws
 pub mod BlockLaws
-pub mod Backwards
 pub mod WriteLaws
 pub mod SpellingLaws
+pub mod CutLaws

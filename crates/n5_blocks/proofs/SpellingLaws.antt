@@ -1,11 +1,10 @@
 -- Bytes that spell a block have no fault, and spell no other words.
-use Rattle.std.proofs.Common.{◌≡◌, ℕ, zero, suc, ◌+◌, ◌*◌, ◌-◌, ◌<◌, ◌≤◌, ◌^◌, ◌⊎◌, inl, inr, ⊎_elim, List, [], ◌∷◌, ◌++◌, length, get_or, take, drop, true, None, refl, sym, ap, subst, ◌∙◌, arith, zero-add, append_assoc, length-append, eq-eqb}
+use Rattle.std.proofs.Common.{◌≡◌, ℕ, zero, suc, ◌+◌, ◌*◌, ◌<◌, ◌≤◌, ◌^◌, ◌⊎◌, inl, inr, ⊎_elim, List, [], ◌∷◌, ◌++◌, length, get_or, take, drop, true, None, refl, sym, ap, subst, ◌∙◌, arith, zero-add, length-append, eq-eqb}
 use Rattle.std.specs.Prelude.{nat_lt, ◌==◌}
-use Rattle.std.specs.List.{flat_map, range_with_len}
+use Rattle.std.specs.List.{flat_map}
 use Rattle.std.specs.Option.{option_or}
-use Rattle.std.proofs.Math.Seq.{take-append_seam, drop-append_seam, drop-append-add}
 use Rattle.std.proofs.lemmas.Bool.{cases_lt, le-ltb}
-use Rattle.std.proofs.lemmas.List.{drop_at, take_at, take-append-le, ext_get_or}
+use Rattle.std.proofs.lemmas.List.{drop_at, ext_get_or}
 use Rattle.std.proofs.lemmas.List.FromFn.{get_or-map-range_with_len}
 use Rattle.cells.specs.Bytes.{byte_count, word_bytes, word_of_bytes}
 use Rattle.cells.specs.Places.{cell_count, IsInside, f_place}
@@ -14,11 +13,10 @@ use Rattle.cells.specs.declared.dtype.Dtype.TheVariants.{U16, U32}
 use Rattle.cells.proofs.ByteLaws.{length-word_bytes, word_of_bytes-word_bytes}
 use Rattle.n5_blocks.specs.Metadata.{Metadata, IsMetadata}
 use Rattle.n5_blocks.specs.Block.{element_bytes, header, AreElements, AreWithin, StoresCells, SpellsBlock}
-use Rattle.n5_blocks.specs.Faults.{mode_in, rank_in, header_len, size_in, sizes_in, size_fault, length_fault, cells_fault, block_fault}
+use Rattle.n5_blocks.specs.Faults.{mode_in, rank_in, header_len, size_in, sizes_in, size_fault, length_fault, block_fault}
 use Rattle.n5_blocks.proofs.SizeLaws.{Fit, fit_from_within, IsWord-U16, IsWord-U32}
-use Rattle.n5_blocks.proofs.TestLaws.{then_from, else_from}
+use Rattle.cells.proofs.Laws.{then_from, else_from}
 use Rattle.n5_blocks.proofs.RowLaws.{length-rows}
-use Rattle.n5_blocks.proofs.ElementLaws.{part_of_rows}
 use Rattle.n5_blocks.proofs.FaultLaws.{length-sizes_in}
 
 length-size_bytes : (sizes : List ℕ) → length (flat_map (word_bytes U32 true) sizes) ≡ length sizes * 4
@@ -67,16 +65,16 @@ no_fault_from_fit dim (b ∷ bs) [] fit = refl
 no_fault_from_fit dim (b ∷ bs) (s ∷ ss) fit = else_from (nat_lt b s) _ _ (le-ltb b s fit.0) ∙ no_fault_from_fit (dim + 1) bs ss fit.1
 
 -- what a block's bytes say of themselves: the stored sizes and the elements
-record Parsed (m : Metadata) (bytes sizes elements : List ℕ) : Type 0 where
-  mode : mode_in bytes ≡ 0
-  rank : rank_in bytes ≡ length m.block
-  sizes_are : sizes_in (length m.block) bytes ≡ sizes
-  rest : drop (header_len (length m.block)) bytes ≡ elements
-  long : length bytes ≡ header_len (length m.block) + length elements
+pub record Parsed (m : Metadata) (bytes sizes elements : List ℕ) : Type 0 where
+  pub mode : mode_in bytes ≡ 0
+  pub rank : rank_in bytes ≡ length m.block
+  pub sizes_are : sizes_in (length m.block) bytes ≡ sizes
+  pub rest : drop (header_len (length m.block)) bytes ≡ elements
+  pub long : length bytes ≡ header_len (length m.block) + length elements
 
-parsed : (m : Metadata) (bytes sizes elements : List ℕ) → IsMetadata m → AreWithin m.block sizes → bytes ≡ header sizes ++ elements → Parsed m bytes sizes elements
+pub parsed : (m : Metadata) (bytes sizes elements : List ℕ) → IsMetadata m → AreWithin m.block sizes → bytes ≡ header sizes ++ elements → Parsed m bytes sizes elements
 parsed m bytes sizes elements rules within is =
-    let few : length sizes ≤ 32 = omega (arith, within.ranks, rules.ranks, rules.dimensions.greatest) in
+    let few : length sizes ≤ 32 = omega (arith, within.ranks, rules.ranks, rules.dimensions.rank) in
     let small : (k : ℕ) → k < length sizes → get_or sizes k 0 < 2 ^ 32 = λ k less.
     let inside : k < length m.block = omega (arith, within.ranks) in omega (arith, within.fit k inside, rules.block.greatest k inside) in
     let len = length-header sizes ∙ ap header_len within.ranks in

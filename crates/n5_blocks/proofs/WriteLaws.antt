@@ -8,13 +8,14 @@ use Rattle.cells.specs.Dense.{DenseCells, IsDense}
 use Rattle.cells.specs.Places.{cell_count, IsInside, c_place, f_place}
 use Rattle.cells.specs.declared.dtype.Dtype.{Dtype}
 use Rattle.cells.proofs.PlaceLaws.{c_place-lt}
-use Rattle.n5_blocks.specs.Metadata.{Metadata}
-use Rattle.n5_blocks.specs.Block.{element_bytes, header, AreElements, AreWithin, StoresCells, word_at}
+use Rattle.n5_blocks.specs.Metadata.{Metadata, IsMetadata}
+use Rattle.n5_blocks.specs.Block.{element_bytes, header, AreElements, AreWithin, StoresCells, WritesBlock, IsReached, IsZeroOutside, cut_sizes, word_at}
 use Rattle.n5_blocks.specs.Rows.{elements_of_rows}
-use Rattle.n5_blocks.proofs.SizeLaws.{Fit, fit_from_within, within-same, within-reverse}
+use Rattle.n5_blocks.proofs.SizeLaws.{Fit, fit_from_within, within-reverse}
+use Rattle.n5_blocks.proofs.CutLaws.{within-cut_sizes}
 use Rattle.n5_blocks.proofs.RowLaws.{inside-fit}
 use Rattle.n5_blocks.proofs.ElementLaws.{length-elements_of_rows, element-elements_of_rows}
-use Rattle.n5_blocks.proofs.Backwards.{cell_count-reverse, IsInside-reverse, c_place-reverse, f_place-reverse}
+use Rattle.cells.proofs.Backwards.{cell_count-reverse, IsInside-reverse, c_place-reverse, f_place-reverse}
 
 -- rows of the dimensions backwards are the elements of the words
 elements-backwards : (dtype : Dtype) (block sizes words : List ℕ) → AreWithin block sizes → length words ≡ cell_count block → All (IsWord dtype) words
@@ -51,16 +52,20 @@ StoresCells-from_rows m sizes words bytes within full are lacking is = record {
   lacking = lacking;
 }
 
--- a whole block stores all its cells
-pub StoresCells-dense : (m : Metadata) (bytes block sizes words : List ℕ) (d : DenseCells) → IsDense d → d.dtype ≡ m.dtype → d.shape ≡ m.block
-    → block ≡ m.block → sizes ≡ m.block → words ≡ d.words → bytes ≡ header sizes ++ elements_of_rows m.dtype (reverse block) (reverse sizes) 1 0 words
-    → StoresCells m m.block bytes (word_at d)
-StoresCells-dense m bytes block sizes words d dense kind shape block_is sizes_is words_is is =
-    let written : bytes ≡ header m.block ++ elements_of_rows m.dtype (reverse m.block) (reverse m.block) 1 0 d.words =
+-- a header and these elements are what is written for a block
+pub WritesBlock-dense : (m : Metadata) (index bytes block sizes words : List ℕ) (d : DenseCells) → IsDense d → d.dtype ≡ m.dtype → d.shape ≡ m.block
+    → IsMetadata m → IsReached m index → IsZeroOutside m index (word_at d)
+    → block ≡ m.block → sizes ≡ cut_sizes m.block m.dimensions index → words ≡ d.words → bytes ≡ header sizes ++ elements_of_rows m.dtype (reverse block) (reverse sizes) 1 0 words
+    → WritesBlock m index bytes (word_at d)
+WritesBlock-dense m index bytes block sizes words d dense kind shape rules reached outside block_is sizes_is words_is is =
+    let cut = cut_sizes m.block m.dimensions index in
+    let written : bytes ≡ header cut ++ elements_of_rows m.dtype (reverse m.block) (reverse cut) 1 0 d.words =
     is
     ∙ ap (λ s. header s ++ elements_of_rows m.dtype (reverse block) (reverse s) 1 0 words) sizes_is
-    ∙ ap (λ b. header m.block ++ elements_of_rows m.dtype (reverse b) (reverse m.block) 1 0 words) block_is
-    ∙ ap (λ w. header m.block ++ elements_of_rows m.dtype (reverse m.block) (reverse m.block) 1 0 w) words_is in
+    ∙ ap (λ b. header cut ++ elements_of_rows m.dtype (reverse b) (reverse cut) 1 0 words) block_is
+    ∙ ap (λ w. header cut ++ elements_of_rows m.dtype (reverse m.block) (reverse cut) 1 0 w) words_is in
     let words_are : All (IsWord m.dtype) d.words = subst (λ t. All (IsWord t) d.words) kind dense.of_dtype in
-    subst (λ s. StoresCells m m.block bytes (λ index. get_or d.words (c_place s index) 0)) (sym shape)
-    (StoresCells-from_rows m m.block d.words bytes (within-same m.block) (dense.full ∙ ap cell_count shape) words_are (λ index inside outside. absurd (outside inside)) written)
+    let within = within-cut_sizes m.block m.dimensions index (sym rules.ranks) (reached.rank ∙ sym rules.ranks) in
+    let lacking = subst (λ s. (cell : List ℕ) → IsInside m.block cell → ¬ IsInside cut cell → get_or d.words (c_place s cell) 0 ≡ 0) shape outside in
+    subst (λ s. StoresCells m cut bytes (λ cell. get_or d.words (c_place s cell) 0)) (sym shape)
+    (StoresCells-from_rows m cut d.words bytes within (dense.full ∙ ap cell_count shape) words_are lacking written)

@@ -1,10 +1,10 @@
 -- The grammar of a block's bytes.
-use Rattle.std.specs.Prelude.{◌≡◌, ℕ, ◌*◌, ◌<◌, ◌≤◌, ◌++◌, true, List, length, take, drop, slice_index}
+use Rattle.std.specs.Prelude.{◌≡◌, ℕ, ◌-◌, ◌*◌, ◌<◌, ◌≤◌, ◌++◌, min, true, List, [], ◌∷◌, length, slice_index}
 use Rattle.std.specs.List.{flat_map}
 use Rattle.cells.specs.Numbers.{IsWord}
 use Rattle.cells.specs.Bytes.{byte_count, word_bytes}
-use Rattle.cells.specs.Dense.{DenseCells}
-use Rattle.cells.specs.Places.{cell_count, IsInside, c_place, f_place}
+pub use Rattle.cells.specs.Elements.{element_bytes, word_at}
+use Rattle.cells.specs.Places.{cell_count, IsInside, f_place}
 use Rattle.cells.specs.declared.dtype.Dtype.{Dtype}
 use Rattle.cells.specs.declared.dtype.Dtype.TheVariants.{U16, U32}
 use Rattle.n5_blocks.specs.Metadata.{Metadata}
@@ -13,10 +13,6 @@ use Rattle.n5_blocks.specs.Metadata.{Metadata}
 -- the highest byte first
 abbrev pub header : List ℕ → List ℕ
 header sizes = word_bytes U16 true 0 ++ word_bytes U16 true (length sizes) ++ flat_map (word_bytes U32 true) sizes
-
--- the bytes of the element at a place, where each has `size` bytes
-abbrev pub element_bytes : ℕ → List ℕ → ℕ → List ℕ
-element_bytes size bytes place = take size (drop (place * size) bytes)
 
 -- the bytes are one element for each cell of these sizes and nothing else: the first index runs fastest, and the highest
 -- byte of an element stands first
@@ -42,6 +38,20 @@ pub record StoresCells (m : Metadata) (sizes bytes : List ℕ) (word : List ℕ 
 pub record SpellsBlock (m : Metadata) (bytes : List ℕ) (word : List ℕ → ℕ) : Type 0 where
   pub stored : (sizes : List ℕ) × StoresCells m sizes bytes word
 
--- the word of an index vector, where the words of a shape stand in C order
-abbrev pub word_at : DenseCells → List ℕ → ℕ
-word_at cells index = slice_index cells.words (c_place cells.shape index)
+-- the sizes of a block as far as the array reaches, whose block index this is
+abbrev pub cut_sizes : List ℕ → List ℕ → List ℕ → List ℕ
+cut_sizes (n ∷ block) (s ∷ dimensions) (c ∷ index) = min n (s - c * n) ∷ cut_sizes block dimensions index
+cut_sizes block dimensions index = []
+
+-- the bytes are what is written for the block of this index: it reaches only as far as the array
+abbrev pub WritesBlock : Metadata → List ℕ → List ℕ → (List ℕ → ℕ) → Type 0
+WritesBlock m index bytes word = StoresCells m (cut_sizes m.block m.dimensions index) bytes word
+
+-- the block of this index has a cell inside the array: its first one
+pub record IsReached (m : Metadata) (index : List ℕ) : Type 0 where
+  pub rank : length index ≡ length m.dimensions
+  pub inside : (k : ℕ) → k < length m.dimensions → slice_index index k * slice_index m.block k < slice_index m.dimensions k
+
+-- each cell of the block that lies outside the array has 0
+abbrev pub IsZeroOutside : Metadata → List ℕ → (List ℕ → ℕ) → Type 0
+IsZeroOutside m index word = (cell : List ℕ) → IsInside m.block cell → ¬ IsInside (cut_sizes m.block m.dimensions index) cell → word cell ≡ 0

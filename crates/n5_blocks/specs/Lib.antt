@@ -1,4 +1,5 @@
 pub mod Metadata
+pub mod Want
 pub mod Key
 pub mod Block
 pub mod Faults

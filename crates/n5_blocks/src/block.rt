@@ -1,8 +1,8 @@
-ghost use Rattle.std.specs.Prelude.{◌≡◌, ◌≢◌, ◌↔◌, ℕ, ◌≤◌, ◌<◌, ◌^◌, ◌++◌, IfOk, IfErr, OnOk, Some, None, length, reverse, slice_index};
+ghost use Rattle.std.specs.Prelude.{◌≡◌, ◌≢◌, ◌↔◌, ℕ, ◌*◌, ◌≤◌, ◌<◌, ◌^◌, ◌++◌, IfOk, IfErr, OnOk, Some, None, length, reverse, slice_index};
 ghost use Rattle.cells.specs.Numbers.{IsWord};
 ghost use Rattle.cells.specs.Places.{cell_count};
-ghost use Rattle.n5_blocks.specs.Metadata.{IsBlockShape};
-ghost use Rattle.n5_blocks.specs.Block.{AreWithin, StoresCells, SpellsBlock, header, word_at};
+ghost use Rattle.cells.specs.Shapes.{IsChunkShape};
+ghost use Rattle.n5_blocks.specs.Block.{AreWithin, IsReached, IsZeroOutside, SpellsBlock, WritesBlock, cut_sizes, header, word_at};
 ghost use Rattle.n5_blocks.specs.Faults.{block_fault, cells_fault};
 ghost use Rattle.n5_blocks.specs.Rows.{block_words, elements_of_rows};
 ghost use Rattle.n5_blocks.specs.declared.error.BlockError.{BlockError};
@@ -43,18 +43,45 @@ pub fn decode(alloc: Global, m: &N5Meta, bytes: &[u8]) -> Result<Dense, BlockErr
     Ok(Dense::new(m.dtype, Sizes::wrap(shape), Words::wrap(words)))
 }
 
-/// The bytes of a block that store all its cells and spell its numbers.
+/// The bytes of the block of this index that spell its numbers. The block is written only as far as the array reaches.
 ///
 /// N5, "Blocks".
 ///
 /// # Errors
 /// An allocation failed.
-pub fn encode(alloc: Global, m: &N5Meta, d: &Dense) -> Result<Vec<u8>, AllocError>
+pub fn encode(alloc: Global, m: &N5Meta, chunk: &[u64], d: &Dense) -> Result<Vec<u8>, AllocError>
     requires dtype { d.now.dtype ≡ m.now.dtype }
     requires shape { d.now.shape ≡ m.now.block }
-    ensures { IfOk result (λ bytes. StoresCells m.now m.now.block bytes.items (word_at d.now)) }
+    requires reached { IsReached m.now chunk.now }
+    requires outside { IsZeroOutside m.now chunk.now (word_at d.now) }
+    ensures { IfOk result (λ bytes. WritesBlock m.now chunk.now bytes.items (word_at d.now)) }
 {
-    write_block(alloc, m.dtype, m.block.items(), m.block.items(), d.words())
+    let sizes = cut_sizes(alloc, m.block.items(), m.dimensions.items(), chunk)?;
+    write_block(alloc, m.dtype, m.block.items(), sizes.as_slice(), d.words())
+}
+
+/// The sizes of a block as far as the array reaches.
+///
+/// # Errors
+/// An allocation failed.
+pub fn cut_sizes(
+    alloc: Global,
+    block: &[u64],
+    dimensions: &[u64],
+    chunk: &[u64],
+) -> Result<Vec<u64>, AllocError>
+    requires ranks { length dimensions.now ≡ length block.now }
+    requires rank { length chunk.now ≡ length block.now }
+    requires inside { (k : ℕ) → k < length block.now
+        → slice_index chunk.now k * slice_index block.now k < slice_index dimensions.now k }
+    ensures { IfOk result (λ sizes. sizes.items ≡ cut_sizes block.now dimensions.now chunk.now) }
+{
+    let mut sizes = Vec::with_capacity(alloc, block.len())?;
+    for k in 0..block.len() {
+        let left = dimensions[k] - chunk[k] * block[k];
+        sizes.push(block[k].min(left))?;
+    }
+    Ok(sizes)
 }
 
 // The words of a block's cells in C order.
@@ -65,7 +92,7 @@ fn read_words(
     bytes: &[u8],
 ) -> Result<Vec<u64>, AllocError>
     requires rank { length block.now ≤ 32 }
-    requires block { IsBlockShape block.now }
+    requires block { IsChunkShape block.now }
     requires sound { cells_fault dtype block.now bytes.now ≡ None }
     ensures { IfOk result (λ words. words.items ≡ block_words dtype block.now bytes.now) }
 {
@@ -94,7 +121,7 @@ fn write_block(
     words: &[u64],
 ) -> Result<Vec<u8>, AllocError>
     requires rank { length block.now ≤ 32 }
-    requires block { IsBlockShape block.now }
+    requires block { IsChunkShape block.now }
     requires within { AreWithin block.now sizes.now }
     requires count { length words.now ≡ cell_count block.now }
     requires words { (place : ℕ) → place < length words.now → IsWord dtype (slice_index words.now place) }

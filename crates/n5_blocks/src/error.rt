@@ -1,6 +1,5 @@
 ghost use Rattle.std.specs.Prelude.{◌≡◌};
 
-use cells::Name;
 use std::alloc::AllocError;
 use thiserror::Error;
 
@@ -24,23 +23,6 @@ pub enum BlockError {
     Memory,
 }
 
-/// Why bytes are no metadata, the first that holds. `name` is the member at fault.
-#[derive(Debug, PartialEq, Eq, Drop, Error)]
-pub enum MetaError {
-    /// The bytes are no JSON object.
-    #[error("the metadata is no JSON object")]
-    NotJson,
-    /// The member is missing, or it has a value that it may never have.
-    #[error("a bad member in the metadata")]
-    BadMember { name: Name },
-    /// The member has a value that N5 knows and this crate doesn't read.
-    #[error("a member of the metadata has an unsupported value")]
-    Unsupported { name: Name },
-    /// An allocation failed.
-    #[error("out of memory")]
-    Memory,
-}
-
 impl From<AllocError> for BlockError {
     ghost use Rattle.n5_blocks.specs.declared.error.BlockError.TheVariants as block;
 
@@ -48,15 +30,5 @@ impl From<AllocError> for BlockError {
 
     fn from(_: AllocError) -> Self {
         BlockError::Memory
-    }
-}
-
-impl From<AllocError> for MetaError {
-    ghost use Rattle.n5_blocks.specs.declared.error.MetaError.TheVariants as meta;
-
-    ghost from_gives = { λ _ e. e ≡ meta.Memory };
-
-    fn from(_: AllocError) -> Self {
-        MetaError::Memory
     }
 }

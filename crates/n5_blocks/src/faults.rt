@@ -6,8 +6,7 @@ ghost use Rattle.n5_blocks.specs.Faults.{mode_in, rank_in, header_len, size_in, 
 use crate::error::BlockError;
 use crate::metadata::N5Meta;
 use crate::rows::{byte_count, cells_of};
-use crate::rules::MAX_RANK;
-use cells::{Dtype, take_word};
+use cells::{Dtype, LARGEST_RANK, take_word};
 
 /// The first fault of the bytes, if they have one.
 pub(crate) fn block_fault(m: &N5Meta, bytes: &[u8]) -> Option<BlockError>
@@ -109,12 +108,12 @@ pub(crate) fn header_len(rank: usize) -> usize
 }
 
 /// The sizes in a header of so many dimensions, in the first places.
-pub(crate) fn sizes_in(rank: usize, bytes: &[u8]) -> [u64; MAX_RANK]
+pub(crate) fn sizes_in(rank: usize, bytes: &[u8]) -> [u64; LARGEST_RANK]
     requires rank { rank ≤ 32 }
     requires full { header_len rank ≤ length bytes.now }
     ensures { take rank result ≡ sizes_in rank bytes.now }
 {
-    let mut sizes = [0; MAX_RANK];
+    let mut sizes = [0; LARGEST_RANK];
     for dim in 0..rank {
         sizes[dim] = size_in(bytes, dim);
     }

@@ -13,15 +13,12 @@ mod key;
 mod metadata;
 mod read;
 mod rows;
-mod rules;
-#[cfg(test)]
-mod tests;
 mod write;
 
-pub use block::{decode, encode};
-pub use error::{BlockError, MetaError};
+pub use block::{cut_sizes, decode, encode};
+pub use error::BlockError;
 pub use key::key_of;
+pub use meta_forms::MetaError;
 pub use metadata::{N5Meta, N5Want};
 pub use read::read_meta;
-pub use rules::{is_block_shape, is_dimensions};
 pub use write::write_meta;

@@ -17,7 +17,8 @@ pub struct N5Meta {
     pub dtype: Dtype,
 }
 
-/// What is asked of an array's metadata; what is `None` isn't asked.
+/// What is asked of an array's metadata; what is `None` isn't asked. Each part keeps the rules of metadata, by itself and
+/// beside the others.
 ///
 /// N5, "attributes.json".
 #[derive(Debug, Drop)]
@@ -45,5 +46,23 @@ impl Model for N5Meta {
       dimensions = m.dimensions;
       block = m.block;
       dtype = m.dtype;
+    }) };
+}
+
+impl Model for N5Want {
+    ghost use Rattle.n5_blocks.specs.Want.{Want, IsWant};
+
+    ghost Value = { Want };
+
+    ghost view = { λ w. record {
+      dimensions = w.dimensions;
+      block = w.block;
+      dtype = w.dtype;
+    } };
+
+    ghost invariant = { λ w. IsWant (record {
+      dimensions = w.dimensions;
+      block = w.block;
+      dtype = w.dtype;
     }) };
 }

@@ -6,8 +6,7 @@ ghost use Rattle.cells.specs.Places.{cell_count};
 ghost use Rattle.n5_blocks.specs.Block.{AreWithin};
 ghost use Rattle.n5_blocks.specs.Rows.{words_of_rows, elements_of_rows};
 
-use crate::rules::MAX_CELLS;
-use cells::{Dtype, count_cells, put_word, take_word};
+use cells::{Dtype, MOST_CHUNK_CELLS, count_cells, put_word, take_word};
 use std::alloc::AllocError;
 
 /// Appends the words of a block's cells, the last index fastest, of which cells of these sizes are stored. The first
@@ -123,7 +122,7 @@ pub(crate) fn cells_of(sizes: &[u64]) -> usize
     requires { cell_count sizes.now ≤ 2 ^ 24 }
     ensures { result ≡ cell_count sizes.now }
 {
-    let Some(count) = count_cells(sizes, MAX_CELLS) else {
+    let Some(count) = count_cells(sizes, MOST_CHUNK_CELLS) else {
         unreachable!();
     };
     count as usize

@@ -4,10 +4,9 @@ ghost use Rattle.serde_json.specs.View.{view};
 ghost use Rattle.serde_json.specs.Written.{compact_text};
 ghost use Rattle.n5_blocks.specs.Described.{SpellsMetadata};
 ghost use Rattle.n5_blocks.specs.Read.{metadata_of};
-ghost use Rattle.n5_blocks.specs.Written.{type_name, raw, metadata_data};
+ghost use Rattle.n5_blocks.specs.Written.{raw, metadata_data};
 
 use crate::metadata::N5Meta;
-use cells::Dtype;
 use json_forms::{compact, list_from_u64s};
 use serde_json::{Map, Value, put};
 use std::alloc::{AllocError, Global};
@@ -44,7 +43,7 @@ fn metadata_value(alloc: Global, m: &N5Meta) -> Result<Value, AllocError>
         &mut members,
         alloc,
         "dataType",
-        Value::try_from_str(alloc, type_name(m.dtype))?,
+        Value::try_from_str(alloc, m.dtype.name())?,
     )?;
     put(&mut members, alloc, "compression", raw(alloc)?)?;
     put(
@@ -67,19 +66,4 @@ fn raw(alloc: Global) -> Result<Value, AllocError>
         Value::try_from_str(alloc, "raw")?,
     )?;
     Ok(Value::Object(members))
-}
-
-fn type_name(dtype: Dtype) -> &'static str
-    ensures { result.now ≡ type_name dtype }
-{
-    match dtype {
-        Dtype::I8 => "int8",
-        Dtype::U8 => "uint8",
-        Dtype::I16 => "int16",
-        Dtype::U16 => "uint16",
-        Dtype::I32 => "int32",
-        Dtype::U32 => "uint32",
-        Dtype::I64 => "int64",
-        Dtype::U64 => "uint64",
-    }
 }

@@ -11,7 +11,8 @@ use Rattle.cells.specs.declared.order.Order.{Order}
 use Rattle.cells.specs.declared.order.Order.TheVariants.{C, F}
 use Rattle.cells.proofs.ByteLaws.{word_of_bytes-word_bytes, word_bytes-word_of_bytes, IsWord-word_of_bytes}
 use Rattle.cells.proofs.PlaceLaws.{place_of-lt, c_place-lt, IsInside-c_index, c_place-c_index, IsInside-f_index, f_place-f_index, cell_count-pos}
-use Rattle.zarr_chunks.specs.Metadata.{Metadata, IsChunkShape}
+use Rattle.cells.specs.Shapes.{IsChunkShape}
+use Rattle.zarr_chunks.specs.Metadata.{Metadata}
 use Rattle.zarr_chunks.specs.Chunk.{element_bytes, SpellsWords, SpellsChunk, chunk_len, chunk_word}
 
 -- a chunk has a cell

@@ -4,3 +4,5 @@ pub mod Backwards
 pub mod GatheredPlaces
 pub mod ChunkLaws
 pub mod MetadataLaws
+pub mod TypeLaws
+pub mod ReadLaws

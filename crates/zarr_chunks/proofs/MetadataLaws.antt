@@ -1,17 +1,17 @@
 -- The written form of metadata may be written, and describes the metadata.
-use Rattle.std.proofs.Common.{◌≡◌, ℕ, ◌≤◌, List, [], ◌∷◌, map, false, Option, Some, None, inl, refl, arith}
+use Rattle.std.proofs.Common.{◌≡◌, ℕ, ℤ, pos, negsuc, ◌≤◌, List, [], ◌∷◌, map, false, Option, Some, None, inl, refl, arith}
 use Rattle.serde_json.specs.Data.{depth, items_depth}
 use Rattle.serde_json.specs.Read.{max_depth}
 use Rattle.serde_json.specs.View.{items_of}
 use Rattle.serde_json.specs.Written.{has_float}
 use Rattle.serde_json.proofs.OnLiterals.{serde_json_on_literals}
-use Rattle.json_forms.specs.Numbers.{natural}
+use Rattle.json_forms.specs.Numbers.{natural, integer, whole_number}
 use Rattle.json_forms.proofs.NoFloats.{has_float-integer, has_float-naturals}
 use Rattle.cells.specs.Numbers.{number_of}
 use Rattle.cells.specs.declared.dtype.Dtype.{Dtype}
 use Rattle.zarr_chunks.specs.Metadata.{Metadata}
 use Rattle.zarr_chunks.specs.Written.{fill_data, metadata_data, byte_order, dtype_text}
-use Rattle.zarr_chunks.specs.Described.{Describes}
+use Rattle.zarr_chunks.specs.Described.{Describes, IsFillMember}
 
 has_float-fill : (dtype : Dtype) (fill : Option ℕ) → has_float (fill_data dtype fill) ≡ false
 has_float-fill dtype None = refl
@@ -33,6 +33,15 @@ depth-fill dtype (Some word) = refl
 pub depth-metadata : (m : Metadata) → depth (metadata_data m) ≤ max_depth
 depth-metadata m = rw (items_depth-naturals m.chunks, depth-fill m.dtype m.fill, items_depth-naturals m.shape) (omega arith)
 
+-- the number of an integer is that integer
+whole_number-integer : (z : ℤ) → whole_number (integer z) ≡ Some z
+whole_number-integer (pos n) = refl
+whole_number-integer (negsuc n) = refl
+
+fill_described : (dtype : Dtype) (fill : Option ℕ) → IsFillMember (Some (fill_data dtype fill)) dtype fill
+fill_described dtype None = refl
+fill_described dtype (Some word) = whole_number-integer (number_of dtype word)
+
 -- it describes the metadata
 pub Describes-metadata : (m : Metadata) → Describes (metadata_data m) m
 unfolding serde_json_on_literals
@@ -42,7 +51,7 @@ Describes-metadata m = record {
   chunks = refl;
   dtype = (dtype_text m.dtype m.big, refl, record { mark = byte_order m.dtype m.big; text_is = refl; mark_is = inl refl });
   compressor = refl;
-  fill = refl;
+  fill = fill_described m.dtype m.fill;
   order = refl;
   filters = inl refl;
   between = inl refl;

@@ -1,15 +1,11 @@
 -- What a chunk's bytes spell.
-use Rattle.std.specs.Prelude.{◌≡◌, ℕ, ◌*◌, ◌<◌, Bool, List, length, take, drop, slice_index}
+use Rattle.std.specs.Prelude.{◌≡◌, ℕ, ◌*◌, ◌<◌, Bool, List, length, slice_index}
 use Rattle.cells.specs.Numbers.{IsWord}
 use Rattle.cells.specs.Bytes.{byte_count, word_bytes, word_of_bytes}
-use Rattle.cells.specs.Dense.{DenseCells}
-use Rattle.cells.specs.Places.{cell_count, IsInside, place_of, c_place}
+use Rattle.cells.specs.Places.{cell_count, IsInside, place_of}
 use Rattle.cells.specs.declared.dtype.Dtype.{Dtype}
 use Rattle.zarr_chunks.specs.Metadata.{Metadata}
-
--- the bytes of the element at a place, where each has `size` bytes
-abbrev pub element_bytes : ℕ → List ℕ → ℕ → List ℕ
-element_bytes size bytes place = take size (drop (place * size) bytes)
+pub use Rattle.cells.specs.Elements.{element_bytes, word_at}
 
 -- the bytes are these words one after another, and nothing else
 pub record SpellsWords (dtype : Dtype) (big : Bool) (bytes words : List ℕ) : Type 0 where
@@ -28,10 +24,6 @@ pub record SpellsChunk (m : Metadata) (bytes : List ℕ) (word : List ℕ → �
 -- how many bytes a chunk has
 abbrev pub chunk_len : Metadata → ℕ
 chunk_len m = cell_count m.chunks * byte_count m.dtype
-
--- the word of an index vector, where the words of a shape stand in C order
-abbrev pub word_at : DenseCells → List ℕ → ℕ
-word_at cells index = slice_index cells.words (c_place cells.shape index)
 
 -- the word that a chunk's bytes give an index vector
 abbrev pub chunk_word : Metadata → List ℕ → List ℕ → ℕ

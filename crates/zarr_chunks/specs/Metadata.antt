@@ -1,8 +1,9 @@
 -- What the metadata of an array says, and its rules.
-use Rattle.std.specs.Prelude.{◌≡◌, ℕ, ◌-◌, ◌^◌, ◌≤◌, ◌<◌, Bool, List, length, slice_index, Option}
+use Rattle.std.specs.Prelude.{◌≡◌, ℕ, Bool, false, List, length, Option}
 use Rattle.std.specs.Option.{ForSome}
+use Rattle.cells.specs.Bytes.{byte_count}
 use Rattle.cells.specs.Numbers.{IsWord}
-use Rattle.cells.specs.Places.{cell_count}
+use Rattle.cells.specs.Shapes.{IsShape, IsChunkShape}
 use Rattle.cells.specs.declared.dtype.Dtype.{Dtype}
 use Rattle.cells.specs.declared.order.Order.{Order}
 
@@ -17,20 +18,10 @@ pub record Metadata : Type 0 where
   pub order : Order
   pub slash : Bool
 
--- at most 32 sizes, each at most 2^62 - 2
-pub record IsShape (shape : List ℕ) : Type 0 where
-  pub rank : length shape ≤ 32
-  pub sizes : (k : ℕ) → k < length shape → slice_index shape k ≤ 2 ^ 62 - 2
-
--- sizes of 1 to 2^24 cells, of which a chunk has at most 2^24
-pub record IsChunkShape (chunks : List ℕ) : Type 0 where
-  pub least : (k : ℕ) → k < length chunks → 1 ≤ slice_index chunks k
-  pub greatest : (k : ℕ) → k < length chunks → slice_index chunks k ≤ 2 ^ 24
-  pub volume : cell_count chunks ≤ 2 ^ 24
-
--- the rules of metadata
+-- the rules of metadata; an element of one byte has no byte order, so that `big` is false there
 pub record IsMetadata (m : Metadata) : Type 0 where
   pub shape : IsShape m.shape
   pub ranks : length m.chunks ≡ length m.shape
   pub chunks : IsChunkShape m.chunks
   pub fill : ForSome m.fill (IsWord m.dtype)
+  pub one_byte : byte_count m.dtype ≡ 1 → m.big ≡ false

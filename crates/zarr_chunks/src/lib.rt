@@ -8,15 +8,16 @@
 mod chunk;
 mod key;
 mod metadata;
+mod read;
 mod reorder;
-mod rules;
 mod spelling;
-#[cfg(test)]
-mod tests;
+mod types;
 mod write;
 
+pub use cells::{is_chunk_shape, is_shape};
 pub use chunk::{ChunkError, decode, encode};
 pub use key::key_of;
-pub use metadata::ZarrMeta;
-pub use rules::{is_chunk_shape, is_shape};
+pub use meta_forms::MetaError;
+pub use metadata::{ZarrMeta, ZarrWant};
+pub use read::read_meta;
 pub use write::write_meta;

@@ -1,10 +1,11 @@
 // Metadata as JSON.
-ghost use Rattle.std.specs.Prelude.{◌≡◌, [], ◌∷◌, IfOk};
+ghost use Rattle.std.specs.Prelude.{◌≡◌, [], ◌∷◌, Ok, IfOk};
 ghost use Rattle.serde_json.specs.View.{view};
 ghost use Rattle.serde_json.specs.Written.{compact_text};
 ghost use Rattle.cells.specs.Numbers.{IsWord};
 ghost use Rattle.zarr_chunks.specs.Described.{SpellsMetadata};
 ghost use Rattle.zarr_chunks.specs.Key.{separator};
+ghost use Rattle.zarr_chunks.specs.Read.{metadata_of};
 ghost use Rattle.zarr_chunks.specs.Written.{dtype_text, fill_data, order_text, metadata_data};
 
 use crate::key::separator;
@@ -24,6 +25,7 @@ use std::alloc::{AllocError, Global};
 pub fn write_meta(alloc: Global, m: &ZarrMeta) -> Result<Vec<u8>, AllocError>
     ensures text { IfOk result (λ bytes. bytes.items ≡ compact_text (metadata_data m.now)) }
     ensures spells { IfOk result (λ bytes. SpellsMetadata m.now bytes.items) }
+    ensures reads_back { IfOk result (λ bytes. metadata_of bytes.items ≡ Ok m.now) }
 {
     // A look at a field, by which the contract knows the rules of metadata.
     let _ = &m.shape;

@@ -1,0 +1,7 @@
+pub mod Grammar
+pub mod Words
+pub mod Names
+pub mod Metadata
+pub mod Wants
+pub mod Made
+pub mod Answers

@@ -1,0 +1,21 @@
+//! The forms in which chunks are stored, behind one name.
+//!
+//! Crates above rest on the grammar of chunks and of metadata, whatever the form: what bytes spell, what is written, and
+//! what is wrong with bytes that are no chunk. `decode_form` and `encode_form` go by that grammar alone. `mismatch` tells
+//! what opening compares; `form_made` is the metadata that creating makes.
+#![tactic(auto)]
+
+mod copies;
+mod damage;
+mod decode;
+mod differing;
+mod encode;
+mod form;
+mod looks;
+mod making;
+
+pub use decode::decode_form;
+pub use differing::mismatch;
+pub use encode::encode_form;
+pub use form::{Damage, Form, FormError, Want};
+pub use making::{default_chunks, is_small};

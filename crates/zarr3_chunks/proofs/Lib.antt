@@ -1,0 +1,5 @@
+pub mod UnreadLaws
+pub mod MetadataLaws
+pub mod OtherLaws
+pub mod ReadLaws
+pub mod PassLaws

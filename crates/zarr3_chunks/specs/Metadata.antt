@@ -1,0 +1,24 @@
+-- What the metadata of an array says, and its rules.
+use Rattle.std.specs.Prelude.{◌≡◌, ℕ, Bool, false, List, length}
+use Rattle.cells.specs.Bytes.{byte_count}
+use Rattle.cells.specs.Numbers.{IsWord}
+use Rattle.cells.specs.Shapes.{IsShape, IsChunkShape}
+use Rattle.cells.specs.declared.dtype.Dtype.{Dtype}
+
+-- an array's shape and its chunks' shape in cells, what an element is, and how elements and keys are written: `big` for the
+-- highest byte first, `fill` the word of a cell that is in no chunk, `dot` for "." in keys and not "/"
+pub record Metadata : Type 0 where
+  pub shape : List ℕ
+  pub chunks : List ℕ
+  pub dtype : Dtype
+  pub big : Bool
+  pub fill : ℕ
+  pub dot : Bool
+
+-- the rules of metadata; an element of one byte has no byte order, so that `big` is false there
+pub record IsMetadata (m : Metadata) : Type 0 where
+  pub shape : IsShape m.shape
+  pub ranks : length m.chunks ≡ length m.shape
+  pub chunks : IsChunkShape m.chunks
+  pub fill : IsWord m.dtype m.fill
+  pub one_byte : byte_count m.dtype ≡ 1 → m.big ≡ false
