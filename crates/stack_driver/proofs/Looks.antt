@@ -1,0 +1,32 @@
+-- A view from outside, by its form.
+use Rattle.std.proofs.Common.{◌≡◌, List, map, sym, ap, ◌∙◌}
+use Rattle.cells.specs.declared.dtype.Dtype.{Dtype}
+use Rattle.index_transform.specs.Transforms.{DomainAndMaps}
+use Rattle.stack_driver.specs.References.{Reference}
+use Rattle.stack_driver.specs.declared.view.View.{View, fold-roll-View}
+use Rattle.stack_driver.specs.declared.view.View.TheOpen.{View-F}
+use Rattle.stack_driver.specs.declared.view.View.TheVariants as view
+use Rattle.stack_driver.specs.Views.{Look, look_of, look_step, targets_in, targets_of, own_transform, own_transform_step}
+
+pub look-Leaf : (array : Reference) (t : DomainAndMaps) → look_of (view.Leaf array t) ≡ look_step (View-F.Leaf array t)
+look-Leaf array t = ap look_of (sym (view.rolls-Leaf array t)) ∙ fold-roll-View Look look_step (View-F.Leaf array t)
+
+pub look-Cast : (to : Dtype) (base : View) → look_of (view.Cast to base) ≡ look_step (View-F.Cast to (look_of base))
+look-Cast to base = ap look_of (sym (view.rolls-Cast to base)) ∙ fold-roll-View Look look_step (View-F.Cast to base)
+
+pub look-Stack : (layers : List View) (t : DomainAndMaps) → look_of (view.Stack layers t) ≡ look_step (View-F.Stack (map look_of layers) t)
+look-Stack layers t = ap look_of (sym (view.rolls-Stack layers t)) ∙ fold-roll-View Look look_step (View-F.Stack layers t)
+
+pub own-Leaf : (array : Reference) (t : DomainAndMaps) → own_transform (view.Leaf array t) ≡ t
+own-Leaf array t = ap own_transform (sym (view.rolls-Leaf array t)) ∙ fold-roll-View DomainAndMaps own_transform_step (View-F.Leaf array t)
+
+pub own-Cast : (to : Dtype) (base : View) → own_transform (view.Cast to base) ≡ own_transform base
+own-Cast to base = ap own_transform (sym (view.rolls-Cast to base)) ∙ fold-roll-View DomainAndMaps own_transform_step (View-F.Cast to base)
+
+pub own-Stack : (layers : List View) (t : DomainAndMaps) → own_transform (view.Stack layers t) ≡ t
+own-Stack layers t = ap own_transform (sym (view.rolls-Stack layers t)) ∙ fold-roll-View DomainAndMaps own_transform_step (View-F.Stack layers t)
+
+-- the targets of a view whose look is known
+pub targets_by : (v : View) (l : Look) → look_of v ≡ l → targets_of v ≡ targets_in l
+unfolding targets_of
+targets_by v l e = ap targets_in e

@@ -1,0 +1,6 @@
+pub mod References
+pub mod Targets
+pub mod Views
+pub mod Conditions
+pub mod Changes
+pub mod Arrays

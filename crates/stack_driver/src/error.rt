@@ -1,0 +1,26 @@
+use std::alloc::AllocError;
+use thiserror::Error;
+
+/// Why a cell of a view has no target.
+#[derive(Clone, Copy, Debug, PartialEq, Eq, Error)]
+pub enum TargetError {
+    /// The array's index vector lies outside its shape, first along this dimension.
+    #[error("the cell leaves the array's shape along dimension {dim}")]
+    OutOfRange { dim: u32 },
+    /// No layer of a stack has the cell.
+    #[error("no layer has the cell")]
+    Uncovered,
+    #[error("out of memory")]
+    Memory,
+}
+
+impl From<AllocError> for TargetError {
+    ghost use Rattle.std.specs.Prelude.{◌≡◌};
+    ghost use Rattle.stack_driver.specs.declared.error.TargetError.TheVariants.{Memory};
+
+    ghost from_gives = { λ _ e. e ≡ Memory };
+
+    fn from(_: AllocError) -> TargetError {
+        TargetError::Memory
+    }
+}

@@ -1,0 +1,25 @@
+//! Views: arrays seen through transforms and casts, and stacks of views.
+//!
+//! Crates above rest on `target_of`, which says where each cell of a view lies: in which array, at which index vector, and
+//! behind which casts. A view is plain data in contracts, and each node of it keeps `IsNode`.
+#![tactic(auto)]
+
+mod changing;
+mod copying;
+mod error;
+mod look;
+mod place;
+mod reference;
+mod targeting;
+mod view;
+mod wholes;
+
+pub use changing::{set_transform, with_transform};
+pub use copying::copy;
+pub use error::TargetError;
+pub use look::{dtype, transform_of};
+pub use place::Target;
+pub use reference::ArrayRef;
+pub use targeting::target;
+pub use view::View;
+pub use wholes::whole;
