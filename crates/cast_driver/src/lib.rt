@@ -10,6 +10,3 @@ mod chain;
 
 pub use cast::Cast;
 pub use chain::Chain;
-
-#[cfg(test)]
-mod tests;

@@ -13,6 +13,3 @@ mod snapshot;
 pub use cache::ChunkCache;
 pub use refused::KeepRefused;
 pub use snapshot::Snapshot;
-
-#[cfg(test)]
-mod tests;

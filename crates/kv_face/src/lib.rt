@@ -17,6 +17,3 @@ pub use change::Change;
 pub use error::{Failed, KvError};
 pub use memory::MemoryKv;
 pub use store::KvStore;
-
-#[cfg(test)]
-mod tests;

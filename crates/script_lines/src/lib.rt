@@ -12,8 +12,6 @@ mod cutting;
 mod error;
 mod faults;
 mod rendering;
-#[cfg(test)]
-mod tests;
 mod texts;
 mod values;
 mod words;

@@ -17,8 +17,3 @@ pub use files::{FileScripts, StdoutSink};
 pub use memory::{MemoryScripts, MemorySink};
 pub use outside::{Scripts, Sink};
 pub use top::{Outcome, run};
-
-#[cfg(test)]
-mod array_tests;
-#[cfg(test)]
-mod tests;

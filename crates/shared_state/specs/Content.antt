@@ -1,4 +1,5 @@
--- A cell's word after a history, and the arrays then. No chunk but those at the start, no generation and no cache occur here.
+-- A cell's word after a history, by the events that touch its chunk, and the arrays then. No chunk's bytes but those at the start, no
+-- generation and no cache occur here.
 use Rattle.std.specs.Prelude.{ℕ, ◌+◌, length, Option, Some, None, if◌then◌else◌}
 use Rattle.kv_face.specs.Store.{Contents}
 use Rattle.shared_state.specs.declared.event.Kind.{Kind}

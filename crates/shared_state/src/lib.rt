@@ -1,8 +1,9 @@
 //! The state that sessions share: the events of the run, and the store that holds what they say.
 //!
-//! Crates above rest on the history alone. `content_after` is the word at each cell after events, on plain arrays that
-//! know nothing of chunks, keys or bytes, and `IsConsistent` says that a history is legal and that the store holds
-//! exactly what it says; each call of `State` keeps that, and says which events it adds.
+//! Crates above rest on the history alone. `content_after` is the word at each cell after events, by the chunks that events
+//! touch; `plain_after` is the same on arrays without chunks, keys or bytes, over a store that began empty. `IsConsistent` says
+//! that a history is legal and that the store holds exactly what it says; each call of `State` keeps that, and says which events
+//! it adds.
 #![tactic(auto)]
 
 mod array;

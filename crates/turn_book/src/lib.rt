@@ -9,8 +9,6 @@ mod held;
 mod pass;
 mod rule;
 mod seats;
-#[cfg(test)]
-mod tests;
 mod turn;
 mod view;
 
