@@ -2,7 +2,7 @@ use Rattle.std.proofs.Common.{◌≡◌, true, sym, subst}
 use Rattle.kv_face.specs.Store.{are_together}
 use Rattle.kv_face.specs.Memory.{prefixes_of}
 use Rattle.kv_face.proofs.Changes.{together_of_empty}
-use Rattle.tensor_run.proofs.main.Goals as goal
+use Rattle.tensor_run.proofs.ran.Goals as goal
 
 pub run-outcome-requires-clause-together : goal.run-outcome-requires-clause-together
 run-outcome-requires-clause-together c = λ cs distinct. subst (λ s. are_together (prefixes_of s) cs 0 ≡ true) (sym c.new-store.ensures) (together_of_empty cs 0)
