@@ -1,11 +1,11 @@
 # `make` builds the proved program, `make run SCRIPT=..` runs a script, `make test` is the merge gate.
 SCRIPT ?= examples/first.jsonl
 
-.PHONY: all run test bench
+.PHONY: all run test edits bench
 all: bin/tensor_run
 
 bin/tensor_run: crates.txt $(wildcard crates/*/src/*.rt crates/*/specs/*.antt crates/*/proofs/*.antt)
-	cd crates/tensor_run && rt run -- "$(abspath examples/first.jsonl)" > /dev/null
+	cd crates/tensor_run && rt run -- "$(abspath examples/first.jsonl)" > "$(CURDIR)/build.log" 2>&1
 	mkdir -p bin
 	cp crates/tensor_run/out/tensor_run bin/tensor_run
 
@@ -13,7 +13,7 @@ run: bin/tensor_run
 	@bin/tensor_run "$(SCRIPT)"
 
 bin/bench_views: crates.txt $(wildcard crates/*/src/*.rt crates/*/specs/*.antt crates/*/proofs/*.antt)
-	cd crates/bench_views && rt run -- contiguous 1 > /dev/null
+	cd crates/bench_views && rt run -- contiguous 1 > "$(CURDIR)/build.log" 2>&1
 	mkdir -p bin
 	cp crates/bench_views/out/bench_views bin/bench_views
 
@@ -23,3 +23,6 @@ bench: bin/tensor_run bin/bench_views
 
 test:
 	rt ci
+
+edits:
+	tools/edits.sh
