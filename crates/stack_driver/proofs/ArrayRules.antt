@@ -1,19 +1,15 @@
 -- The view of a whole array keeps the rules.
-use Rattle.std.proofs.Common.{◌≡◌, ◌≤◌, ◌∙◌, ℕ, ◌+◌, Bool, true, List, [], ◌∷◌, length, map, refl, sym, ap, subst, arith}
-use Rattle.std.specs.Prelude.{IsTrue, not, nat_eq, nat_le, ◌==◌, ◌&&◌, ◌||◌}
-use Rattle.std.specs.List.{list_any}
-use Rattle.std.specs.Cmp.Lexicographic.{pointwise}
+use Rattle.std.proofs.Common.{◌≡◌, ◌≤◌, ◌∙◌, ℕ, ◌+◌, true, List, [], ◌∷◌, length, map, refl, sym, subst, arith}
 use Rattle.std.proofs.lemmas.List.{length-map}
 use Rattle.cells.specs.Shapes.{IsShape}
 use Rattle.index_intervals.specs.Bounds.{Bounds}
 use Rattle.index_transform.specs.Transforms.{DomainAndMaps, IsDomain}
 use Rattle.index_transform.specs.Identity.{identity_maps, identity_over}
 use Rattle.index_transform.specs.Maps.{are_labels}
-use Rattle.index_transform.specs.declared.domain.Domain.{Domain}
-use Rattle.stack_driver.specs.References.{Reference, IsReference}
+use Rattle.stack_driver.specs.References.{Reference}
 use Rattle.stack_driver.specs.Conditions.{IsNode, IsView}
 use Rattle.stack_driver.specs.Arrays.{array_dim, array_domain, whole_view}
-use Rattle.stack_driver.specs.declared.view.View.{View, map-View, every-View, every_made-View}
+use Rattle.stack_driver.specs.declared.view.View.{every_made-View}
 use Rattle.stack_driver.specs.declared.view.View.TheOpen.{View-F}
 use Rattle.stack_driver.specs.declared.view.View.TheVariants as view
 

@@ -2,6 +2,7 @@ pub mod Looks
 pub mod Layers
 pub mod Members
 pub mod Shapes
+pub mod Kept
 pub mod Landing
 pub mod Unders
 pub mod Moves

@@ -1,5 +1,5 @@
 -- The view of a whole array.
-use Rattle.std.specs.Prelude.{ℕ, pos, ◌-ℤ◌, List, [], map, Bool, false, not}
+use Rattle.std.specs.Prelude.{ℕ, pos, ◌-ℤ◌, [], map, Bool, false, not}
 use Rattle.index_intervals.specs.Bounds.{Bounds}
 use Rattle.index_transform.specs.Identity.{identity_over}
 use Rattle.index_transform.specs.declared.domain.Domain.{Domain}

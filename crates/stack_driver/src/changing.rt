@@ -1,6 +1,7 @@
 // The same view under another transform.
 ghost use Rattle.std.specs.Prelude.{◌≡◌, ◌≢◌, IfOk, IfErr, Ok, Err};
 ghost use Rattle.stack_driver.specs.Changes.{under, moved, HasTargetsOf};
+ghost use Rattle.stack_driver.specs.Conditions.{IsView};
 ghost use Rattle.transform_composition.specs.declared.error.ComposeError.{ComposeError};
 
 use crate::look::transform_of;
@@ -30,6 +31,7 @@ pub fn with_transform(alloc: Global, v: View, inner: &Transform) -> Result<View,
     ensures ok { IfOk result (λ w. moved v inner.now ≡ Ok w) }
     ensures err { IfErr result (λ e. e ≢ ComposeError.Memory → moved v inner.now ≡ Err e) }
     ensures targets { IfOk result (λ w. HasTargetsOf w v inner.now) }
+    ensures view { IfOk result (λ w. IsView v → IsView w) }
 {
     let mut moved = v;
     let transform = compose(alloc, transform_of(&moved), inner)?;
