@@ -25,6 +25,7 @@ use Rattle.chunk_grid.proofs.BoxLists.{all-append, all-weaker, rising-map, risin
 use Rattle.chunk_grid.proofs.BoxParts.{long-more, parted-more}
 use Rattle.chunk_grid.proofs.BoxCells.{contains-cell, filled-some, narrowed-itself, narrowed-filled, narrowed-more, narrowed-length, narrowed-finite, narrowed-cell}
 use Rattle.chunk_grid.proofs.BoxSplits.{filter-same}
+use Rattle.cells.proofs.Laws.{both_true}
 
 -- the boxes lie within the dimensions
 abbrev pub AreWithin : List Bounds → List Boxed → Type 0
@@ -160,10 +161,6 @@ pub places-along : (dims : List Bounds) (shape : List ℕ) (maps : List OutMap) 
     → All (λ cell. IsInShape shape (map (map_value dims cell) maps)) (cells_of dims) → (cell : List ℤ) → IsCell dims cell → AllByRecursion (λ m. IsPlaceAlong (map_value [] cell m)) maps
 places-along dims shape maps small r inside cell is =
     places-in dims cell shape maps small r (All-contains (λ c. IsInShape shape (map (map_value dims c) maps)) (cells_of dims) cell inside (contains-cell dims cell is))
-
--- one element more of which all hold
-both_true : (a b : Bool) → a ≡ true → b ≡ true → (a && b) ≡ true
-both_true a b e f = (λ i. e i && b) ∙ f
 
 pub all-push : {X : Type 0} (p : X → Bool) (xs : List X) (x : X) → list_all p xs ≡ true → p x ≡ true → list_all p (xs ++ x ∷ []) ≡ true
 all-push p [] x e h = both_true (p x) true h refl

@@ -11,7 +11,6 @@ use Rattle.index_transform.specs.Cells.{cells_of}
 use Rattle.index_transform.specs.Maps.{size_of, is_map}
 use Rattle.index_transform.specs.Values.{map_value}
 use Rattle.index_transform.specs.Walks.{IsCell, lows}
-use Rattle.index_transform.proofs.InsideLemmas.{both}
 use Rattle.chunk_grid.specs.Grid.{IsGrid, Shapes, IsInShape, numbers, chunk_index, place_within}
 use Rattle.chunk_grid.specs.Boxes.{is_regular, IsBoxIn, IsOfBox, from_lows, cell_place, view_steps, chunk_steps, looped, loops_of, pair_at_cell, IsSmallStep}
 use Rattle.chunk_grid.specs.Loops.{IsPlace, AllRun, view_reach, ViewsRise, StayPlaces}
@@ -24,6 +23,7 @@ use Rattle.chunk_grid.proofs.BoxLoops.{above-box, box-runs, box-reach, box-rises
 use Rattle.chunk_grid.proofs.BoxPieces.{all-at-cell, first-of-box}
 use Rattle.chunk_grid.proofs.KeptLaws.{kept, looped-kept, run-kept, reach-kept, rise-kept, stay-kept, steps-small}
 use Rattle.chunk_grid.proofs.StepLaws.{length-view_steps, length-box}
+use Rattle.cells.proofs.Laws.{both}
 
 -- each map goes from the dimensions, without an index array
 pub each-goes : (dims : List Bounds) (maps : List OutMap) → list_all is_regular maps ≡ true → list_all (is_map dims) maps ≡ true → EachGoes (length dims) maps

@@ -17,6 +17,7 @@ use Rattle.chunk_grid.specs.Pieces.{Pair}
 use Rattle.chunk_grid.specs.Runs.{run_of_one, goes_on, longer}
 use Rattle.chunk_grid.specs.Growing.{Grown, grown}
 use Rattle.chunk_grid.specs.Loops.{pair_on, pairs_on}
+use Rattle.cells.proofs.Laws.{both}
 
 -- one time more
 pub times_more : (s : ℤ) (k : ℕ) → s *ℤ pos (k + 1) ≡ s *ℤ pos k +ℤ s
@@ -27,10 +28,6 @@ pos_abs z h = omega (arith, ints)
 
 int_eq-same : (x y : ℤ) → int_eq x y ≡ true → x ≡ y
 int_eq-same x y e = (Decides-int_eq x y).0 e
-
-both : (a b : Bool) → (a && b) ≡ true → (a ≡ true) × (b ≡ true)
-both true b e = (refl, e)
-both false b e = absurd (cc)
 
 one_test : (n : ℕ) → 2 ≤ n → (n == 1) ≡ false
 one_test n h = grind (arith, nat_tests)

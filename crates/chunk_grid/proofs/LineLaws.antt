@@ -14,6 +14,7 @@ use Rattle.chunk_grid.specs.Boxes.{looped}
 use Rattle.chunk_grid.specs.Loops.{fits, run_as_one, as_one, joined}
 use Rattle.chunk_grid.specs.Pieces.{Pair}
 use Rattle.chunk_grid.proofs.RangeLaws.{range-split}
+use Rattle.cells.proofs.Laws.{both}
 
 -- numbers that begin later
 shifted : (f : ℕ → List Pair) (d n e : ℕ) → flat_map (λ j. f (d + j)) (range_with_len e n) ≡ flat_map f (range_with_len (d + e) n)
@@ -100,10 +101,6 @@ abbrev pub AreOne : Loop → Loop → Type 0
 AreOne outer inner =
     ((inner.times ≡ 1) × (as_one outer inner ≡ outer))
     ⊎ (((outer.times ≡ 1) × (as_one outer inner ≡ merged outer inner)) ⊎ (Fits outer inner × (as_one outer inner ≡ merged outer inner)))
-
-both : (a b : Bool) → (a && b) ≡ true → (a ≡ true) × (b ≡ true)
-both true b e = (refl, e)
-both false b e = absurd (cc)
 
 fits-told : (outer inner : Loop) → fits outer inner ≡ true → Fits outer inner
 fits-told outer inner e =

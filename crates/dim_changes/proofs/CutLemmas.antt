@@ -14,12 +14,12 @@ use Rattle.index_intervals.specs.declared.slice.SliceError.TheVariants as slice
 use Rattle.index_intervals.specs.Shift.{shifted, CanShift}
 use Rattle.index_intervals.specs.Stride.{strided}
 use Rattle.index_intervals.proofs.Laws.{is_index-true, IsIndex-true, int_eq-false, int_rem-slice_lo}
-use Rattle.index_transform.proofs.Laws.{both}
 use Rattle.dim_changes.specs.declared.cause.Cause.{Cause}
 use Rattle.dim_changes.specs.declared.cause.Cause.TheVariants.{Overflow, ZeroStep}
 use Rattle.step_forms.specs.declared.act.SlicePart.{SlicePart}
 use Rattle.dim_changes.specs.declared.cut.Cut.{Cut}
 use Rattle.dim_changes.specs.Cuts.{can_move, moved_by, moved_to, placed, strided_by, sliced_by}
+use Rattle.cells.proofs.Laws.{both}
 
 can_move-true : (by x : ℤ) → (IsIndex x → IsIndex (x +ℤ by)) → can_move by x ≡ true
 can_move-true by x h = told (is_index x) refl

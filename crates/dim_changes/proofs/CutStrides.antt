@@ -10,9 +10,9 @@ use Rattle.index_intervals.specs.Stride.{quotient_up, quotient_down, mirrored, s
 use Rattle.index_intervals.proofs.Laws.{is_index-true, IsIndex-true, lo_infinite, hi_infinite, IsQuotientUp-quotient_up, IsQuotientDown-quotient_down, not_negative, AreBounds-contracted, IsMember-contracted, IsWithin-facing, IsIndex-up, IsIndex-down}
 use Rattle.index_intervals.specs.Edges.{finite_part, lower_edge, upper_edge, least_from, least_beyond, greatest_to, greatest_before, preimage_lower, preimage_upper}
 use Rattle.transform_composition.specs.Inside.{goes_down, end_inside}
-use Rattle.index_transform.proofs.Laws.{both}
 use Rattle.dim_changes.specs.Cuts.{has_places}
 use Rattle.dim_changes.proofs.CutTight.{IsTightCut, ends_inside, end_inside-index, end_inside-down, end_inside-up, edge_at}
+use Rattle.cells.proofs.Laws.{both}
 
 -- the pre-image of a bound that is divided
 part_divided : (f : ℤ → ℤ) (x q : ℤ) → f x ≡ q → (IsIndex x → IsIndex q) → option_map f (finite_part x) ≡ finite_part (cond (is_index x) q x)

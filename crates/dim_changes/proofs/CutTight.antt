@@ -12,10 +12,10 @@ use Rattle.index_intervals.specs.Edges.{finite_part, lower_edge, upper_edge, lea
 use Rattle.transform_composition.specs.Inside.{goes_down, end_inside, are_ends_inside}
 use Rattle.transform_composition.specs.Tightening.{is_open}
 use Rattle.index_transform.specs.Values.{is_effective}
-use Rattle.index_transform.proofs.Laws.{and-true}
 use Rattle.dim_changes.specs.declared.cut.Cut.{Cut}
 use Rattle.dim_changes.specs.Cuts.{kept}
 use Rattle.dim_changes.proofs.TightBounds.{Edge, quotient_up-one, quotient_down-one}
+use Rattle.cells.proofs.Laws.{both_true}
 
 -- a cut of a dimension: tightening finds each of its bounds again, and it lies inside the dimension
 pub record IsTightCut (b : Bounds) (cut : Cut) : Type 0 where
@@ -28,8 +28,8 @@ pub record IsTightCut (b : Bounds) (cut : Cut) : Type 0 where
 -- the test of an effective member
 pub is_effective-member : (b : Bounds) (x : ℤ) → IsEffectiveMember b x → is_effective b x ≡ true
 is_effective-member b x m =
-    and-true (is_index x && (b.lo_implicit || int_le b.lo x)) (b.hi_implicit || int_le x b.hi)
-    (and-true (is_index x) (b.lo_implicit || int_le b.lo x) (IsIndex-true x m.index) (low b.lo_implicit m.above_lo))
+    both_true (is_index x && (b.lo_implicit || int_le b.lo x)) (b.hi_implicit || int_le x b.hi)
+    (both_true (is_index x) (b.lo_implicit || int_le b.lo x) (IsIndex-true x m.index) (low b.lo_implicit m.above_lo))
     (high b.hi_implicit m.below_hi)
   where
     low : (f : Bool) → (f ≡ false → b.lo ≤ℤ x) → (f || int_le b.lo x) ≡ true
@@ -49,7 +49,7 @@ ends_inside d b o s l h = told (int_lt d.hi d.lo) refl
     told true e = refl
     told false e =
         let ordered : d.lo ≤ℤ d.hi = grind (arith, ints) in
-        and-true (end_inside b o s d.lo) (end_inside b o s d.hi) (l ordered) (h ordered)
+        both_true (end_inside b o s d.lo) (end_inside b o s d.hi) (l ordered) (h ordered)
 
 pub end_inside-index : (b : Bounds) (o s x : ℤ) → is_index x ≡ true → IsEffectiveMember b (o +ℤ s *ℤ x) → end_inside b o s x ≡ true
 end_inside-index b o s x i m = let e = is_effective-member b (o +ℤ s *ℤ x) m in rw i e

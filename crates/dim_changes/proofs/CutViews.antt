@@ -20,7 +20,6 @@ use Rattle.transform_composition.specs.Reading.{point}
 use Rattle.transform_composition.specs.Composing.{nowhere}
 use Rattle.index_transform.specs.declared.domain.Domain.{Domain}
 use Rattle.index_transform.specs.Transforms.{DomainAndMaps, IsTransform, KeepsRules}
-use Rattle.index_transform.proofs.Laws.{both, and-true}
 use Rattle.dim_changes.specs.declared.cause.Cause.{Cause}
 use Rattle.dim_changes.specs.declared.cause.Cause.TheVariants.{ZeroStep, Unbounded, Overflow}
 use Rattle.dim_changes.specs.declared.cut.Cut.{Cut}
@@ -40,6 +39,7 @@ use Rattle.dim_changes.proofs.CutLemmas.{CanShift-moves}
 use Rattle.dim_changes.proofs.CutTight.{IsTightCut, IsTightCut-moved, IsTightCut-kept}
 use Rattle.dim_changes.proofs.CutStrides.{IsTightCut-strided}
 use Rattle.dim_changes.proofs.CutSlices.{IsTightCut-sliced}
+use Rattle.cells.proofs.Laws.{both, both_true}
 
 moved_by-tight : (b : Bounds) (by : ℤ) → AreBounds b → IsTightCut b (cut_or_kept b (moved_by b by))
 moved_by-tight b by p = told (can_move by b.lo && can_move by b.hi) refl
@@ -202,8 +202,8 @@ ranks-cut a u selected e =
     let q = both (nat_le (length u.domain.dims) 32) (length u.domain.labels == length u.domain.dims) p.0 in
     let l = length-dims a u.domain.dims selected in
     let m = length-maps a u.domain.dims selected in
-    rw (l, m) (and-true (nat_le (length u.domain.dims) 32 && (length u.domain.labels == length u.domain.dims)) (nat_le (length u.domain.dims) 32)
-    (and-true (nat_le (length u.domain.dims) 32) (length u.domain.labels == length u.domain.dims) q.0 q.1) q.0)
+    rw (l, m) (both_true (nat_le (length u.domain.dims) 32 && (length u.domain.labels == length u.domain.dims)) (nat_le (length u.domain.dims) 32)
+    (both_true (nat_le (length u.domain.dims) 32) (length u.domain.labels == length u.domain.dims) q.0 q.1) q.0)
 
 pub IsTransform-cut : (a : Act) (u : DomainAndMaps) (selected : List ℕ) → IsTransform u → ((k : ℕ) → k < length u.domain.dims → AreBounds (dim_at u.domain.dims k))
     → ((place : ℕ) → HasIndicesAt a place) → KeepsRules (cut_view u selected a)

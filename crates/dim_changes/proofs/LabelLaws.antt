@@ -7,7 +7,7 @@ use Rattle.std.specs.Bool.{Decides}
 use Rattle.std.specs.List.{list_any}
 use Rattle.std.specs.Cmp.Lexicographic.{pointwise}
 use Rattle.index_transform.specs.Maps.{are_labels}
-use Rattle.index_transform.proofs.Laws.{both}
+use Rattle.cells.proofs.Laws.{both}
 
 same_text : (a b : List ℕ) → Decides (pointwise nat_eq a b) (a ≡ b)
 same_text a b = slice_eq-Decides Decides-eqb a b (pointwise nat_eq a b) refl

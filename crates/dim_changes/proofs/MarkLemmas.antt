@@ -11,10 +11,10 @@ use Rattle.index_transform.specs.Maps.{is_map, fits, fits_dim, is_fixed, are_ent
 use Rattle.transform_composition.specs.Reading.{point, has_array_along}
 use Rattle.index_transform.specs.Transforms.{DomainAndMaps, IsTransform, KeepsRules}
 use Rattle.index_transform.specs.Values.{value_at, map_value, entry_place, entry_index}
-use Rattle.index_transform.proofs.Laws.{both, and-true}
 use Rattle.dim_changes.specs.Dims.{place_in, dim_at}
 use Rattle.dim_changes.specs.Marks.{marked, marked_dim, with_marks, has_array_on, makes_implicit, mark_answer}
 use Rattle.dim_changes.specs.declared.cause.Cause.TheVariants.{IndexDim}
+use Rattle.cells.proofs.Laws.{both, both_true}
 
 -- what holds of off listed dimension doesn't hold of one that has a place in the list
 pub none_placed : (p : ℕ → Bool) (selected : List ℕ) (i k place : ℕ) → position_from (λ d. d == k) i selected ≡ Some place → list_any p selected ≡ false → p k ≡ false
@@ -58,7 +58,7 @@ fits_marked lower upper d size off fit = told (size == 1) (makes_implicit lower 
     told : (b m : Bool) → makes_implicit lower upper ≡ m → (m && not b) ≡ false → (b || (is_fixed d && size == size_of d)) ≡ true → (b || (is_fixed (marked lower upper d) && size == size_of d)) ≡ true
     told true m e n f = refl
     told false true e n f = cc
-    told false false e n f = let p = both (is_fixed d) (size == size_of d) f in and-true (is_fixed (marked lower upper d)) (size == size_of d) (fixed_marked lower upper d e p.0) p.1
+    told false false e n f = let p = both (is_fixed d) (size == size_of d) f in both_true (is_fixed (marked lower upper d)) (size == size_of d) (fixed_marked lower upper d e p.0) p.1
 
 -- sizes that fit dimensions fit others that they fit one by one
 fit_others : (ds es : List Bounds) (sizes : List ℕ) → length ds ≡ length es
@@ -70,7 +70,7 @@ fit_others (d ∷ ds) [] sizes same each all = absurd (omega (arith, same))
 fit_others (d ∷ ds) (e ∷ es) [] same each all = refl
 fit_others (d ∷ ds) (e ∷ es) (size ∷ sizes) same each all =
     let p = both (fits_dim d size) (list_all (λ p. fits_dim p.0 p.1) (zip ds sizes)) all in
-    and-true (fits_dim e size) (list_all (λ p. fits_dim p.0 p.1) (zip es sizes)) (each 0 (omega arith) p.0)
+    both_true (fits_dim e size) (list_all (λ p. fits_dim p.0 p.1) (zip es sizes)) (each 0 (omega arith) p.0)
     (fit_others ds es sizes (omega (arith, same)) (λ k less. each (suc k) (omega (arith, less))) p.1)
 
 -- the dimensions with other flags
@@ -97,8 +97,8 @@ map_marked dims selected lower upper (Indexed offset stride sizes entries) apart
     let p = both (fits dims sizes) (are_entries sizes entries) is in
     let q = both (length dims == length sizes) (list_all (λ p. fits_dim p.0 p.1) (zip dims sizes)) p.0 in
     let same : (length (marked_dims dims selected lower upper) == length sizes) ≡ true = ap (λ n. n == length sizes) (length_marked dims selected lower upper) ∙ q.0 in
-    and-true (fits (marked_dims dims selected lower upper) sizes) (are_entries sizes entries)
-    (and-true (length (marked_dims dims selected lower upper) == length sizes) _ same
+    both_true (fits (marked_dims dims selected lower upper) sizes) (are_entries sizes entries)
+    (both_true (length (marked_dims dims selected lower upper) == length sizes) _ same
     (fit_others dims (marked_dims dims selected lower upper) sizes (sym (length_marked dims selected lower upper)) each q.1)) p.1
   where
     told : (k : ℕ) (o : Option ℕ) → place_in selected k ≡ o → fits_dim (get_or dims k point) (get_or sizes k 1) ≡ true
@@ -115,7 +115,7 @@ maps_marked : (dims : List Bounds) (selected : List ℕ) (lower upper : Option B
 maps_marked dims selected lower upper [] apart all = refl
 maps_marked dims selected lower upper (m ∷ maps) apart all =
     let p = both (is_map dims m) (list_all (is_map dims) maps) all in
-    and-true (is_map (marked_dims dims selected lower upper) m) _
+    both_true (is_map (marked_dims dims selected lower upper) m) _
     (map_marked dims selected lower upper m (λ k place e. (split (makes_implicit lower upper) (has_array_along k m) (list_any (has_array_along k) maps) (apart k place e)).0) p.0)
     (maps_marked dims selected lower upper maps (λ k place e. (split (makes_implicit lower upper) (has_array_along k m) (list_any (has_array_along k) maps) (apart k place e)).1) p.1)
   where

@@ -16,8 +16,8 @@ use Rattle.transform_composition.specs.Tightening.{tighten_answer}
 use Rattle.transform_composition.specs.Composing.{composed, over_tightened}
 use Rattle.transform_composition.specs.Agreeing.{Agrees, GoesInto}
 use Rattle.index_transform.specs.Walks.{IsCell}
-use Rattle.index_transform.proofs.Laws.{both}
 use Rattle.dim_changes.specs.Causes.{or_cause, over, IsFaultOf, fault_of, Follows}
+use Rattle.cells.proofs.Laws.{both}
 
 -- where all pass, none is the first to fail
 position_from-all : {X : Type 0} (p : X → Bool) (i : ℕ) (xs : List X) → list_all p xs ≡ true → position_from (λ x. not (p x)) i xs ≡ None

@@ -14,8 +14,9 @@ use Rattle.transform_composition.specs.Reading.{point}
 use Rattle.transform_composition.specs.Composing.{nowhere}
 use Rattle.index_transform.specs.Transforms.{DomainAndMaps, on_dims}
 use Rattle.transform_composition.specs.Tightening.{tight_lower, tight_upper, tight_dims, overflows_at, overflows_by, tightened, tighten_answer, preimages, gathered_from, interval_of, on_dims}
-use Rattle.index_transform.proofs.Laws.{get_or-inside, both}
+use Rattle.index_transform.proofs.Laws.{get_or-inside}
 use Rattle.dim_changes.proofs.TightBounds.{Edge, IsTight, interval_of-edges, finite_part-index, overflows-none}
+use Rattle.cells.proofs.Laws.{both}
 
 -- tightening makes one dimension another, by bounds that are finite indices or missing
 pub record IsTightened (k : ℕ) (built dim : Bounds) (outers : List Bounds) (maps : List OutMap) : Type 0 where

@@ -13,7 +13,6 @@ use Rattle.index_transform.specs.Values.{is_effective}
 use Rattle.transform_composition.specs.Reading.{point}
 use Rattle.transform_composition.specs.Composing.{nowhere}
 use Rattle.index_transform.specs.Transforms.{DomainAndMaps, IsTransform, KeepsRules}
-use Rattle.index_transform.proofs.Laws.{both}
 use Rattle.dim_changes.specs.Dims.{place_in, dim_at}
 use Rattle.dim_expressions.specs.Left.{passed}
 use Rattle.dim_expressions.specs.Arrays.{array_map, array_dim, array_at, sizes_along}
@@ -24,6 +23,7 @@ use Rattle.dim_expressions.proofs.PassedLaws.{ends_inside-same, entries_inside-s
 use Rattle.dim_changes.proofs.TightBounds.{IsTight, IsTight-none, IsTight-one, preimage_lower-same, preimage_upper-same}
 use Rattle.dim_changes.proofs.TightMaps.{is_strided_from, preimages-none, preimages-one}
 use Rattle.dim_changes.proofs.TightAnswers.{IsTightTransform}
+use Rattle.cells.proofs.Laws.{both}
 
 -- the lists of the selected dimensions lie in them and are no longer than an index array
 abbrev pub IsArrayFor : Bounds → List ℤ → Type 0

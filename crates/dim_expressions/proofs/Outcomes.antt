@@ -11,7 +11,6 @@ use Rattle.index_transform.specs.Cells.{is_finite}
 use Rattle.index_transform.specs.Transforms.{DomainAndMaps}
 use Rattle.index_transform.specs.Values.{is_effective, value_at, first_outside}
 use Rattle.index_transform.specs.Walks.{IsCell}
-use Rattle.index_transform.proofs.Laws.{both}
 use Rattle.step_forms.specs.declared.act.Act.{Act}
 use Rattle.step_forms.specs.declared.act.Act.TheVariants as act
 use Rattle.step_forms.specs.declared.act.Numbers.{Numbers}
@@ -31,6 +30,7 @@ use Rattle.dim_expressions.specs.Vindex.{vindex_view, vindex_answer}
 use Rattle.dim_expressions.specs.Transpose.{transpose_view, transpose_answer}
 use Rattle.dim_expressions.specs.Newaxis.{newaxis_view, newaxis_answer}
 use Rattle.dim_expressions.specs.Answers.{step_answer, old_index, IsStepped, IsOutcome}
+use Rattle.cells.proofs.Laws.{both}
 
 -- a step that has a view
 outcome : (u : DomainAndMaps) (selected : List ℕ) (a : Act) (view : DomainAndMaps) (r : Result DomainAndMaps Fault) → ((index : List ℤ) → old_index u selected a index ≡ value_at view index)

@@ -10,7 +10,6 @@ use Rattle.transform_composition.specs.Reading.{point}
 use Rattle.transform_composition.specs.Composing.{nowhere}
 use Rattle.transform_composition.specs.Tightening.{tighten_answer}
 use Rattle.index_transform.specs.Transforms.{DomainAndMaps, IsTransform, KeepsRules}
-use Rattle.index_transform.proofs.Laws.{both, and-true}
 use Rattle.dim_changes.specs.Causes.{first_cause}
 use Rattle.dim_changes.specs.Dims.{place_in, others, dim_at}
 use Rattle.dim_expressions.specs.Left.{left_by}
@@ -25,6 +24,7 @@ use Rattle.dim_changes.proofs.TightBounds.{IsTight-none}
 use Rattle.dim_changes.proofs.TightMaps.{is_strided_from, preimages-none}
 use Rattle.dim_changes.proofs.TightAnswers.{IsTightened, IsTightened-same, tighten_answer-Ok}
 use Rattle.dim_expressions.proofs.WithoutLaws.{GoIn, becomes, is_transform, maps, stay, maps_length, map_at, stay_length}
+use Rattle.cells.proofs.Laws.{both, both_true}
 
 all_at : (p : List ℤ → Bool) (xs : List (List ℤ)) (k : ℕ) (d : List ℤ) → list_all p xs ≡ true → k < length xs → p (get_or xs k d) ≡ true
 all_at p [] k d all less = absurd (omega (arith, less))
@@ -83,7 +83,7 @@ module _ (u : DomainAndMaps) (selected : List ℕ) (arrays : List (List ℤ)) (t
       let f2 : fits ((first ∷ []) ++ stay u selected 1 put) (sizes_along (1 + left) 0 (length (array_at arrays place))) ≡ true =
       subst (λ (n : ℕ). fits ((first ∷ []) ++ stay u selected 1 put) (sizes_along n 0 (length (array_at arrays place))) ≡ true) count f in
       let a = are_entries-along (1 + left) 0 (dim_at u.domain.dims dim) (array_at arrays place) (omega arith) g in
-      and-true (fits ((first ∷ []) ++ stay u selected 1 put) (sizes_along (1 + left) 0 (length (array_at arrays place)))) (are_entries (sizes_along (1 + left) 0 (length (array_at arrays place))) (array_at arrays place)) f2 a
+      both_true (fits ((first ∷ []) ++ stay u selected 1 put) (sizes_along (1 + left) 0 (length (array_at arrays place)))) (are_entries (sizes_along (1 + left) 0 (length (array_at arrays place))) (array_at arrays place)) f2 a
 
   not_first : (j : ℕ) → j < length (maps u selected 1 put) → is_strided_from 0 (get_or (maps u selected 1 put) j nowhere) ≡ false
   not_first j h =

@@ -12,7 +12,6 @@ use Rattle.index_transform.specs.Maps.{is_map, is_plain, are_labels, has_ranks}
 use Rattle.transform_composition.specs.Reading.{point}
 use Rattle.transform_composition.specs.Composing.{nowhere}
 use Rattle.index_transform.specs.Transforms.{DomainAndMaps, IsTransform, KeepsRules}
-use Rattle.index_transform.proofs.Laws.{both}
 use Rattle.dim_changes.specs.Dims.{place_in, others, dim_at, label_at}
 use Rattle.index_transform.specs.declared.domain.Domain.{Domain}
 use Rattle.dim_expressions.specs.Left.{passed, left_by, left_map, rank_of, without}
@@ -24,6 +23,7 @@ use Rattle.dim_expressions.proofs.PassedLaws.{ends_inside-same}
 use Rattle.dim_changes.proofs.TightBounds.{IsTight, IsTight-one, preimage_lower-same, preimage_upper-same}
 use Rattle.dim_changes.proofs.TightMaps.{is_strided_from, preimages-one}
 use Rattle.dim_changes.proofs.TightAnswers.{IsTightened, IsTightened-same, BecomesTight}
+use Rattle.cells.proofs.Laws.{both}
 
 -- a transform has one label per dimension, 32 at most
 pub labels_count : (u : DomainAndMaps) → IsTransform u → length u.domain.labels ≡ length u.domain.dims

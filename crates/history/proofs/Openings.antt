@@ -25,13 +25,14 @@ use Rattle.history.specs.Places.{location, location_of, opened_array, arrays_of,
 use Rattle.history.specs.Outcomes.{Outcome, path_taken, mismatch, there, exists, found, made, home_of, new_info, unless_taken, unless_differs, outcome_at, opening_outcome}
 use Rattle.chunk_forms.specs.Wants.{mismatch_of}
 use Rattle.history.specs.Leaves.{Leaf, Stored, location_of_leaf}
-use Rattle.history.proofs.Tests.{true_or_false, and_true}
+use Rattle.history.proofs.Tests.{true_or_false}
 use Rattle.history.proofs.Histories.{after-more, each_history, known_after-more, legal_step, legal_more}
 use Rattle.history.proofs.Known.{known_split, opened_as, opening_of, fresh_number, some_inj, none_is_none, no_array, opened_le}
 use Rattle.history.proofs.Apart.{turned}
 use Rattle.history.proofs.Names.{before_separator, no_separator, all_digits, behind}
 use Rattle.history.proofs.Ordering.{IsAmong, among_first, among_left, among_right, least_none, kept, filter_map-append, begins_split}
 use Rattle.history.proofs.Written.{or_parts}
+use Rattle.cells.proofs.Laws.{both}
 
 pub array_at-more : (events : History) (e : Event) (here : List ℕ) → array_at (events ++ e ∷ []) here ≡ at_step here events e.kind (array_at events here)
 array_at-more events e here = after-more (λ before f found. at_step here before f.kind found) None events e
@@ -142,11 +143,11 @@ known_listed a =
 -- of two texts that a "/" ends, one begins the other where they are the same or it lies above
 above_or_same : (us vs : List ℕ) → begins (us ++ 47 ∷ []) (vs ++ 47 ∷ []) ≡ true → (us ≡ vs) ⊎ (begins (us ++ 47 ∷ []) vs ≡ true)
 above_or_same [] [] e = inl refl
-above_or_same [] (v ∷ vs) e = inr (ap (λ b. b && true) (and_true (47 == v) true e).0)
-above_or_same (u ∷ []) [] e = let parts = and_true (u == 47) false e in absurd (cc)
-above_or_same (u ∷ w ∷ us) [] e = let parts = and_true (u == 47) false e in absurd (cc)
+above_or_same [] (v ∷ vs) e = inr (ap (λ b. b && true) (both (47 == v) true e).0)
+above_or_same (u ∷ []) [] e = let parts = both (u == 47) false e in absurd (cc)
+above_or_same (u ∷ w ∷ us) [] e = let parts = both (u == 47) false e in absurd (cc)
 above_or_same (u ∷ us) (v ∷ vs) e =
-    let parts = and_true (u == v) (begins (us ++ 47 ∷ []) (vs ++ 47 ∷ [])) e in
+    let parts = both (u == v) (begins (us ++ 47 ∷ []) (vs ++ 47 ∷ [])) e in
     elim (above_or_same us vs parts.1) [
       | inl same ↦ let head : u ≡ v = eqb-true u v parts.0 in inl (λ i. head i ∷ same i)
       | inr above ↦ inr (ap (λ b. b && begins (us ++ 47 ∷ []) vs) parts.0 ∙ above)

@@ -21,11 +21,12 @@ use Rattle.history.specs.Writes.{written}
 use Rattle.history.specs.Content.{content_after, word_by, cut_to, present_shape, word_outside}
 use Rattle.history.specs.Plain.{new_word}
 use Rattle.history.specs.Legal.{IsLegal, IsLegalKind, IsAsKept, is_present_in}
-use Rattle.history.proofs.Tests.{true_or_false, and_true}
+use Rattle.history.proofs.Tests.{true_or_false}
 use Rattle.history.proofs.Histories.{each_history, known_after-more, legal_step}
 use Rattle.history.proofs.Known.{known_split, opened_as, some_inj, none_is_none, no_array}
 use Rattle.history.proofs.Untouched.{content_touched, content_untouched, chunk_array}
 use Rattle.history.proofs.Presence.{present_step}
+use Rattle.cells.proofs.Laws.{both}
 
 none_at : (k : Known) (x : Cell) → word_at_start finmap.empty k x ≡ Some k.info.fill
 none_at k x =
@@ -73,7 +74,7 @@ touched_outside h (Opened info) x word legal t k is out =
 touched_outside h (Done line mode ops key) x word legal t k is out =
     ap (λ o. cut_to o (present_shape o) x (written ops (λ y. word) x)) is ∙ cut_outside k k.shape x (written ops (λ y. word) x) out
 touched_outside h (Resized a shape) x word legal t k is out =
-    let here : (a == x.array) ≡ true = ap (λ n. a == n) (sym (chunk_array (known_after h x.array) x)) ∙ (and_true (a == (chunk_of h x).array) (is_cut_in (known_after h (chunk_of h x).array) shape (chunk_of h x).index) t).0 in
+    let here : (a == x.array) ≡ true = ap (λ n. a == n) (sym (chunk_array (known_after h x.array) x)) ∙ (both (a == (chunk_of h x).array) (is_cut_in (known_after h (chunk_of h x).array) shape (chunk_of h x).index) t).0 in
     resized_outside shape x word (known_after h x.array) k (ap (λ b. cond b (reshaped shape (known_after h x.array)) (known_after h x.array)) (sym here) ∙ is) out
 touched_outside h (Fault mount) x word legal t k is out = absurd (cc)
 

@@ -14,7 +14,8 @@ use Rattle.history.specs.Chunks.{Chunk, is_chunk, chunk_of}
 use Rattle.history.specs.Writes.{Put, Content, put, put_at, puts_of, puts_of_op, written}
 use Rattle.history.specs.Reads.{is_put}
 use Rattle.history.specs.Legal.{IsLegalOp, HasTarget, is_present}
-use Rattle.history.proofs.Tests.{true_or_false, and_true}
+use Rattle.history.proofs.Tests.{true_or_false}
+use Rattle.cells.proofs.Laws.{both}
 
 -- the last word that is put at the cell
 abbrev pub else_word : Option ℕ → Option ℕ → Option ℕ
@@ -65,14 +66,14 @@ any_both f (p ∷ ps) qs e g =
 
 pub same_cells : (y x : Cell) → is_cell y x ≡ true → y ≡ x
 same_cells y x e =
-    let parts = and_true (y.array == x.array) (bytes_eq y.index x.index) e in
+    let parts = both (y.array == x.array) (bytes_eq y.index x.index) e in
     let array = eqb-true y.array x.array parts.0 in
     let index = (bytes_eq-Decides y.index x.index).0 parts.1 in
     λ i. record { array = array i; index = index i }
 
 pub same_chunks : (b c : Chunk) → is_chunk b c ≡ true → b ≡ c
 same_chunks b c e =
-    let parts = and_true (b.array == c.array) (bytes_eq b.index c.index) e in
+    let parts = both (b.array == c.array) (bytes_eq b.index c.index) e in
     let array = eqb-true b.array c.array parts.0 in
     let index = (bytes_eq-Decides b.index c.index).0 parts.1 in
     λ i. record { array = array i; index = index i }

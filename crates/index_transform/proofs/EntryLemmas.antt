@@ -8,17 +8,13 @@ use Rattle.std.proofs.Math.Seq.{drop-cons}
 use Rattle.cells.specs.Places.{cell_count}
 use Rattle.index_intervals.specs.Bounds.{Bounds}
 use Rattle.index_transform.specs.Values.{entry_index, entry_place, reaches_dim, reaches}
+use Rattle.cells.proofs.Laws.{both}
 
 -- a product of two numbers of 64 bits
 pub product_small : (s x : ℤ) → FitsSigned w64 s → FitsSigned w64 x → unsigned_abs (s *ℤ x) ≤ 9223372036854775808 * 9223372036854775808
 product_small s x f g =
     let m = mul-le (unsigned_abs s) (unsigned_abs x) 9223372036854775808 9223372036854775808 (omega (arith, ints, f)) (omega (arith, ints, g)) in
     rw (unsigned_abs-mul s x) m
-
--- what a conjunction says
-both : (s t : Bool) → (s && t) ≡ true → (s ≡ true) × (t ≡ true)
-both true t e = (refl, e)
-both false t e = cc
 
 -- the entry's index along a dimension is below the size
 entry_index-below : (d : Bounds) (n : ℕ) (x : ℤ) → reaches_dim d n x ≡ true → entry_index d n x < n

@@ -9,14 +9,7 @@ use Rattle.index_transform.specs.declared.map.OutMap.TheVariants.{Constant, Stri
 use Rattle.index_transform.specs.Maps.{size_of, is_fixed, fits_dim, fits, are_entries, is_map}
 use Rattle.index_transform.specs.Values.{reaches_dim, reaches, has_value, is_effective, first_outside}
 use Rattle.index_transform.proofs.MapLemmas.{list_all-position_from}
-
--- what a conjunction says
-pub both : (s t : Bool) → (s && t) ≡ true → (s ≡ true) × (t ≡ true)
-both true t e = (refl, e)
-both false t e = cc
-
-pub and-true : (s t : Bool) → s ≡ true → t ≡ true → (s && t) ≡ true
-and-true s t e f = rw e f
+use Rattle.cells.proofs.Laws.{both, both_true}
 
 -- an index between explicit bounds is one of so many
 pub reaches_between : (d : Bounds) (n : ℕ) (x : ℤ) → (n == 1) ≡ false → n ≡ size_of d → int_le d.lo x ≡ true → int_le x d.hi ≡ true → reaches_dim d n x ≡ true
@@ -56,7 +49,7 @@ reaches-fits (d ∷ ds) (n ∷ ns) [] l m f g = absurd (omega (arith, m))
 reaches-fits (d ∷ ds) (n ∷ ns) (x ∷ xs) l m f g =
     let p = both (fits_dim d n) (list_all (λ p. fits_dim p.0 p.1) (zip ds ns)) f in
     let q = both (is_effective d x) (list_all (λ p. is_effective p.0 p.1) (zip ds xs)) g in
-    and-true (reaches_dim d n x) (reaches ds ns xs) (reaches_dim-fits d n x p.0 q.0)
+    both_true (reaches_dim d n x) (reaches ds ns xs) (reaches_dim-fits d n x p.0 q.0)
     (reaches-fits ds ns xs (omega (arith, l)) (omega (arith, m)) p.1 q.1)
 
 -- one map, and all of them
@@ -68,14 +61,14 @@ has_value-is_map ds xs (Indexed offset stride sizes entries) l g e =
     let p = both (fits ds sizes) (are_entries sizes entries) e in
     let q = both (length ds == length sizes) (list_all (λ p. fits_dim p.0 p.1) (zip ds sizes)) p.0 in
     let same : length ds ≡ length sizes = grind (arith, nat_tests, q.0) in
-    and-true (reaches ds sizes xs) (are_entries sizes entries) (reaches-fits ds sizes xs same l q.1 g) p.1
+    both_true (reaches ds sizes xs) (are_entries sizes entries) (reaches-fits ds sizes xs same l q.1 g) p.1
 
 pub all_have_value : (ds : List Bounds) (xs : List ℤ) (ms : List OutMap) → length xs ≡ length ds
     → list_all (λ p. is_effective p.0 p.1) (zip ds xs) ≡ true → list_all (is_map ds) ms ≡ true → list_all (has_value ds xs) ms ≡ true
 all_have_value ds xs [] l g e = refl
 all_have_value ds xs (m ∷ ms) l g e =
     let p = both (is_map ds m) (list_all (is_map ds) ms) e in
-    and-true (has_value ds xs m) (list_all (has_value ds xs) ms) (has_value-is_map ds xs m l g p.0) (all_have_value ds xs ms l g p.1)
+    both_true (has_value ds xs m) (list_all (has_value ds xs) ms) (has_value-is_map ds xs m l g p.0) (all_have_value ds xs ms l g p.1)
 
 pub has_value-inside : (ds : List Bounds) (xs : List ℤ) (ms : List OutMap) → length xs ≡ length ds
     → first_outside ds xs ≡ None → list_all (is_map ds) ms ≡ true → list_all (has_value ds xs) ms ≡ true

@@ -1,7 +1,7 @@
 -- The laws of transforms that other crates rest on.
 pub use Rattle.index_transform.proofs.CellLemmas.{length-cells_of, AreCells, AreCells-cells_of}
 pub use Rattle.index_transform.proofs.EntryLemmas.{product_small, entry_place-below, reaches-lengths, IsAlong}
-pub use Rattle.index_transform.proofs.InsideLemmas.{both, and-true, reaches_between, reaches_dim-fits, reaches-fits, has_value-inside}
+pub use Rattle.index_transform.proofs.InsideLemmas.{reaches_between, reaches_dim-fits, reaches-fits, has_value-inside}
 pub use Rattle.index_transform.proofs.ListLemmas.{get_or-inside, position_from-zip, all-at, all-zip-at}
 pub use Rattle.index_transform.proofs.MapLemmas.{list_all-position_from}
 pub use Rattle.index_transform.proofs.NumberLemmas.{*ℤ_assoc, multiplied_out, between_up, between_down}

@@ -4,11 +4,7 @@ use Rattle.std.proofs.lemmas.List.{take_more, map-append}
 use Rattle.std.proofs.Math.Seq.{drop-cons}
 use Rattle.std.specs.List.{position_from, list_all, zip}
 use Rattle.std.proofs.Math.ListN.{set}
-
--- what a conjunction says
-both : (s t : Bool) → (s && t) ≡ true → (s ≡ true) × (t ≡ true)
-both true t e = (refl, e)
-both false t e = cc
+use Rattle.cells.proofs.Laws.{both}
 
 -- one element more is mapped
 pub map-take-more : {X Y : Type 0} (f : X → Y) (xs : List X) (k : ℕ) (x : X) → k < length xs → x ≡ get_or xs k x

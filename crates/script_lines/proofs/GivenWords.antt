@@ -13,6 +13,7 @@ use Rattle.cells.proofs.NumberLaws.{IsWord-word_of}
 use Rattle.json_forms.specs.Numbers.{whole_number}
 use Rattle.json_forms.specs.Lists.{list_items}
 use Rattle.script_lines.specs.NestedWords.{Given, is_held, repeated, one_word, followed, from_items, sized, from_list, nested_words, single_or_nested, words_of}
+use Rattle.cells.proofs.Laws.{both}
 
 -- so many words, each of the dtype
 pub record AreWords (dtype : Dtype) (count : ℕ) (words : List ℕ) : Type 0 where
@@ -22,10 +23,6 @@ pub record AreWords (dtype : Dtype) (count : ℕ) (words : List ℕ) : Type 0 wh
 -- what was given is such words, where it is words
 pub record GivesWords (dtype : Dtype) (count : ℕ) (given : Given) : Type 0 where
   pub are : (words : List ℕ) → given ≡ Ok words → AreWords dtype count words
-
-both : (a b : Bool) → (a && b) ≡ true → (a ≡ true) × (b ≡ true)
-both true b e = (refl, e)
-both false b e = cc
 
 held : (dtype : Dtype) (number : ℤ) → is_held dtype number ≡ true → Holds dtype number
 held dtype number e = let parts = both (int_le (least_of dtype) number) (int_le number (greatest_of dtype)) e in record { from_least = first_of (search (rules, tests), grind (arith, ints)); to_greatest = first_of (search (rules, tests), grind (arith, ints)) }

@@ -18,9 +18,9 @@ use Rattle.transform_composition.specs.Composing.{composed_map, closed, closed_a
 use Rattle.transform_composition.specs.Agreeing.{Agrees, GoesInto}
 use Rattle.transform_composition.proofs.FiniteLemmas.{IsIn, value-inside, all-inside}
 use Rattle.transform_composition.proofs.FitLemmas.{maps-tight}
-use Rattle.index_transform.proofs.InsideLemmas.{both, and-true}
 use Rattle.transform_composition.proofs.JoinLemmas.{length-closed_dims, closed_dims-at}
 use Rattle.transform_composition.proofs.ValueLemmas.{values-closed, values-tight, values-composed}
+use Rattle.cells.proofs.Laws.{both, both_true}
 
 -- what it says that tightening answers
 pub record IsTightened (is os : List Bounds) (gs : List OutMap) (ds : List Bounds) : Type 0 where
@@ -103,7 +103,7 @@ effective-values ds xs (o ∷ os) [] l h e f = refl
 effective-values ds xs (o ∷ os) (g ∷ gs) l h e f =
     let p = both (is_map ds g) (list_all (is_map ds) gs) e in
     let q = both (is_inside_by ds o g) (list_all (λ p. is_inside_by ds p.0 p.1) (zip os gs)) f in
-    and-true (is_effective o (map_value ds xs g)) (list_all (λ p. is_effective p.0 p.1) (zip os (map (map_value ds xs) gs)))
+    both_true (is_effective o (map_value ds xs g)) (list_all (λ p. is_effective p.0 p.1) (zip os (map (map_value ds xs) gs)))
     (value-inside ds xs o g l p.0 q.0 (λ i b r. h i b)) (effective-values ds xs os gs l h p.1 q.1)
 
 -- the cells of tightened dimensions go into the outer ones
@@ -132,7 +132,7 @@ finite-closed : (k : ℕ) (ds : List Bounds) (ms : List OutMap) → list_all is_
 finite-closed k [] ms e = refl
 finite-closed k (d ∷ ds) ms e =
     let p = both (is_finite (closed_along k ms d)) (list_all is_finite (closed_dims (k + 1) ds ms)) e in
-    and-true (is_finite d) (list_all is_finite ds) (told (list_any (has_array_along k) ms) p.0) (finite-closed (k + 1) ds ms p.1)
+    both_true (is_finite d) (list_all is_finite ds) (told (list_any (has_array_along k) ms) p.0) (finite-closed (k + 1) ds ms p.1)
   where
     told : (b : Bool) → is_finite (cond b (closed d) d) ≡ true → is_finite d ≡ true
     told true f = f

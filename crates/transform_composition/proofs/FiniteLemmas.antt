@@ -18,11 +18,12 @@ use Rattle.index_transform.specs.Walks.{IsCell}
 use Rattle.transform_composition.specs.Reading.{depends_on, is_read_along, read_along, read_dims, point, can_read}
 use Rattle.index_transform.proofs.Laws.{get_or-inside}
 use Rattle.index_transform.proofs.EntryLemmas.{entry_place-below}
-use Rattle.index_transform.proofs.InsideLemmas.{both, and-true, reaches_between, reaches_dim-fits}
+use Rattle.index_transform.proofs.InsideLemmas.{reaches_between, reaches_dim-fits}
 use Rattle.index_transform.proofs.ListLemmas.{all-at}
 use Rattle.index_transform.proofs.MapLemmas.{list_all-position_from}
 use Rattle.index_transform.proofs.NumberLemmas.{between_up, between_down}
 use Rattle.transform_composition.proofs.ReadLemmas.{read_cell-length, read_cell-between}
+use Rattle.cells.proofs.Laws.{both, both_true}
 
 -- an index between finite bounds
 pub record IsIn (d : Bounds) (x : ℤ) : Type 0 where
@@ -56,7 +57,7 @@ reaches-in (d ∷ ds) [] xs l m f h = absurd (omega (arith, l))
 reaches-in (d ∷ ds) (n ∷ ns) [] l m f h = absurd (omega (arith, m))
 reaches-in (d ∷ ds) (n ∷ ns) (x ∷ xs) l m f h =
     let p = both (fits_dim d n) (list_all (λ p. fits_dim p.0 p.1) (zip ds ns)) f in
-    and-true (reaches_dim d n x) (reaches ds ns xs)
+    both_true (reaches_dim d n x) (reaches ds ns xs)
     (reaches_dim-in d n x p.0 (λ e. h 0 (omega arith) (rw e refl)))
     (reaches-in ds ns xs (omega (arith, l)) (omega (arith, m)) p.1 (λ i b e. h (suc i) (omega (arith, b)) e))
 
@@ -76,7 +77,7 @@ has_value-in ds xs (Constant o) l e h = refl
 has_value-in ds xs (Strided o s dim) l e h = rw l e
 has_value-in ds xs (Indexed o s ns entries) l e h =
     let p = reaches-map ds xs o s ns entries l e h in
-    and-true (reaches ds ns xs) (are_entries ns entries) p.0 p.1
+    both_true (reaches ds ns xs) (are_entries ns entries) p.0 p.1
 
 -- a number between two effective members is one
 is_effective-between : (d : Bounds) (a y b : ℤ) → is_effective d a ≡ true → is_effective d b ≡ true → a ≤ℤ y → y ≤ℤ b → is_effective d y ≡ true
@@ -86,8 +87,8 @@ is_effective-between d a y b e f l m =
     let r = both (is_index b && (d.lo_implicit || int_le d.lo b)) (d.hi_implicit || int_le b d.hi) f in
     let s = both (is_index b) (d.lo_implicit || int_le d.lo b) r.0 in
     let i : is_index y ≡ true = grind (arith, ints, q.0, s.0, l, m) in
-    and-true (is_index y && (d.lo_implicit || int_le d.lo y)) (d.hi_implicit || int_le y d.hi)
-    (and-true (is_index y) (d.lo_implicit || int_le d.lo y) i (low d.lo_implicit q.1)) (high d.hi_implicit r.1)
+    both_true (is_index y && (d.lo_implicit || int_le d.lo y)) (d.hi_implicit || int_le y d.hi)
+    (both_true (is_index y) (d.lo_implicit || int_le d.lo y) i (low d.lo_implicit q.1)) (high d.hi_implicit r.1)
   where
     low : (t : Bool) → (t || int_le d.lo a) ≡ true → (t || int_le d.lo y) ≡ true
     low true g = refl
@@ -158,7 +159,7 @@ known-read ds xs [] ms l e h = refl
 known-read ds xs (n ∷ ns) [] l e h = refl
 known-read ds xs (n ∷ ns) (m ∷ ms) l e h =
     let p = both (is_map ds m) (list_all (is_map ds) ms) e in
-    and-true (n == 1 || has_value ds xs m) (list_all (λ p. p.0 == 1 || has_value ds xs p.1) (zip ns ms))
+    both_true (n == 1 || has_value ds xs m) (list_all (λ p. p.0 == 1 || has_value ds xs p.1) (zip ns ms))
     (told (n == 1) refl p.0) (known-read ds xs ns ms l p.1 (λ i b r. h i b (read_tail n ns m ms i r)))
   where
     told : (b : Bool) → (n == 1) ≡ b → is_map ds m ≡ true → (b || has_value ds xs m) ≡ true
@@ -178,7 +179,7 @@ reaches-read ds xs (o ∷ os) (n ∷ ns) (m ∷ ms) l e s t f g h =
     let p = both (is_map ds m) (list_all (is_map ds) ms) e in
     let q = both (fits_dim o n) (list_all (λ p. fits_dim p.0 p.1) (zip os ns)) f in
     let r = both (is_inside_by ds o m) (list_all (λ p. is_inside_by ds p.0 p.1) (zip os ms)) g in
-    and-true (reaches_dim o n (map_value ds xs m)) (reaches os ns (map (map_value ds xs) ms))
+    both_true (reaches_dim o n (map_value ds xs m)) (reaches os ns (map (map_value ds xs) ms))
     (told (n == 1) refl p.0 q.0 r.0)
     (reaches-read ds xs os ns ms l p.1 (omega (arith, s)) (omega (arith, t)) q.1 r.1 (λ i b u. h i b (read_tail n ns m ms i u)))
   where
@@ -219,7 +220,7 @@ finite-ends d outer o s b f e = split (int_lt d.hi d.lo) refl e
     split true p g = grind (arith, ints, b, p)
     split false p g =
         let t = both (end_inside outer o s d.lo) (end_inside outer o s d.hi) g in
-        and-true (is_index d.lo) (is_index d.hi) (end d.lo t.0) (end d.hi t.1)
+        both_true (is_index d.lo) (is_index d.hi) (end d.lo t.0) (end d.hi t.1)
 
 -- a dimension on which an index array depends is finite
 finite-fits : (ds : List Bounds) (ns : List ℕ) (i : ℕ) → length ds ≡ length ns → list_all (λ p. fits_dim p.0 p.1) (zip ds ns) ≡ true
@@ -235,7 +236,7 @@ finite-fits (d ∷ ds) (n ∷ ns) zero l f h e =
         let p = both (is_fixed d) (n == size_of d) k in
         let q = both (not d.lo_implicit && not d.hi_implicit && is_index d.lo) (is_index d.hi) p.0 in
         let r = both (not d.lo_implicit && not d.hi_implicit) (is_index d.lo) q.0 in
-        and-true (is_index d.lo) (is_index d.hi) r.1 q.1
+        both_true (is_index d.lo) (is_index d.hi) r.1 q.1
 finite-fits (d ∷ ds) (n ∷ ns) (suc i) l f h e =
     finite-fits ds ns i (omega (arith, l)) ((both (fits_dim d n) (list_all (λ p. fits_dim p.0 p.1) (zip ds ns)) f).1) (omega (arith, h)) e
 
@@ -277,7 +278,7 @@ pub all-read : (p : Bounds → Bool) (ns : List ℕ) (ms : List OutMap) (k : ℕ
     → ((i : ℕ) → i < length ds → is_read_along ns ms (k + i) ≡ true → p (get_or ds i point) ≡ true) → list_all p (read_dims k ds ns ms) ≡ true
 all-read p ns ms k [] q h = refl
 all-read p ns ms k (d ∷ ds) q h =
-    and-true (p (read_along k ns ms d)) (list_all p (read_dims (k + 1) ds ns ms))
+    both_true (p (read_along k ns ms d)) (list_all p (read_dims (k + 1) ds ns ms))
     (told (is_read_along ns ms k) refl)
     (all-read p ns ms (k + 1) ds q (λ i b r. h (suc i) (omega (arith, b)) (let z : k + suc i ≡ (k + 1) + i = omega arith in rw z r)))
   where
@@ -328,7 +329,7 @@ pub can_read-cell : (ds os : List Bounds) (o s : ℤ) (ns : List ℕ) (entries :
 can_read-cell ds os o s ns entries ms xs l e f b m c =
     let p = outer-fits os o s ns entries m in
     let n = read_cell-length ns ms 0 ds xs c in
-    and-true (list_all (λ p. p.0 == 1 || has_value ds xs p.1) (zip ns ms)) (reaches os ns (map (map_value ds xs) ms))
+    both_true (list_all (λ p. p.0 == 1 || has_value ds xs p.1) (zip ns ms)) (reaches os ns (map (map_value ds xs) ms))
     (known-read ds xs ns ms n e within) (reaches-read ds xs os ns ms n e p.0 l p.1 (all-inside ds os ms f) within)
   where
     within : IsWithinRead ds xs ns ms

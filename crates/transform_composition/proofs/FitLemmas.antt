@@ -8,7 +8,7 @@ use Rattle.index_transform.specs.declared.map.OutMap.{OutMap}
 use Rattle.index_transform.specs.declared.map.OutMap.TheVariants.{Constant, Strided, Indexed}
 use Rattle.index_transform.specs.Maps.{is_fixed, fits_dim, fits, are_entries, is_map}
 use Rattle.transform_composition.specs.Tightening.{tight_lower, tight_upper, interval_of, tight_dims, is_ordered}
-use Rattle.index_transform.proofs.InsideLemmas.{both, and-true}
+use Rattle.cells.proofs.Laws.{both, both_true}
 
 pub length-tight_dims : (k : ℕ) (inners outers : List Bounds) (maps : List OutMap) → length (tight_dims k inners outers maps) ≡ length inners
 length-tight_dims k [] outers maps = refl
@@ -48,7 +48,7 @@ fits-tight k (d ∷ ds) outers maps [] o f = refl
 fits-tight k (d ∷ ds) outers maps (n ∷ sizes) o f =
     let os = both (is_ordered d) (list_all is_ordered ds) o in
     let fs = both (fits_dim d n) (list_all (λ p. fits_dim p.0 p.1) (zip ds sizes)) f in
-    and-true (fits_dim (interval_of (tight_lower k d outers maps) (tight_upper k d outers maps)) n) (list_all (λ p. fits_dim p.0 p.1) (zip (tight_dims (k + 1) ds outers maps) sizes)) (fits-dim-tight k d outers maps n os.0 fs.0) (fits-tight (k + 1) ds outers maps sizes os.1 fs.1)
+    both_true (fits_dim (interval_of (tight_lower k d outers maps) (tight_upper k d outers maps)) n) (list_all (λ p. fits_dim p.0 p.1) (zip (tight_dims (k + 1) ds outers maps) sizes)) (fits-dim-tight k d outers maps n os.0 fs.0) (fits-tight (k + 1) ds outers maps sizes os.1 fs.1)
 
 map-tight : (ds outers : List Bounds) (maps : List OutMap) (m : OutMap) → list_all is_ordered ds ≡ true
     → is_map ds m ≡ true → is_map (tight_dims 0 ds outers maps) m ≡ true
@@ -57,12 +57,12 @@ map-tight ds outers maps (Strided offset stride dim) o f = rw (length-tight_dims
 map-tight ds outers maps (Indexed offset stride sizes entries) o f =
     let a = both (fits ds sizes) (are_entries sizes entries) f in
     let b = both (length ds == length sizes) (list_all (λ p. fits_dim p.0 p.1) (zip ds sizes)) a.0 in
-    and-true (fits (tight_dims 0 ds outers maps) sizes) (are_entries sizes entries)
-    (and-true (length (tight_dims 0 ds outers maps) == length sizes) (list_all (λ p. fits_dim p.0 p.1) (zip (tight_dims 0 ds outers maps) sizes)) (rw (length-tight_dims 0 ds outers maps) b.0) (fits-tight 0 ds outers maps sizes o b.1)) a.1
+    both_true (fits (tight_dims 0 ds outers maps) sizes) (are_entries sizes entries)
+    (both_true (length (tight_dims 0 ds outers maps) == length sizes) (list_all (λ p. fits_dim p.0 p.1) (zip (tight_dims 0 ds outers maps) sizes)) (rw (length-tight_dims 0 ds outers maps) b.0) (fits-tight 0 ds outers maps sizes o b.1)) a.1
 
 pub maps-tight : (ds outers : List Bounds) (maps ms : List OutMap) → list_all is_ordered ds ≡ true
     → list_all (is_map ds) ms ≡ true → list_all (is_map (tight_dims 0 ds outers maps)) ms ≡ true
 maps-tight ds outers maps [] o f = refl
 maps-tight ds outers maps (m ∷ ms) o f =
     let fs = both (is_map ds m) (list_all (is_map ds) ms) f in
-    and-true (is_map (tight_dims 0 ds outers maps) m) (list_all (is_map (tight_dims 0 ds outers maps)) ms) (map-tight ds outers maps m o fs.0) (maps-tight ds outers maps ms o fs.1)
+    both_true (is_map (tight_dims 0 ds outers maps) m) (list_all (is_map (tight_dims 0 ds outers maps)) ms) (map-tight ds outers maps m o fs.0) (maps-tight ds outers maps ms o fs.1)

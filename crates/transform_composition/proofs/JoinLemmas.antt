@@ -22,9 +22,9 @@ use Rattle.transform_composition.specs.declared.error.ComposeError.TheVariants.{
 use Rattle.index_transform.proofs.CellLemmas.{length-cells_of}
 use Rattle.index_transform.proofs.Laws.{get_or-inside}
 use Rattle.transform_composition.proofs.FiniteLemmas.{finite-read-at}
-use Rattle.index_transform.proofs.InsideLemmas.{both, and-true}
 use Rattle.index_transform.proofs.ListLemmas.{set-more, fails, all-at}
 use Rattle.index_transform.proofs.NumberLemmas.{product_nonzero}
+use Rattle.cells.proofs.Laws.{both, both_true}
 
 pub length-closed_dims : (k : ℕ) (ds : List Bounds) (ms : List OutMap) → length (closed_dims k ds ms) ≡ length ds
 length-closed_dims k [] ms = refl
@@ -93,7 +93,7 @@ fits-closed k [] ms ns e = refl
 fits-closed k (d ∷ ds) ms [] e = refl
 fits-closed k (d ∷ ds) ms (n ∷ ns) e =
     let p = both (fits_dim d n) (list_all (λ p. fits_dim p.0 p.1) (zip ds ns)) e in
-    and-true (fits_dim (closed_along k ms d) n) (list_all (λ p. fits_dim p.0 p.1) (zip (closed_dims (k + 1) ds ms) ns))
+    both_true (fits_dim (closed_along k ms d) n) (list_all (λ p. fits_dim p.0 p.1) (zip (closed_dims (k + 1) ds ms) ns))
     (fits_dim-closed_along k ms d n p.0) (fits-closed (k + 1) ds ms ns p.1)
 
 -- a map goes from the dimensions made explicit
@@ -103,8 +103,8 @@ is_map-closed ds ms (Strided o s dim) e = rw (length-closed_dims 0 ds ms) e
 is_map-closed ds ms (Indexed o s ns entries) e =
     let p = both (fits ds ns) (are_entries ns entries) e in
     let q = both (length ds == length ns) (list_all (λ p. fits_dim p.0 p.1) (zip ds ns)) p.0 in
-    and-true (fits (closed_dims 0 ds ms) ns) (are_entries ns entries)
-    (and-true (length (closed_dims 0 ds ms) == length ns) (list_all (λ p. fits_dim p.0 p.1) (zip (closed_dims 0 ds ms) ns)) (rw (length-closed_dims 0 ds ms) q.0) (fits-closed 0 ds ms ns q.1)) p.1
+    both_true (fits (closed_dims 0 ds ms) ns) (are_entries ns entries)
+    (both_true (length (closed_dims 0 ds ms) == length ns) (list_all (λ p. fits_dim p.0 p.1) (zip (closed_dims 0 ds ms) ns)) (rw (length-closed_dims 0 ds ms) q.0) (fits-closed 0 ds ms ns q.1)) p.1
 
 is_map-strided_over : (ds : List Bounds) (o s : ℤ) (m : OutMap) → is_map ds m ≡ true → is_map ds (strided_over o s m) ≡ true
 is_map-strided_over ds o s (Constant p) e = refl
@@ -118,7 +118,7 @@ fits-read : (ns : List ℕ) (gs : List OutMap) (ms : List OutMap) (k : ℕ) (ds 
     → list_all (λ p. fits_dim p.0 p.1) (zip (closed_dims k ds ms) (map size_of (read_dims k ds ns gs))) ≡ true
 fits-read ns gs ms k [] f h = refl
 fits-read ns gs ms k (d ∷ ds) f h =
-    and-true (fits_dim (closed_along k ms d) (size_of (read_along k ns gs d)))
+    both_true (fits_dim (closed_along k ms d) (size_of (read_along k ns gs d)))
     (list_all (λ p. fits_dim p.0 p.1) (zip (closed_dims (k + 1) ds ms) (map size_of (read_dims (k + 1) ds ns gs))))
     (told (is_read_along ns gs k) refl (λ u. let z : k + 0 ≡ k = omega arith in rw z at (h 0 u)))
     (fits-read ns gs ms (k + 1) ds
@@ -152,7 +152,7 @@ index-at (x ∷ entries) (suc k) e = index-at entries k ((both (is_index x) (lis
 
 all-mapped : (f : List ℤ → ℤ) → ((xs : List ℤ) → is_index (f xs) ≡ true) → (cells : List (List ℤ)) → list_all is_index (map f cells) ≡ true
 all-mapped f h [] = refl
-all-mapped f h (xs ∷ cells) = and-true (is_index (f xs)) (list_all is_index (map f cells)) (h xs) (all-mapped f h cells)
+all-mapped f h (xs ∷ cells) = both_true (is_index (f xs)) (list_all is_index (map f cells)) (h xs) (all-mapped f h cells)
 
 not-false : (b : Bool) → not b ≡ false → b ≡ true
 not-false true e = refl
@@ -165,8 +165,8 @@ are_entries-read os ds ns entries gs e f =
     let n : length (read_entries os ns entries ds gs) ≡ cell_count (read_sizes ds ns gs) =
     length-map (cells_of (read_dims 0 ds ns gs)) (entry_over os ns entries ds gs) ∙ length-cells_of (read_dims 0 ds ns gs) in
     let same : (length (read_entries os ns entries ds gs) == cell_count (read_sizes ds ns gs)) ≡ true = grind (arith, nat_tests, n) in
-    and-true (nat_le (cell_count (read_sizes ds ns gs)) 4194304 && (length (read_entries os ns entries ds gs) == cell_count (read_sizes ds ns gs))) (list_all is_index (read_entries os ns entries ds gs))
-    (and-true (nat_le (cell_count (read_sizes ds ns gs)) 4194304) (length (read_entries os ns entries ds gs) == cell_count (read_sizes ds ns gs)) (not-false _ f) same)
+    both_true (nat_le (cell_count (read_sizes ds ns gs)) 4194304 && (length (read_entries os ns entries ds gs) == cell_count (read_sizes ds ns gs))) (list_all is_index (read_entries os ns entries ds gs))
+    (both_true (nat_le (cell_count (read_sizes ds ns gs)) 4194304) (length (read_entries os ns entries ds gs) == cell_count (read_sizes ds ns gs)) (not-false _ f) same)
     (all-mapped (entry_over os ns entries ds gs) (λ xs. index-at entries _ p.1) (cells_of (read_dims 0 ds ns gs)))
 
 -- what the lemmas on one map take of the two transforms
@@ -191,8 +191,8 @@ is_map-composed os ds gs ms (Indexed o s ns entries) a e f h =
     let n : length (closed_dims 0 ds ms) ≡ length (read_sizes ds ns gs) =
     length-closed_dims 0 ds ms ∙ sym (length-map (read_dims 0 ds ns gs) size_of ∙ length-read_dims ns gs 0 ds) in
     let same : (length (closed_dims 0 ds ms) == length (read_sizes ds ns gs)) ≡ true = grind (arith, nat_tests, n) in
-    and-true (fits (closed_dims 0 ds ms) (read_sizes ds ns gs)) (are_entries (read_sizes ds ns gs) (read_entries os ns entries ds gs))
-    (and-true (length (closed_dims 0 ds ms) == length (read_sizes ds ns gs)) (list_all (λ p. fits_dim p.0 p.1) (zip (closed_dims 0 ds ms) (read_sizes ds ns gs))) same
+    both_true (fits (closed_dims 0 ds ms) (read_sizes ds ns gs)) (are_entries (read_sizes ds ns gs) (read_entries os ns entries ds gs))
+    (both_true (length (closed_dims 0 ds ms) == length (read_sizes ds ns gs)) (list_all (λ p. fits_dim p.0 p.1) (zip (closed_dims 0 ds ms) (read_sizes ds ns gs))) same
     (fits-read ns gs ms 0 ds
     (λ i b r. finite-read-at ds os o s ns entries gs a.rank a.fit a.inside a.bounds e i b (let z : 0 + i ≡ i = omega arith in rw z at r))
     (λ i u. let z : 0 + i ≡ i = omega arith in rw z (h i u))))
@@ -206,7 +206,7 @@ all_composed os ds gs ms [] j a e f h = refl
 all_composed os ds gs ms (n ∷ ns) j a e f h =
     let p = both (is_map os n) (list_all (is_map os) ns) e in
     let q = fails (is_too_large ds gs) n j ns f in
-    and-true (is_map (closed_dims 0 ds ms) (composed_map os ds gs n)) (list_all (is_map (closed_dims 0 ds ms)) (map (composed_map os ds gs) ns))
+    both_true (is_map (closed_dims 0 ds ms) (composed_map os ds gs n)) (list_all (is_map (closed_dims 0 ds ms)) (map (composed_map os ds gs) ns))
     (is_map-composed os ds gs ms n a p.0 q.0 (λ i u. h i (rw u refl)))
     (all_composed os ds gs ms ns (j + 1) a p.1 q.1 (λ i u. h i (more i (has_array_along i (composed_map os ds gs n)) u)))
   where
@@ -245,7 +245,7 @@ all_plain : (os ds : List Bounds) (gs ms : List OutMap) → list_all is_plain gs
 all_plain os ds gs [] e f = refl
 all_plain os ds gs (m ∷ ms) e f =
     let p = both (is_plain m) (list_all is_plain ms) f in
-    and-true (is_plain (composed_map os ds gs m)) (list_all is_plain (map (composed_map os ds gs) ms)) (is_plain-composed os ds gs m e p.0) (all_plain os ds gs ms e p.1)
+    both_true (is_plain (composed_map os ds gs m)) (list_all is_plain (map (composed_map os ds gs) ms)) (is_plain-composed os ds gs m e p.0) (all_plain os ds gs ms e p.1)
 
 -- explicit bounds are bounds
 bounds-closed_along : (k : ℕ) (ms : List OutMap) (d : Bounds) → are_bounds (closed_along k ms d) ≡ are_bounds d
@@ -259,7 +259,7 @@ bounds-closed_dims : (k : ℕ) (ds : List Bounds) (ms : List OutMap) → list_al
 bounds-closed_dims k [] ms e = refl
 bounds-closed_dims k (d ∷ ds) ms e =
     let p = both (are_bounds d) (list_all are_bounds ds) e in
-    and-true (are_bounds (closed_along k ms d)) (list_all are_bounds (closed_dims (k + 1) ds ms)) (bounds-closed_along k ms d ∙ p.0) (bounds-closed_dims (k + 1) ds ms p.1)
+    both_true (are_bounds (closed_along k ms d)) (list_all are_bounds (closed_dims (k + 1) ds ms)) (bounds-closed_along k ms d ∙ p.0) (bounds-closed_dims (k + 1) ds ms p.1)
 
 -- the composition is a transform
 pub IsTransform-joined : (outer inner : DomainAndMaps) (ds : List Bounds) → IsTransform outer → IsTransform inner → AreJoining outer.domain.dims ds inner.maps
@@ -271,7 +271,7 @@ IsTransform-joined outer inner ds t u a l f =
     let p = both (nat_le (length outer.domain.dims) 32 && (length outer.domain.labels == length outer.domain.dims)) (nat_le (length outer.maps) 32) t.ranks in
     let q = both (nat_le (length inner.domain.dims) 32 && (length inner.domain.labels == length inner.domain.dims)) (nat_le (length inner.maps) 32) u.ranks in
     record {
-      ranks = rw (n, m) (and-true (nat_le (length inner.domain.dims) 32 && (length inner.domain.labels == length inner.domain.dims)) (nat_le (length outer.maps) 32) q.0 p.1);
+      ranks = rw (n, m) (both_true (nat_le (length inner.domain.dims) 32 && (length inner.domain.labels == length inner.domain.dims)) (nat_le (length outer.maps) 32) q.0 p.1);
       labels = u.labels;
       maps = all_composed outer.domain.dims ds inner.maps maps outer.maps 0 a t.maps f (λ i e. e);
       plain = all_plain outer.domain.dims ds inner.maps outer.maps u.plain t.plain;

@@ -16,7 +16,7 @@ use Rattle.index_transform.specs.declared.map.OutMap.TheVariants.{Constant, Stri
 use Rattle.index_intervals.specs.Edges.{finite_part, lower_edge, upper_edge, preimage}
 use Rattle.transform_composition.specs.Tightening.{greater_at, greater_edge, lesser_at, lesser_edge, preimages, is_open, met, takes, tight_lower, tight_upper, gathered_from, passes_at, passes_below, upper_passes, overflows_at, overflows_by, first_overflow_by}
 use Rattle.index_transform.proofs.Laws.{get_or-inside}
-use Rattle.index_transform.proofs.InsideLemmas.{both, and-true}
+use Rattle.cells.proofs.Laws.{both, both_true}
 
 -- each of two edges is met by one of them
 greater-one : (a b : Edge) → ((greater_edge a b).at ≡ a.at) ⊎ ((greater_edge a b).at ≡ b.at)
@@ -104,7 +104,7 @@ none_passes_over inners os ms k inner h i (outer ∷ outers) (Strided offset str
         let same : from ≡ k = grind (arith, nat_tests, f) in
         let there : get_or inners k outer ≡ inner = get_or-inside inners k outer inner h ∙ sym i in
         let q2 = (rw (same, there) at q) in
-        and-true _ _ q2 m
+        both_true _ _ q2 m
 
 -- a finite bound is a finite index
 finite_index : (b x : ℤ) → finite_part b ≡ Some x → IsIndex x
@@ -121,7 +121,7 @@ lower_fine : (o u : Bool) (bounds : Ends) (es : List Ends) → o ≡ true
 lower_fine o u bounds [] p e = refl
 lower_fine o u bounds (d ∷ es) p e =
     let q = both (not ((o && passes_at d.lower.at bounds.lower.at) || (u && upper_passes bounds d))) (list_all (λ e. not ((o && passes_at e.lower.at bounds.lower.at) || (u && upper_passes bounds e))) es) e in
-    and-true (not (passes_at d.lower.at bounds.lower.at)) (list_all (λ e. not (passes_at e.lower.at bounds.lower.at)) es) (one o (passes_at d.lower.at bounds.lower.at) (u && upper_passes bounds d) p q.0) (lower_fine o u bounds es p q.1)
+    both_true (not (passes_at d.lower.at bounds.lower.at)) (list_all (λ e. not (passes_at e.lower.at bounds.lower.at)) es) (one o (passes_at d.lower.at bounds.lower.at) (u && upper_passes bounds d) p q.0) (lower_fine o u bounds es p q.1)
   where
     one : (o a b : Bool) → o ≡ true → not ((o && a) || b) ≡ true → not a ≡ true
     one true true b p e = cc
@@ -134,7 +134,7 @@ upper_fine : (o u : Bool) (bounds : Ends) (es : List Ends) → u ≡ true
 upper_fine o u bounds [] p e = refl
 upper_fine o u bounds (d ∷ es) p e =
     let q = both (not ((o && passes_at d.lower.at bounds.lower.at) || (u && upper_passes bounds d))) (list_all (λ e. not ((o && passes_at e.lower.at bounds.lower.at) || (u && upper_passes bounds e))) es) e in
-    and-true (not (upper_passes bounds d)) (list_all (λ e. not (upper_passes bounds e)) es) (one (o && passes_at d.lower.at bounds.lower.at) u (upper_passes bounds d) p q.0) (upper_fine o u bounds es p q.1)
+    both_true (not (upper_passes bounds d)) (list_all (λ e. not (upper_passes bounds e)) es) (one (o && passes_at d.lower.at bounds.lower.at) u (upper_passes bounds d) p q.0) (upper_fine o u bounds es p q.1)
   where
     one : (b u a : Bool) → u ≡ true → not (b || (u && a)) ≡ true → not a ≡ true
     one true u a p e = cc

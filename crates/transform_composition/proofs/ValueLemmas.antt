@@ -20,8 +20,8 @@ use Rattle.transform_composition.specs.Agreeing.{reads_along}
 use Rattle.index_transform.proofs.CellLemmas.{length-cells_of, length-flat_map, length-counting}
 use Rattle.transform_composition.proofs.FiniteLemmas.{read_head, read_tail}
 use Rattle.transform_composition.proofs.FitLemmas.{tight-fixed}
-use Rattle.index_transform.proofs.InsideLemmas.{both}
 use Rattle.index_transform.proofs.NumberLemmas.{multiplied_out}
+use Rattle.cells.proofs.Laws.{both}
 
 -- explicit bounds change no value
 entry_index-closed : (k : ℕ) (ms : List OutMap) (d : Bounds) (n : ℕ) (x : ℤ) → entry_index (closed_along k ms d) n x ≡ entry_index d n x

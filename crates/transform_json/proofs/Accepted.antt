@@ -28,7 +28,8 @@ use Rattle.transform_json.specs.Output.{array_in, is_in_range, range_of, dim_num
 use Rattle.transform_json.specs.Uppers.{dims_of, dims_at, dims_to, open_dims, upper_name, dim_to}
 use Rattle.transform_json.specs.Written.{has_entries}
 use Rattle.transform_json.proofs.Entries.{nested_entries-good}
-use Rattle.transform_json.proofs.Told.{both, either, no_err, and-true, step-of, mapped-of, where-of, ok-of, found-of, leb-of, leb-true, eqb-of, eqb-true, all_of-length, zip-length}
+use Rattle.transform_json.proofs.Told.{either, no_err, step-of, mapped-of, where-of, ok-of, found-of, leb-of, leb-true, eqb-of, eqb-true, all_of-length, zip-length}
+use Rattle.cells.proofs.Laws.{both, both_true}
 
 -- an index array of a map has an entry for each cell
 has_entries-of : (dims : List Bounds) (m : OutMap) → is_map dims m ≡ true → has_entries m ≡ true
@@ -42,7 +43,7 @@ pub all-have_entries : (dims : List Bounds) (maps : List OutMap) → list_all (i
 all-have_entries dims [] e = refl
 all-have_entries dims (m ∷ maps) e =
     let parts = both (is_map dims m) (list_all (is_map dims) maps) e in
-    and-true _ _ (has_entries-of dims m parts.0) (all-have_entries dims maps parts.1)
+    both_true _ _ (has_entries-of dims m parts.0) (all-have_entries dims maps parts.1)
 
 -- the rank is at most 32
 rank_by-small : (o : Option (List Data)) (name : Option (List ℕ)) (rank : ℕ) → rank_by o name ≡ Ok rank → rank ≤ 32
@@ -145,7 +146,7 @@ domain-good d domain e =
 filled-of : (dims : List Bounds) (sizes : List ℕ) (entries : List ℤ) (a : IndexArray) → fits dims sizes ≡ true → nat_le (cell_count sizes) 4194304 ≡ true → length entries ≡ cell_count sizes → list_all is_index entries ≡ true
     → record { sizes = sizes; entries = entries } ≡ a → (fits dims a.sizes && are_entries a.sizes a.entries) ≡ true
 filled-of dims sizes entries a fit few full good same =
-    subst (λ (x : IndexArray). (fits dims x.sizes && are_entries x.sizes x.entries) ≡ true) same (and-true _ _ fit (and-true _ _ (and-true _ _ few (eqb-true _ _ full)) good))
+    subst (λ (x : IndexArray). (fits dims x.sizes && are_entries x.sizes x.entries) ≡ true) same (both_true _ _ fit (both_true _ _ (both_true _ _ few (eqb-true _ _ full)) good))
 
 -- the index array of a map fits the dimensions
 array_of-good : (dims : List Bounds) (d : Data) (a : IndexArray) → array_of dims d ≡ Some a → (fits dims a.sizes && are_entries a.sizes a.entries) ≡ true
@@ -199,13 +200,13 @@ maps_from-good output dims (d ∷ ds) maps e =
     let more = ok-of (maps_from (output + 1) dims ds) (λ ms. Ok (one.0 ∷ ms)) maps one.1.1 in
     let rest = maps_from-good (output + 1) dims ds more.0 more.1.0 in
     let same : one.0 ∷ more.0 ≡ maps = cc in
-    (ap length (sym same) ∙ ap suc rest.0, ap (list_all (is_map dims)) (sym same) ∙ and-true _ _ (map_of-good (codes "output/" ++ decimal output) dims d one.0 one.1.0) rest.1)
+    (ap length (sym same) ∙ ap suc rest.0, ap (list_all (is_map dims)) (sym same) ∙ both_true _ _ (map_of-good (codes "output/" ++ decimal output) dims d one.0 one.1.0) rest.1)
 
 identity-good : (dims : List Bounds) (k : ℕ) (rest : List Bounds) → k + length rest ≤ length dims → (length (identity_maps k rest) ≡ length rest) × (list_all (is_map dims) (identity_maps k rest) ≡ true)
 identity-good dims k [] within = (refl, refl)
 identity-good dims k (d ∷ rest) within =
     let more = identity-good dims (k + 1) rest (omega arith) in
-    (ap suc more.0, and-true _ _ (leb-true (suc k) (length dims) (omega arith)) more.1)
+    (ap suc more.0, both_true _ _ (leb-true (suc k) (length dims) (omega arith)) more.1)
 
 maps-good : (d : Data) (dims : List Bounds) (maps : List OutMap) → length dims ≤ 32 → maps_of d dims ≡ Ok maps → (length maps ≤ 32) × (list_all (is_map dims) maps ≡ true)
 maps-good d dims maps small =
@@ -229,5 +230,5 @@ pub accepted : (d : Data) (domain : Domain) (maps : List OutMap) → domain_of d
 accepted d domain maps e f =
     let told = domain-good d domain e in
     let good = maps-good d domain.dims maps told.rank f in
-    let ranks : has_ranks domain maps ≡ true = and-true _ _ (and-true _ _ (leb-true _ _ told.rank) (eqb-true _ _ told.labels)) (leb-true _ _ good.0) in
+    let ranks : has_ranks domain maps ≡ true = both_true _ _ (both_true _ _ (leb-true _ _ told.rank) (eqb-true _ _ told.labels)) (leb-true _ _ good.0) in
     rw (ranks, told.good, no_bad_map domain.dims 0 maps good.1) refl

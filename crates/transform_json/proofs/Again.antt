@@ -24,7 +24,8 @@ use Rattle.transform_json.specs.Written.{lower_data, upper_data, are_unlabelled,
 use Rattle.transform_json.proofs.AgainArrays.{list_items-list_of}
 use Rattle.transform_json.proofs.AgainBounds.{read_lower, lower_again, all_of-map, dims_again, labels_again, unlabelled_again}
 use Rattle.transform_json.proofs.AgainMaps.{maps_again, plain_again}
-use Rattle.transform_json.proofs.Told.{both, eqb-of, eqb-true, leb-of, leb-true}
+use Rattle.transform_json.proofs.Told.{eqb-of, eqb-true, leb-of, leb-true}
+use Rattle.cells.proofs.Laws.{both}
 
 -- the members of a written transform, by whether no label has a byte
 abbrev members : Bool → Data → Data → Data → Data → Data → Members

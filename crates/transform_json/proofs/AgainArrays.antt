@@ -16,7 +16,8 @@ use Rattle.transform_json.specs.Arrays.{sizes_below, nested_sizes, nested_entrie
 use Rattle.transform_json.specs.Members.{where_so}
 use Rattle.transform_json.specs.Written.{nested_data, are_some}
 use Rattle.transform_json.proofs.Rows.{joined}
-use Rattle.transform_json.proofs.Told.{both, eqb-of, eqb-true}
+use Rattle.transform_json.proofs.Told.{eqb-of, eqb-true}
+use Rattle.cells.proofs.Laws.{both}
 
 -- the items of a list are those that it was made of
 pub list_items-list_of : (ds : List Data) → list_items (list_of ds) ≡ Some ds

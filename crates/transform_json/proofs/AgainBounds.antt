@@ -16,7 +16,8 @@ use Rattle.transform_json.specs.Bounds.{plain_bound, bound_of, index_or, ordered
 use Rattle.transform_json.specs.Members.{where_so}
 use Rattle.transform_json.specs.Uppers.{number_below, with_number_of, dim_to}
 use Rattle.transform_json.specs.Written.{flagged, lower_data, upper_data, are_unlabelled}
-use Rattle.transform_json.proofs.Told.{both, eqb-of}
+use Rattle.transform_json.proofs.Told.{eqb-of}
+use Rattle.cells.proofs.Laws.{both}
 
 -- a bound that was written, in a list of its own where it is implicit
 bound_again : (infinity : List ℕ) (implicit : Bool) (d : Data) (o : Option ℤ) → as_array d ≡ None → plain_bound infinity d ≡ Some o → bound_of infinity (flagged implicit d) ≡ Some (record { number = o; implicit = implicit })

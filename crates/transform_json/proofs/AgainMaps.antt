@@ -18,7 +18,8 @@ use Rattle.transform_json.specs.Faults.{◌>>=◌}
 use Rattle.transform_json.specs.Output.{array_in, faulty_member, map_in, map_of, maps_from}
 use Rattle.transform_json.specs.Written.{nested_data, map_data, has_sizes, IsWord, HasWords}
 use Rattle.transform_json.proofs.AgainArrays.{array_again}
-use Rattle.transform_json.proofs.Told.{both, leb-true}
+use Rattle.transform_json.proofs.Told.{leb-true}
+use Rattle.cells.proofs.Laws.{both}
 
 i64_again : (z : ℤ) → IsWord z → as_i64 (of_integer z) ≡ Some z
 i64_again (pos n) word = let less : nat_lt n (2 ^ 63) ≡ true = leb-true (suc n) (2 ^ 63) (omega (arith, ints, word)) in rw less refl

@@ -10,12 +10,13 @@ use Rattle.index_intervals.specs.Bounds.{is_index}
 use Rattle.transform_json.specs.Arrays.{nested_entries}
 use Rattle.transform_json.specs.Members.{where_so}
 use Rattle.transform_json.proofs.Rows.{joined}
-use Rattle.transform_json.proofs.Told.{both, and-true, step-of, mapped-of, where-of, eqb-of}
+use Rattle.transform_json.proofs.Told.{step-of, mapped-of, where-of, eqb-of}
+use Rattle.cells.proofs.Laws.{both, both_true}
 
 -- what is told of rows one after another
 all-append : (p : ℤ → Bool) (xs ys : List ℤ) → list_all p xs ≡ true → list_all p ys ≡ true → list_all p (xs ++ ys) ≡ true
 all-append p [] ys e f = f
-all-append p (x ∷ xs) ys e f = let parts = both (p x) (list_all p xs) e in and-true _ _ parts.0 (all-append p xs ys parts.1 f)
+all-append p (x ∷ xs) ys e f = let parts = both (p x) (list_all p xs) e in both_true _ _ parts.0 (all-append p xs ys parts.1 f)
 
 abbrev IsFull : ℕ → List ℤ → Type 0
 IsFull n entries = (length entries ≡ n) × (list_all is_index entries ≡ true)
@@ -37,7 +38,7 @@ nested_entries-good [] d entries e =
     let number = step-of (λ x. where_so (is_index x) (Some (x ∷ []))) (whole_number d) entries e in
     let good = where-of (is_index number.0) (Some (number.0 ∷ [])) entries number.1.1 in
     let same : number.0 ∷ [] ≡ entries = cc in
-    (ap length (sym same), ap (list_all is_index) (sym same) ∙ and-true _ _ good.0 refl)
+    (ap length (sym same), ap (list_all is_index) (sym same) ∙ both_true _ _ good.0 refl)
 nested_entries-good (size ∷ sizes) d entries e =
     let rows = mapped-of joined (option_and_then (λ items. where_so (length items == size) (all_of (nested_entries sizes) items)) (list_items d)) entries e in
     let items = step-of (λ items. where_so (length items == size) (all_of (nested_entries sizes) items)) (list_items d) rows.0 rows.1.0 in

@@ -7,10 +7,7 @@ use Rattle.json_forms.specs.Lists.{all_of}
 use Rattle.transform_json.specs.declared.error.JsonError.{JsonError}
 use Rattle.transform_json.specs.Faults.{◌>>=◌, found_at}
 use Rattle.transform_json.specs.Members.{where_so}
-
-pub both : (s t : Bool) → (s && t) ≡ true → (s ≡ true) × (t ≡ true)
-both true t e = (refl, e)
-both false t e = absurd cc
+use Rattle.cells.proofs.Laws.{both, both_true}
 
 -- what is told by either branch is told by the choice
 pub either : {R : Type 0} (P : Type 0) (b : Bool) (x y z : R) → (x ≡ z → P) → (y ≡ z → P) → cond b x y ≡ z → P
@@ -20,9 +17,6 @@ either P false x y z f g e = g e
 -- a branch that is no fault
 pub no_err : {A : Type 0} (P : Type 0) (x : JsonError) (a : A) → Err x ≡ Ok a → P
 no_err P x a e = absurd cc
-
-pub and-true : (s t : Bool) → s ≡ true → t ≡ true → (s && t) ≡ true
-and-true s t e f = rw (e, f) refl
 
 pub step-of : {A B : Type 0} (f : A → Option B) (o : Option A) (b : B) → option_and_then f o ≡ Some b → (a : A) × ((o ≡ Some a) × (f a ≡ Some b))
 step-of f None b e = absurd cc
