@@ -4,7 +4,7 @@ use Rattle.std.proofs.Math.ListN.{drop_of_length-le}
 use Rattle.std.proofs.Math.Nat.{min_comm}
 use Rattle.cells.specs.Numbers.{bits_of, number_of, IsWord, IsCongruent, conv_word}
 use Rattle.cells.specs.declared.dtype.Dtype.{Dtype}
-use Rattle.cells.proofs.NumberLaws.{IsWord-conv_word, IsConverted-conv_word, IsConverted-unique, same_from_number}
+use Rattle.cells.proofs.Laws.{IsWord-conv_word, IsConverted-conv_word, IsConverted-unique, same_from_number}
 use Rattle.cast_driver.specs.declared.cast.Cast.{Cast}
 use Rattle.cast_driver.specs.Chain.{BeginsWith, AreJoined, dtype_after, word_out, word_back, fewest_bits_out, fewest_bits_back, NoneNarrower}
 use Rattle.cast_driver.proofs.CongruenceLaws.{IsCongruent-refl, IsCongruent-trans, IsCongruent-fewer, IsCongruent-steps}

@@ -7,3 +7,4 @@ pub mod NumberLaws
 pub mod PlaceLaws
 pub mod PlaceSteps
 pub mod ShapeLaws
+pub mod TestLaws

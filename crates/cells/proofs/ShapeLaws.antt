@@ -5,7 +5,7 @@ use Rattle.std.specs.List.{list_all}
 use Rattle.std.proofs.lemmas.Bool.{leb-true, le-leb}
 use Rattle.std.proofs.lemmas.Bool.Decides.{nat_tests}
 use Rattle.cells.specs.Places.{cell_count, IsInside}
-use Rattle.cells.proofs.Laws.{both, both_true, list_all-at, list_all-from}
+use Rattle.cells.proofs.TestLaws.{both, both_true, list_all-at, list_all-from}
 use Rattle.cells.specs.Shapes.{IsShape, IsChunkShape, is_shape, is_chunk_shape, is_inside}
 
 -- sizes that pass the test are an array's

@@ -2,7 +2,7 @@
 use Rattle.std.proofs.Common.{◌≡◌, ℕ, ◌<◌, inl, inr, List, length, drop, true, false, cond, Some, None, refl, sym, ap, subst, get_or, replicate, ◌∙◌, eq-eqb, eqb, eqb-true, Option}
 use Rattle.cells.specs.Bytes.{byte_count, word_of_bytes}
 use Rattle.cells.specs.Places.{IsInside, cell_count, c_place, f_place}
-use Rattle.cells.proofs.ByteLaws.{word_of_bytes-word_bytes}
+use Rattle.cells.proofs.Laws.{word_of_bytes-word_bytes, c_place-lt, true_or_false, test-IsInside, IsInside-from_test}
 use Rattle.chunk_forms.specs.declared.form.Form.{Form}
 use Rattle.chunk_forms.specs.declared.form.Form.TheVariants.{Zarr, N5, Zarr3, Local}
 use Rattle.chunk_forms.specs.declared.form.Damage.TheVariants as damage
@@ -14,17 +14,13 @@ use Rattle.zarr_chunks.specs.Chunk as chunk
 use Rattle.zarr_chunks.specs.declared.chunk.ChunkError.TheVariants.{WrongLength}
 use Rattle.n5_blocks.specs.Metadata as n5
 use Rattle.n5_blocks.specs.Block as block
-use Rattle.zarr_chunks.proofs.ChunkLaws.{SpellsChunk-from_len}
+use Rattle.zarr_chunks.proofs.Laws.{SpellsChunk-from_len}
 use Rattle.n5_blocks.specs.Faults.{header_len, block_fault}
 use Rattle.n5_blocks.specs.declared.error.BlockError.{BlockError}
-use Rattle.n5_blocks.proofs.BlockLaws.{SpellsBlock-from_no_fault}
-use Rattle.n5_blocks.proofs.SpellingLaws.{no_fault-SpellsBlock, parsed}
+use Rattle.n5_blocks.proofs.Laws.{SpellsBlock-from_no_fault, no_fault-SpellsBlock, parsed}
 use Rattle.std.proofs.lemmas.List.{get_or-replicate}
-use Rattle.cells.proofs.PlaceLaws.{c_place-lt}
 use Rattle.zarr3_chunks.specs.Metadata as zarr3
 use Rattle.zarr3_chunks.specs.Chunk.{as_zarr}
-use Rattle.cells.proofs.Laws.{true_or_false}
-use Rattle.cells.proofs.ShapeLaws.{test-IsInside, IsInside-from_test}
 
 -- what is written for a chunk spells its words
 pub spells_of_writes : (form : Form) (index shape bytes : List ℕ) (word : List ℕ → ℕ) → WritesChunk form index shape bytes word → SpellsChunk form bytes word

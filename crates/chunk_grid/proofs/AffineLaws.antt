@@ -6,12 +6,12 @@ use Rattle.std.proofs.Math.IntN.{*ℤ_comm, zero-*ℤ}
 use Rattle.std.proofs.Math.Nat.{mul_comm, mul-add}
 use Rattle.cells.specs.Places.{cell_count}
 use Rattle.index_intervals.specs.Bounds.{Bounds}
-use Rattle.index_intervals.proofs.QuotientLemmas.{add-*ℤ}
+use Rattle.index_intervals.proofs.Laws.{add-*ℤ}
 use Rattle.index_transform.specs.declared.map.OutMap.{OutMap}
 use Rattle.index_transform.specs.declared.map.OutMap.TheVariants.{Constant, Strided, Indexed}
 use Rattle.index_transform.specs.Maps.{size_of}
 use Rattle.index_transform.specs.Values.{map_value}
-use Rattle.index_transform.proofs.NumberLemmas.{*ℤ_assoc}
+use Rattle.index_transform.proofs.Laws.{*ℤ_assoc}
 use Rattle.index_transform.specs.Walks.{IsCell, lows}
 use Rattle.chunk_grid.specs.Grid.{AreFromZero, numbers, chunk_index, place_within}
 use Rattle.chunk_grid.specs.Boxes.{from_lows, cell_place, view_steps, added_along, added_by, chunk_steps}

@@ -10,7 +10,7 @@ use Rattle.std.proofs.lemmas.Bool.{cases_lt, eq-eqb, ne_eqb}
 use Rattle.std.proofs.lemmas.List.{map-append}
 use Rattle.std.proofs.lemmas.List.Elements.{All-from_recursion, All-contains, Contains-append_left, Contains-push}
 use Rattle.index_intervals.specs.Bounds.{Bounds}
-use Rattle.index_intervals.proofs.QuotientLemmas.{add-*ℤ, neg-*ℤ}
+use Rattle.index_intervals.proofs.Laws.{add-*ℤ, neg-*ℤ}
 use Rattle.index_transform.specs.Cells.{members_of}
 use Rattle.index_transform.specs.Maps.{size_of}
 use Rattle.chunk_grid.specs.declared.boxes.Segment.{Segment}

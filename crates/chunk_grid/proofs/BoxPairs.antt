@@ -9,7 +9,7 @@ use Rattle.index_transform.specs.Cells.{cells_of}
 use Rattle.index_transform.specs.Maps.{size_of}
 use Rattle.index_transform.specs.Values.{map_value}
 use Rattle.index_transform.specs.Walks.{IsCell, lows}
-use Rattle.index_transform.proofs.CellLemmas.{length-cells_of}
+use Rattle.index_transform.proofs.Laws.{length-cells_of}
 use Rattle.chunk_grid.specs.Grid.{numbers, place_within}
 use Rattle.chunk_grid.specs.Boxes.{from_lows, cell_place, view_steps, chunk_steps, looped, loops_of, pair_at_cell, IsOfBox}
 use Rattle.chunk_grid.proofs.LoopLaws.{at_view, at_chunk, pair_from, cells-looped, cells-range, flat_map-alike, map-flat_map, map-map, map-alike}

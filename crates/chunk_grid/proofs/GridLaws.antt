@@ -7,7 +7,7 @@ use Rattle.std.proofs.Math.Nat.{mod-lt}
 use Rattle.std.proofs.lemmas.Nat.{div-add-mod'}
 use Rattle.std.proofs.lemmas.List.{length-map, take_more, take_more_set}
 use Rattle.cells.specs.Places.{cell_count, c_index, IsInside}
-use Rattle.cells.proofs.PlaceLaws.{c_place-lt, c_index-c_place}
+use Rattle.cells.proofs.Laws.{c_place-lt, c_index-c_place}
 use Rattle.chunk_grid.specs.Grid.{AreFromZero, IsInShape, IsInBox, numbers, chunk_index, within_chunk, in_array, place_within}
 
 -- an index vector inside a shape has its length, and no index below 0

@@ -9,8 +9,7 @@ use Rattle.std.proofs.lemmas.List.{map-append}
 use Rattle.std.proofs.lemmas.Int.{ints}
 use Rattle.std.proofs.lemmas.Bool.Decides.{Decides-int_eq, nat_tests}
 use Rattle.std.proofs.lemmas.List.Sums.{fold-append}
-use Rattle.index_intervals.proofs.QuotientLemmas.{suc-*ℤ}
-use Rattle.index_intervals.proofs.SlicedLemmas.{int_eq-true}
+use Rattle.index_intervals.proofs.Laws.{suc-*ℤ, int_eq-true}
 use Rattle.cells.specs.declared.run.Run.{Run}
 use Rattle.chunk_grid.proofs.RangeLaws.{range-split}
 use Rattle.chunk_grid.specs.Pieces.{Pair}

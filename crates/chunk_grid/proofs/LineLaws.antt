@@ -8,7 +8,7 @@ use Rattle.std.proofs.lemmas.Int.{ints}
 use Rattle.std.proofs.lemmas.List.{append-nil}
 use Rattle.std.proofs.lemmas.List.Concat.{flat_map-append}
 use Rattle.std.proofs.lemmas.Bool.Decides.{Decides-int_eq}
-use Rattle.index_transform.proofs.NumberLemmas.{multiplied_out}
+use Rattle.index_transform.proofs.Laws.{multiplied_out}
 use Rattle.chunk_grid.specs.declared.lines.Loop.{Loop}
 use Rattle.chunk_grid.specs.Boxes.{looped}
 use Rattle.chunk_grid.specs.Loops.{fits, run_as_one, as_one, joined}

@@ -8,7 +8,7 @@ use Rattle.std.proofs.lemmas.Int.{ints}
 use Rattle.std.proofs.lemmas.List.{append-nil}
 use Rattle.std.proofs.lemmas.List.Concat.{flat_map-append, flat_map_single}
 use Rattle.std.proofs.lemmas.List.Sums.{fold-append}
-use Rattle.index_intervals.proofs.SlicedLemmas.{int_eq-true}
+use Rattle.index_intervals.proofs.Laws.{int_eq-true}
 use Rattle.chunk_grid.specs.declared.lines.Loop.{Loop}
 use Rattle.chunk_grid.specs.Boxes.{looped}
 use Rattle.chunk_grid.specs.Cuts.{IsUpTo}

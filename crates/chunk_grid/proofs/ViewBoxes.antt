@@ -11,7 +11,7 @@ use Rattle.index_transform.specs.Maps.{size_of}
 use Rattle.index_transform.specs.Transforms.{DomainAndMaps}
 use Rattle.index_transform.specs.Values.{map_value, value_at}
 use Rattle.index_transform.specs.Walks.{lows}
-use Rattle.index_transform.proofs.CellLemmas.{length-cells_of}
+use Rattle.index_transform.proofs.Laws.{length-cells_of}
 use Rattle.chunk_grid.specs.Grid.{Shapes, IsGrid, IsInShape, numbers}
 use Rattle.chunk_grid.specs.Boxes.{is_regular, AreBoxes, IsBoxIn, IsOfBox, IsCutBox, key_along, piece_of_box}
 use Rattle.chunk_grid.specs.Runs.{run_pieces}

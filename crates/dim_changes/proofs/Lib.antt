@@ -16,3 +16,4 @@ pub mod StepLemmas
 pub mod TightAnswers
 pub mod TightBounds
 pub mod TightMaps
+pub mod Laws

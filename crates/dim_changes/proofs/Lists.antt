@@ -4,7 +4,7 @@ use Rattle.std.specs.Option.{is_none}
 use Rattle.std.specs.List.{range_with_len}
 use Rattle.std.proofs.lemmas.List.FromFn.{map-range_with_len_more}
 use Rattle.dim_changes.specs.Dims.{place_in, others}
-use Rattle.step_forms.proofs.Ranges.{positions_more}
+use Rattle.step_forms.proofs.Laws.{positions_more}
 
 -- one dimension more
 pub listed_more : {X : Type 0} (f : ℕ → X) (n : ℕ) → map f (range_with_len 0 (n + 1)) ≡ map f (range_with_len 0 n) ++ f n ∷ []

@@ -9,8 +9,7 @@ use Rattle.dim_changes.specs.declared.cause.Cause.TheVariants.{OutOfRange, TooLa
 use Rattle.dim_changes.specs.Causes.{first_cause}
 use Rattle.dim_changes.specs.Dims.{place_in, dim_at}
 use Rattle.dim_expressions.specs.Arrays.{entries_cause, length_cause, array_causes, array_at}
-use Rattle.dim_changes.proofs.CauseLaws.{NoneOf-first, none-mapped}
-use Rattle.dim_changes.proofs.PlaceLaws.{place_in-Some}
+use Rattle.dim_changes.proofs.Laws.{NoneOf-first, none-mapped, place_in-Some}
 use Rattle.dim_expressions.proofs.OindexLaws.{IsArrayFor}
 
 no_entries_cause : (dim : Bounds) (entries : List ℤ) → entries_cause dim entries ≡ None → list_all (is_effective dim) entries ≡ true

@@ -13,9 +13,7 @@ use Rattle.dim_changes.specs.declared.cause.Cause.TheVariants.{OutOfRange}
 use Rattle.dim_changes.specs.Causes.{with_cause, first_cause, outside_cause}
 use Rattle.dim_changes.specs.Dims.{place_in}
 use Rattle.dim_expressions.specs.At.{at_number, at_cause, at_causes, at_map, at_view}
-use Rattle.dim_changes.proofs.PlaceLaws.{place_in-Some}
-use Rattle.dim_changes.proofs.LeftLaws.{rest_few}
-use Rattle.dim_changes.proofs.TightAnswers.{tighten_answer-Ok}
+use Rattle.dim_changes.proofs.Laws.{place_in-Some, rest_few, tighten_answer-Ok}
 use Rattle.dim_expressions.proofs.WithoutLaws.{GoIn, rank_few, becomes, is_transform}
 
 none_of_two : (c later : Option Cause) → with_cause c later ≡ None → (c ≡ None) × (later ≡ None)

@@ -5,8 +5,7 @@ use Rattle.dim_changes.specs.Dims.{place_in, others}
 use Rattle.step_forms.specs.Selection.{has_repeat}
 use Rattle.dim_expressions.specs.Transpose.{AreInverse, carried, carried_by}
 use Rattle.dim_expressions.proofs.CountLaws.{others-count}
-use Rattle.dim_changes.proofs.PlaceLaws.{place_in-Some}
-use Rattle.dim_changes.proofs.LeftLaws.{rest_at, rest_distinct, place_distinct, left_place}
+use Rattle.dim_changes.proofs.Laws.{place_in-Some, rest_at, rest_distinct, place_distinct, left_place}
 
 -- dimensions of a rank, none twice
 pub record AreDims (rank : ℕ) (dims : List ℕ) : Type 0 where

@@ -13,10 +13,8 @@ use Rattle.dim_changes.specs.Dims.{place_in, others, dim_at}
 use Rattle.dim_changes.specs.Causes.{Follows}
 use Rattle.dim_expressions.specs.Left.{left_by, left_map, without}
 use Rattle.dim_expressions.specs.Diagonal.{unbounded, meet_of, selected_dims, diagonal_map, diagonal_view, meet_ends}
-use Rattle.dim_changes.proofs.LeftLaws.{rest_fewer}
+use Rattle.dim_changes.proofs.Laws.{rest_fewer, Edge, preimage-same, IsTightened, tighten_answer-Ok}
 use Rattle.dim_expressions.proofs.MeetLaws.{AtLeast, AtMost, low_of, high_of, AllBelow, AllAbove, low_holds, high_holds, meet_within, meet_low_index, meet_high_index}
-use Rattle.dim_changes.proofs.TightBounds.{Edge, preimage-same}
-use Rattle.dim_changes.proofs.TightAnswers.{IsTightened, tighten_answer-Ok}
 use Rattle.std.specs.Option.{ForSome, option_map}
 use Rattle.index_intervals.specs.declared.edge.Ends.{Ends}
 use Rattle.dim_expressions.proofs.WithoutLaws.{GoIn, rank_few, becomes, is_transform, maps}

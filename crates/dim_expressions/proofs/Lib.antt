@@ -4,7 +4,6 @@ pub mod AtLaws
 pub mod CarriedLaws
 pub mod CountLaws
 pub mod DiagonalLaws
-pub mod Lists
 pub mod MeetLaws
 pub mod NewaxisLaws
 pub mod OindexLaws

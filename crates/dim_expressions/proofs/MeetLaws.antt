@@ -12,7 +12,7 @@ use Rattle.index_intervals.specs.Meet.{greater_at, greater_edge, lesser_at, less
 use Rattle.dim_expressions.specs.Diagonal.{unbounded, meet_of, meet_ends}
 use Rattle.index_intervals.specs.declared.edge.Ends.{Ends}
 use Rattle.dim_expressions.proofs.PassedLaws.{as_it_is, lies}
-use Rattle.dim_changes.proofs.TightBounds.{Edge, finite_part-index}
+use Rattle.dim_changes.proofs.Laws.{Edge, finite_part-index}
 
 -- one lower bound is at least another, and one upper bound at most another; none is infinite
 abbrev pub AtLeast : Option ℤ → Option ℤ → Type 0

@@ -18,15 +18,9 @@ use Rattle.dim_expressions.specs.Left.{passed}
 use Rattle.dim_expressions.specs.Newaxis.{new_axis, axis_by, axis_label_by, newaxis_view}
 use Rattle.dim_expressions.proofs.CarriedLaws.{AreDims}
 use Rattle.dim_expressions.proofs.CountLaws.{others-count}
-use Rattle.dim_changes.proofs.PlaceLaws.{place_in-Some}
-use Rattle.dim_changes.proofs.LeftLaws.{rest_at, rest_distinct, place_distinct}
-use Rattle.dim_changes.proofs.LabelLaws.{AreLabels-from, are_labels-true, AreLabels-taken}
+use Rattle.dim_changes.proofs.Laws.{place_in-Some, rest_at, rest_distinct, place_distinct, AreLabels-from, are_labels-true, AreLabels-taken, range-length, range-at, range-all, read-each, IsTight, IsTight-none, IsTight-one, preimage_lower-same, preimage_upper-same, is_strided_from, preimages-none, preimages-one, IsTightTransform}
 use Rattle.dim_expressions.proofs.OindexLaws.{labels-length, ranks-few}
-use Rattle.dim_changes.proofs.RangeLaws.{range-length, range-at, range-all, read-each}
 use Rattle.dim_expressions.proofs.PassedLaws.{ends_inside-same}
-use Rattle.dim_changes.proofs.TightBounds.{IsTight, IsTight-none, IsTight-one, preimage_lower-same, preimage_upper-same}
-use Rattle.dim_changes.proofs.TightMaps.{is_strided_from, preimages-none, preimages-one}
-use Rattle.dim_changes.proofs.TightAnswers.{IsTightTransform}
 
 module _ (u : DomainAndMaps) (added : List ℕ) (t : IsTransform u)
     (bounds : (i : ℕ) → i < length u.domain.dims → AreBounds (get_or u.domain.dims i point))

@@ -17,12 +17,8 @@ use Rattle.dim_changes.specs.Dims.{place_in, dim_at}
 use Rattle.dim_expressions.specs.Left.{passed}
 use Rattle.dim_expressions.specs.Arrays.{array_map, array_dim, array_at, sizes_along}
 use Rattle.dim_expressions.specs.Oindex.{dim_by, label_by, map_by, indexed_dim, indexed_label, indexed_map, oindex_view}
-use Rattle.dim_changes.proofs.LabelLaws.{AreLabels-from, are_labels-true, AreLabels-taken}
-use Rattle.dim_changes.proofs.RangeLaws.{range-length, range-at, range-all}
+use Rattle.dim_changes.proofs.Laws.{AreLabels-from, are_labels-true, AreLabels-taken, range-length, range-at, range-all, IsTight, IsTight-none, IsTight-one, preimage_lower-same, preimage_upper-same, is_strided_from, preimages-none, preimages-one, IsTightTransform}
 use Rattle.dim_expressions.proofs.PassedLaws.{ends_inside-same, entries_inside-same, entries-index, cell_count-along, fits-along}
-use Rattle.dim_changes.proofs.TightBounds.{IsTight, IsTight-none, IsTight-one, preimage_lower-same, preimage_upper-same}
-use Rattle.dim_changes.proofs.TightMaps.{is_strided_from, preimages-none, preimages-one}
-use Rattle.dim_changes.proofs.TightAnswers.{IsTightTransform}
 use Rattle.cells.proofs.Laws.{both}
 
 -- the lists of the selected dimensions lie in them and are no longer than an index array

@@ -19,7 +19,7 @@ use Rattle.dim_changes.specs.Cuts.{is_cut, cut_view, cut_answer}
 use Rattle.dim_changes.specs.Dims.{position_of}
 use Rattle.dim_changes.specs.Marks.{with_labels, new_labels, label_answer, with_marks, mark_answer}
 use Rattle.dim_changes.specs.declared.cause.Cause.TheVariants.{Count, Label}
-use Rattle.dim_changes.proofs.MarkLemmas.{length_marked, ends_marked, marks_made}
+use Rattle.dim_changes.proofs.Laws.{length_marked, ends_marked, marks_made}
 use Rattle.index_transform.specs.Maps.{are_labels}
 use Rattle.transform_composition.specs.Reading.{point}
 use Rattle.dim_changes.specs.declared.cause.Fault.{Fault}

@@ -12,7 +12,7 @@ use Rattle.index_transform.specs.Maps.{fits_dim, fits}
 use Rattle.transform_composition.specs.Inside.{end_inside, are_ends_inside}
 use Rattle.index_transform.specs.Values.{is_effective}
 use Rattle.dim_expressions.specs.Arrays.{sizes_along, array_dim}
-use Rattle.dim_changes.proofs.RangeLaws.{range-length}
+use Rattle.dim_changes.proofs.Laws.{range-length}
 use Rattle.cells.proofs.Laws.{both}
 
 pub as_it_is : (x : ℤ) → pos 0 +ℤ pos 1 *ℤ x ≡ x

@@ -2,7 +2,7 @@
 use Rattle.std.proofs.Common.{◌≡◌, ◌∙◌, zero, suc, ℕ, ◌+◌, ◌<◌, List, [], ◌∷◌, ◌++◌, length, drop, get_or, refl, sym, ap, arith, Option, Some, None, option_map, option_and_then}
 use Rattle.std.proofs.Math.Seq.{drop-cons}
 use Rattle.json_forms.specs.Lists.{all_of}
-use Rattle.step_forms.proofs.Gathered.{Gathered, gathered_more}
+use Rattle.step_forms.proofs.Laws.{Gathered, gathered_more}
 
 module _ {A B : Type 0} (f : A → Option B) where
   all_of-drop : (xs : List A) (k : ℕ) (x : A) (y : B) → k < length xs → x ≡ get_or xs k x → f x ≡ Some y

@@ -15,13 +15,9 @@ use Rattle.dim_changes.specs.Dims.{dim_at, label_at}
 use Rattle.dim_expressions.specs.Left.{passed}
 use Rattle.dim_expressions.specs.Transpose.{carried, transpose_view}
 use Rattle.dim_expressions.proofs.CarriedLaws.{AreDims, IsCarried, IsCarried-of}
-use Rattle.dim_changes.proofs.LabelLaws.{AreLabels-from, are_labels-true, AreLabels-taken}
+use Rattle.dim_changes.proofs.Laws.{AreLabels-from, are_labels-true, AreLabels-taken, range-length, range-at, range-all, map-map, IsTight, IsTight-one, preimage_lower-same, preimage_upper-same, is_strided_from, preimages-one, IsTightTransform}
 use Rattle.dim_expressions.proofs.OindexLaws.{labels-length, ranks-few}
-use Rattle.dim_changes.proofs.RangeLaws.{range-length, range-at, range-all, map-map}
 use Rattle.dim_expressions.proofs.PassedLaws.{ends_inside-same}
-use Rattle.dim_changes.proofs.TightBounds.{IsTight, IsTight-one, preimage_lower-same, preimage_upper-same}
-use Rattle.dim_changes.proofs.TightMaps.{is_strided_from, preimages-one}
-use Rattle.dim_changes.proofs.TightAnswers.{IsTightTransform}
 
 module _ (u : DomainAndMaps) (selected targets : List ℕ) (t : IsTransform u)
     (bounds : (i : ℕ) → i < length u.domain.dims → AreBounds (get_or u.domain.dims i point))

@@ -19,10 +19,7 @@ use Rattle.dim_expressions.proofs.ArrayCauses.{few-entries, arrays-fit}
 use Rattle.dim_expressions.proofs.DiagonalLaws.{one_fewer}
 use Rattle.dim_expressions.proofs.OindexLaws.{IsArrayFor, are_entries-along, AreBounds-array}
 use Rattle.dim_expressions.proofs.PassedLaws.{fits-along, entries_inside-same}
-use Rattle.dim_changes.proofs.PlaceLaws.{place_in-Some}
-use Rattle.dim_changes.proofs.TightBounds.{IsTight-none}
-use Rattle.dim_changes.proofs.TightMaps.{is_strided_from, preimages-none}
-use Rattle.dim_changes.proofs.TightAnswers.{IsTightened, IsTightened-same, tighten_answer-Ok}
+use Rattle.dim_changes.proofs.Laws.{place_in-Some, IsTight-none, is_strided_from, preimages-none, IsTightened, IsTightened-same, tighten_answer-Ok}
 use Rattle.dim_expressions.proofs.WithoutLaws.{GoIn, becomes, is_transform, maps, stay, maps_length, map_at, stay_length}
 use Rattle.cells.proofs.Laws.{both, both_true}
 

@@ -15,14 +15,8 @@ use Rattle.index_transform.specs.Transforms.{DomainAndMaps, IsTransform, KeepsRu
 use Rattle.dim_changes.specs.Dims.{place_in, others, dim_at, label_at}
 use Rattle.index_transform.specs.declared.domain.Domain.{Domain}
 use Rattle.dim_expressions.specs.Left.{passed, left_by, left_map, rank_of, without}
-use Rattle.dim_changes.proofs.StepLemmas.{made-of}
-use Rattle.dim_changes.proofs.RangeLaws.{range-length, range-at, range-all}
-use Rattle.dim_changes.proofs.LeftLaws.{rest_at, rest_distinct, place_distinct, left_place}
-use Rattle.dim_changes.proofs.LabelLaws.{AreLabels-from, AreLabels-taken, are_labels-true}
+use Rattle.dim_changes.proofs.Laws.{made-of, range-length, range-at, range-all, rest_at, rest_distinct, place_distinct, left_place, AreLabels-from, AreLabels-taken, are_labels-true, IsTight, IsTight-one, preimage_lower-same, preimage_upper-same, is_strided_from, preimages-one, IsTightened, IsTightened-same, BecomesTight}
 use Rattle.dim_expressions.proofs.PassedLaws.{ends_inside-same}
-use Rattle.dim_changes.proofs.TightBounds.{IsTight, IsTight-one, preimage_lower-same, preimage_upper-same}
-use Rattle.dim_changes.proofs.TightMaps.{is_strided_from, preimages-one}
-use Rattle.dim_changes.proofs.TightAnswers.{IsTightened, IsTightened-same, BecomesTight}
 use Rattle.cells.proofs.Laws.{both}
 
 -- a transform has one label per dimension, 32 at most

@@ -3,7 +3,7 @@ use Rattle.std.proofs.Common.{◌≡◌, ◌≢◌, ◌∙◌, zero, suc, ℕ, �
 use Rattle.std.proofs.lemmas.Int.{ints, unsigned_abs-mul}
 use Rattle.std.proofs.lemmas.Nat.{mul-le}
 use Rattle.std.proofs.Math.IntN.{suc_ℤ-*ℤ, pred_ℤ-*ℤ, zero-*ℤ, *ℤ_comm}
-use Rattle.index_intervals.proofs.QuotientLemmas.{add-*ℤ, neg-*ℤ, mul_mono}
+use Rattle.index_intervals.proofs.Laws.{add-*ℤ, neg-*ℤ, mul_mono}
 
 -- a product of a difference
 sub-*ℤ : (a b n : ℤ) → (a -ℤ b) *ℤ n ≡ a *ℤ n -ℤ b *ℤ n

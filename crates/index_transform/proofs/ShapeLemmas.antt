@@ -5,8 +5,7 @@ use Rattle.std.proofs.lemmas.Bool.Decides.{nat_tests}
 use Rattle.std.proofs.lemmas.List.{get_or-map}
 use Rattle.std.specs.List.{list_all, list_any, zip, flat_map, position_from, AllByRecursion}
 use Rattle.cells.specs.Places.{cell_count, c_place, c_index, IsInside}
-use Rattle.cells.proofs.Laws.{not_both, both, both_true, either_true, both_false, same_test, not_true}
-use Rattle.cells.proofs.PlaceLaws.{IsInside-c_index, c_place-c_index}
+use Rattle.cells.proofs.Laws.{not_both, both, both_true, either_true, both_false, same_test, not_true, IsInside-c_index, c_place-c_index}
 use Rattle.index_intervals.specs.Bounds.{Bounds, is_index, is_ordered, are_bounds}
 use Rattle.index_transform.specs.declared.map.OutMap.{OutMap}
 use Rattle.index_transform.specs.declared.map.OutMap.TheVariants.{Constant, Strided, Indexed}

@@ -3,3 +3,4 @@ pub mod Collecting
 pub mod ItemLists
 pub mod OrderedNames
 pub mod NoFloats
+pub mod Laws

@@ -1,2 +1,3 @@
 pub mod Laws
 pub mod NumberLaws
+pub mod MemberLaws

@@ -6,10 +6,9 @@ use Rattle.std.proofs.lemmas.Bool.Decides.{Decides-int_eq}
 use Rattle.std.proofs.lemmas.Int.{ints}
 use Rattle.cells.specs.Numbers.{Holds, IsWord, least_of, greatest_of, number_of, word_of}
 use Rattle.cells.specs.declared.dtype.Dtype.{Dtype}
-use Rattle.cells.proofs.Laws.{both, both_true, then_from, ok_from_then}
-use Rattle.cells.proofs.NumberLaws.{IsWord-word_of, number_of-word_of, word_of-number_of}
+use Rattle.cells.proofs.Laws.{both, both_true, then_from, ok_from_then, IsWord-word_of, number_of-word_of, word_of-number_of}
 use Rattle.meta_forms.specs.Judged.{judged_format, holds, judged_word}
-use Rattle.meta_forms.proofs.Laws.{ok_only}
+use Rattle.meta_forms.proofs.MemberLaws.{ok_only}
 
 -- a good format is the one that is wanted
 pub format_judged : (version : ℕ) (o : Option ℤ) (u : Unit {0}) → judged_format version o ≡ Ok u → o ≡ Some (pos version)

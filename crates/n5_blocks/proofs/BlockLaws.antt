@@ -8,8 +8,7 @@ use Rattle.cells.specs.Dense.{DenseCells, IsDense}
 use Rattle.cells.specs.Bytes.{byte_count, word_bytes}
 use Rattle.cells.specs.Places.{cell_count, IsInside, c_place, f_place}
 use Rattle.cells.specs.declared.dtype.Dtype.{Dtype}
-use Rattle.cells.proofs.ByteLaws.{IsWord-word_of_bytes}
-use Rattle.cells.proofs.PlaceLaws.{f_place-lt}
+use Rattle.cells.proofs.Laws.{IsWord-word_of_bytes, f_place-lt}
 use Rattle.n5_blocks.specs.Metadata.{Metadata, IsMetadata}
 use Rattle.n5_blocks.specs.Block.{AreElements, SpellsBlock, word_at}
 use Rattle.n5_blocks.specs.Faults.{header_len, sizes_in, block_fault}

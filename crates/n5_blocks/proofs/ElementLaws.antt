@@ -8,8 +8,7 @@ use Rattle.std.proofs.lemmas.List.FromFn.{length-range_with_len, get_or-range_wi
 use Rattle.cells.specs.Bytes.{byte_count, word_bytes}
 use Rattle.cells.specs.Places.{cell_count, IsInside, c_place, f_place}
 use Rattle.cells.specs.declared.dtype.Dtype.{Dtype}
-use Rattle.cells.proofs.ByteLaws.{length-word_bytes}
-use Rattle.cells.proofs.PlaceLaws.{c_place-lt}
+use Rattle.cells.proofs.Laws.{length-word_bytes, c_place-lt}
 use Rattle.n5_blocks.specs.Rows.{elements_of_rows}
 use Rattle.n5_blocks.proofs.SizeLaws.{Fit}
 use Rattle.n5_blocks.proofs.RowLaws.{length-rows}

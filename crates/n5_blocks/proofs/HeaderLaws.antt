@@ -8,7 +8,7 @@ use Rattle.std.proofs.lemmas.List.FromFn.{map-range_with_len_more}
 use Rattle.cells.specs.Bytes.{byte_count, word_bytes, word_of_bytes}
 use Rattle.cells.specs.declared.dtype.Dtype.{Dtype}
 use Rattle.cells.specs.declared.dtype.Dtype.TheVariants.{U16, U32}
-use Rattle.cells.proofs.ByteLaws.{word_bytes-word_of_bytes}
+use Rattle.cells.proofs.Laws.{word_bytes-word_of_bytes}
 use Rattle.n5_blocks.specs.Block.{header}
 use Rattle.n5_blocks.specs.Faults.{mode_in, rank_in, header_len, size_in, sizes_in}
 

@@ -10,3 +10,4 @@ pub mod BlockLaws
 pub mod WriteLaws
 pub mod SpellingLaws
 pub mod CutLaws
+pub mod Laws

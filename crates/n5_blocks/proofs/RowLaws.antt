@@ -13,8 +13,7 @@ use Rattle.cells.specs.Numbers.{IsWord}
 use Rattle.cells.specs.Bytes.{byte_count}
 use Rattle.cells.specs.Places.{cell_count, IsInside, c_place, f_place}
 use Rattle.cells.specs.declared.dtype.Dtype.{Dtype}
-use Rattle.cells.proofs.ByteLaws.{IsWord-word_of_bytes}
-use Rattle.cells.proofs.PlaceLaws.{c_place-lt}
+use Rattle.cells.proofs.Laws.{IsWord-word_of_bytes, c_place-lt}
 use Rattle.n5_blocks.specs.Rows.{word_in, words_of_rows}
 use Rattle.n5_blocks.proofs.SizeLaws.{Fit, IsWord-zero}
 

@@ -6,7 +6,7 @@ use Rattle.std.proofs.lemmas.Int.{ints}
 use Rattle.std.proofs.lemmas.List.{reverse-append}
 use Rattle.cells.specs.Numbers.{IsWord}
 use Rattle.cells.specs.Places.{cell_count}
-use Rattle.cells.proofs.ByteLaws.{IsWord-word_of_bytes}
+use Rattle.cells.proofs.Laws.{IsWord-word_of_bytes}
 use Rattle.cells.specs.declared.dtype.Dtype.{Dtype}
 use Rattle.cells.specs.declared.dtype.Dtype.TheVariants.{I8, U8, I16, U16, I32, U32, I64, U64}
 use Rattle.std.specs.Prelude.{nat_lt, if◌then◌else◌}

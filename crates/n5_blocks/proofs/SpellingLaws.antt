@@ -10,12 +10,11 @@ use Rattle.cells.specs.Bytes.{byte_count, word_bytes, word_of_bytes}
 use Rattle.cells.specs.Places.{cell_count, IsInside, f_place}
 use Rattle.cells.specs.declared.dtype.Dtype.{Dtype}
 use Rattle.cells.specs.declared.dtype.Dtype.TheVariants.{U16, U32}
-use Rattle.cells.proofs.ByteLaws.{length-word_bytes, word_of_bytes-word_bytes}
+use Rattle.cells.proofs.Laws.{length-word_bytes, word_of_bytes-word_bytes, then_from, else_from}
 use Rattle.n5_blocks.specs.Metadata.{Metadata, IsMetadata}
 use Rattle.n5_blocks.specs.Block.{element_bytes, header, AreElements, AreWithin, StoresCells, SpellsBlock}
 use Rattle.n5_blocks.specs.Faults.{mode_in, rank_in, header_len, size_in, sizes_in, size_fault, length_fault, block_fault}
 use Rattle.n5_blocks.proofs.SizeLaws.{Fit, fit_from_within, IsWord-U16, IsWord-U32}
-use Rattle.cells.proofs.Laws.{then_from, else_from}
 use Rattle.n5_blocks.proofs.RowLaws.{length-rows}
 use Rattle.n5_blocks.proofs.FaultLaws.{length-sizes_in}
 

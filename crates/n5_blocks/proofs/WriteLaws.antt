@@ -7,7 +7,7 @@ use Rattle.cells.specs.Bytes.{byte_count, word_bytes}
 use Rattle.cells.specs.Dense.{DenseCells, IsDense}
 use Rattle.cells.specs.Places.{cell_count, IsInside, c_place, f_place}
 use Rattle.cells.specs.declared.dtype.Dtype.{Dtype}
-use Rattle.cells.proofs.PlaceLaws.{c_place-lt}
+use Rattle.cells.proofs.Laws.{c_place-lt, cell_count-reverse, IsInside-reverse, c_place-reverse, f_place-reverse}
 use Rattle.n5_blocks.specs.Metadata.{Metadata, IsMetadata}
 use Rattle.n5_blocks.specs.Block.{element_bytes, header, AreElements, AreWithin, StoresCells, WritesBlock, IsReached, IsZeroOutside, cut_sizes, word_at}
 use Rattle.n5_blocks.specs.Rows.{elements_of_rows}
@@ -15,7 +15,6 @@ use Rattle.n5_blocks.proofs.SizeLaws.{Fit, fit_from_within, within-reverse}
 use Rattle.n5_blocks.proofs.CutLaws.{within-cut_sizes}
 use Rattle.n5_blocks.proofs.RowLaws.{inside-fit}
 use Rattle.n5_blocks.proofs.ElementLaws.{length-elements_of_rows, element-elements_of_rows}
-use Rattle.cells.proofs.Backwards.{cell_count-reverse, IsInside-reverse, c_place-reverse, f_place-reverse}
 
 -- rows of the dimensions backwards are the elements of the words
 elements-backwards : (dtype : Dtype) (block sizes words : List ℕ) → AreWithin block sizes → length words ≡ cell_count block → All (IsWord dtype) words

@@ -6,7 +6,7 @@ use Rattle.cells.specs.Numbers.{number_of}
 use Rattle.cells.specs.Places.{cell_count}
 use Rattle.cells.specs.declared.dtype.Dtype.{Dtype}
 use Rattle.json_forms.specs.Numbers.{natural}
-use Rattle.json_forms.proofs.NoFloats.{has_float-integer, has_float-list_of, has_float-naturals, has_float-integers, has_float-object_of}
+use Rattle.json_forms.proofs.Laws.{has_float-integer, has_float-list_of, has_float-naturals, has_float-integers, has_float-object_of}
 use Rattle.script_lines.specs.AnswerText.{answer_data, parts_of, values_of, domain_of, failure_of, numbers, rows}
 use Rattle.script_lines.specs.declared.answer.Answer.{Answer}
 use Rattle.script_lines.specs.declared.answer.Body.{Body}

@@ -9,11 +9,10 @@ use Rattle.serde_json.specs.Data.{Data}
 use Rattle.cells.specs.Numbers.{IsWord, Holds, least_of, greatest_of, word_of}
 use Rattle.cells.specs.Places.{cell_count}
 use Rattle.cells.specs.declared.dtype.Dtype.{Dtype}
-use Rattle.cells.proofs.NumberLaws.{IsWord-word_of}
+use Rattle.cells.proofs.Laws.{IsWord-word_of, both}
 use Rattle.json_forms.specs.Numbers.{whole_number}
 use Rattle.json_forms.specs.Lists.{list_items}
 use Rattle.script_lines.specs.NestedWords.{Given, is_held, repeated, one_word, followed, from_items, sized, from_list, nested_words, single_or_nested, words_of}
-use Rattle.cells.proofs.Laws.{both}
 
 -- so many words, each of the dtype
 pub record AreWords (dtype : Dtype) (count : ℕ) (words : List ℕ) : Type 0 where

@@ -5,7 +5,7 @@ use Rattle.std.specs.FinMap as finmap
 use Rattle.std.proofs.lemmas.Grind.{fold-append}
 use Rattle.std.proofs.lemmas.List.{take_more}
 use Rattle.std.proofs.lemmas.Option.{slice_get-get_or}
-use Rattle.kv_face.proofs.Changes.{get-put_bytes}
+use Rattle.kv_face.proofs.Laws.{get-put_bytes}
 use Rattle.script_runner.specs.Added.{with_script, scripts_of, bytes_of, left_of}
 use Rattle.script_runner.specs.declared.memory.Script.{Script}
 

@@ -6,8 +6,7 @@ use Rattle.std.specs.Option.{is_none}
 use Rattle.std.specs.FinMap as finmap
 use Rattle.std.proofs.lemmas.Slice.Eq.{bytes_eq-Decides}
 use Rattle.cells.specs.Places.{cell_count, index_vectors, c_index}
-use Rattle.cells.proofs.PlaceLaws.{c_place-lt, IsInside-c_index}
-use Rattle.cells.proofs.IndexVectors.{length-index_vectors}
+use Rattle.cells.proofs.Laws.{c_place-lt, IsInside-c_index, length-index_vectors}
 use Rattle.kv_face.specs.Store.{Contents, OneMore}
 use Rattle.kv_face.specs.declared.change.Change.{Change}
 use Rattle.shared_state.specs.declared.array.ArrayInfo.{ArrayInfo}

@@ -6,7 +6,7 @@ use Rattle.std.proofs.lemmas.List.FromFn.{length-map-range_with_len, get_or-map-
 use Rattle.cells.specs.Numbers.{IsWord}
 use Rattle.cells.specs.Dense.{DenseCells, IsDense}
 use Rattle.cells.specs.Places.{cell_count, IsInside, c_place, c_index}
-use Rattle.cells.proofs.PlaceLaws.{c_place-lt, c_index-c_place}
+use Rattle.cells.proofs.Laws.{c_place-lt, c_index-c_place}
 use Rattle.cells.specs.declared.dtype.Dtype.{Dtype}
 use Rattle.zarr_chunks.specs.Metadata.{Metadata, IsMetadata}
 use Rattle.zarr_chunks.specs.Chunk.{word_at}

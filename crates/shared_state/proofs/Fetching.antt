@@ -8,7 +8,7 @@ use Rattle.cells.specs.Dense.{DenseCells}
 use Rattle.std.specs.Prelude.{pos}
 use Rattle.std.proofs.lemmas.Int.{ints}
 use Rattle.cells.specs.Numbers.{IsWord}
-use Rattle.cells.proofs.NumberLaws.{IsWord-word_of}
+use Rattle.cells.proofs.Laws.{IsWord-word_of}
 use Rattle.cells.specs.Places.{cell_count}
 use Rattle.cells.specs.declared.dtype.Dtype.{Dtype}
 use Rattle.cells.specs.declared.dtype.Dtype.TheVariants.{I8, U8, I16, U16, I32, U32, I64, U64}

@@ -7,7 +7,7 @@ use Rattle.std.proofs.lemmas.List.FromFn.{get_or-map-range_with_len, length-map-
 use Rattle.std.proofs.lemmas.Simd.{map-map}
 use Rattle.cells.specs.Dense.{DenseCells, IsDense}
 use Rattle.cells.specs.Places.{cell_count, IsInside, c_place, c_index}
-use Rattle.cells.proofs.PlaceLaws.{c_place-lt, c_index-c_place, c_place-c_index, IsInside-c_index, IsInside-length}
+use Rattle.cells.proofs.Laws.{c_place-lt, c_index-c_place, c_place-c_index, IsInside-c_index, IsInside-length}
 use Rattle.kv_face.specs.Store.{Contents}
 use Rattle.shared_state.specs.History.{History}
 use Rattle.shared_state.specs.Arrays.{Known, known_after, chunk_shape, Cell, is_inside, ref_of, targets_of}

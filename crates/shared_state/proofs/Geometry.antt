@@ -10,7 +10,7 @@ use Rattle.std.proofs.lemmas.List.{take_more, take_more_set}
 use Rattle.std.proofs.lemmas.Grind.{div_ceil_times}
 use Rattle.std.proofs.lemmas.Bool.Decides.{nat_tests}
 use Rattle.cells.specs.Places.{cell_count, IsInside}
-use Rattle.cells.proofs.PlaceLaws.{IsInside-length}
+use Rattle.cells.proofs.Laws.{IsInside-length}
 use Rattle.shared_state.specs.Arrays.{is_inside}
 use Rattle.shared_state.specs.Chunks.{chunk_index, within_chunk, in_array}
 use Rattle.shared_state.specs.Grid.{grid_of, IsGrid}

@@ -4,7 +4,7 @@ use Rattle.std.specs.Prelude.{◌||◌}
 use Rattle.std.specs.List.{list_any, zip, AllByRecursion}
 use Rattle.std.specs.FinMap as finmap
 use Rattle.cells.specs.Places.{cell_count, IsInside, c_index, c_place, index_vectors}
-use Rattle.cells.proofs.PlaceLaws.{IsInside-c_index, c_place-lt, c_index-c_place}
+use Rattle.cells.proofs.Laws.{IsInside-c_index, c_place-lt, c_index-c_place}
 use Rattle.kv_face.specs.declared.change.Change.{Change}
 use Rattle.kv_face.specs.Store.{Contents, after}
 use Rattle.zarr_chunks.specs.Metadata.{Metadata, IsMetadata}

@@ -6,12 +6,11 @@ use Rattle.std.specs.FinMap as finmap
 use Rattle.std.proofs.lemmas.List.Sums.{fold-append}
 use Rattle.cells.specs.Numbers.{IsWord}
 use Rattle.cells.specs.Places.{cell_count, c_index, index_vectors}
-use Rattle.cells.proofs.PlaceLaws.{IsInside-c_index}
-use Rattle.cells.proofs.IndexVectors.{index_vectors-places, length-index_vectors}
+use Rattle.cells.proofs.Laws.{IsInside-c_index, index_vectors-places, length-index_vectors}
 use Rattle.std.specs.List.{range_with_len}
 use Rattle.kv_face.specs.declared.change.Change.{Change}
 use Rattle.kv_face.specs.Store.{Contents, after}
-use Rattle.kv_face.proofs.Changes.{get-put_bytes}
+use Rattle.kv_face.proofs.Laws.{get-put_bytes}
 use Rattle.shared_state.specs.declared.array.ArrayInfo.{ArrayInfo}
 use Rattle.shared_state.specs.declared.event.Mode.{Mode}
 use Rattle.shared_state.specs.declared.event.Kind.TheVariants.{Opened}

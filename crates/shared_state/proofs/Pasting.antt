@@ -3,7 +3,7 @@ use Rattle.std.proofs.Common.{◌≡◌, ◌≢◌, ℕ, ◌+◌, ◌<◌, List,
 use Rattle.std.specs.Prelude.{slice_index, slice_set}
 use Rattle.std.proofs.lemmas.List.{length-set}
 use Rattle.cells.specs.Places.{cell_count, IsInside, c_place, c_index}
-use Rattle.cells.proofs.PlaceLaws.{c_place-lt, c_index-c_place, c_place-c_index, IsInside-c_index, IsInside-length}
+use Rattle.cells.proofs.Laws.{c_place-lt, c_index-c_place, c_place-c_index, IsInside-c_index, IsInside-length}
 use Rattle.shared_state.specs.Arrays.{is_inside}
 use Rattle.shared_state.specs.Chunks.{chunk_index, within_chunk, in_array}
 use Rattle.shared_state.specs.Grid.{grid_of, IsGrid}

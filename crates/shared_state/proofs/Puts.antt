@@ -6,8 +6,7 @@ use Rattle.std.specs.Str.{bytes_eq}
 use Rattle.std.proofs.lemmas.Slice.Eq.{bytes_eq-Decides}
 use Rattle.std.proofs.lemmas.Simd.{map-map}
 use Rattle.cells.specs.Places.{cell_count, IsInside, c_place, c_index}
-use Rattle.cells.proofs.PlaceLaws.{c_place-lt, c_index-c_place, c_place-c_index}
-use Rattle.cells.proofs.IndexVectors.{index_vectors-places}
+use Rattle.cells.proofs.Laws.{c_place-lt, c_index-c_place, c_place-c_index, index_vectors-places}
 use Rattle.shared_state.specs.declared.array.ArrayRef.{ArrayRef}
 use Rattle.shared_state.specs.declared.event.Op.TheVariants.{Write}
 use Rattle.shared_state.specs.Arrays.{Cell, is_cell, targets_of}

@@ -7,12 +7,11 @@ use Rattle.std.proofs.lemmas.List.{get_or-replicate}
 use Rattle.kv_face.specs.Store.{Contents}
 use Rattle.cells.specs.Bytes.{byte_count, word_of_bytes}
 use Rattle.cells.specs.Places.{cell_count, IsInside, place_of, c_place}
-use Rattle.cells.proofs.ByteLaws.{word_of_bytes-word_bytes}
+use Rattle.cells.proofs.Laws.{word_of_bytes-word_bytes, c_place-lt}
 use Rattle.zarr_chunks.specs.Metadata.{Metadata}
 use Rattle.zarr_chunks.specs.Chunk.{SpellsChunk, element_bytes, word_at}
 use Rattle.cells.specs.Dense.{DenseCells}
 use Rattle.cells.specs.declared.dtype.Dtype.{Dtype}
-use Rattle.cells.proofs.PlaceLaws.{c_place-lt}
 use Rattle.shared_state.specs.declared.array.Home.{Home}
 use Rattle.shared_state.specs.declared.array.Home.TheVariants.{Zarr}
 use Rattle.shared_state.specs.History.{History}

@@ -3,10 +3,10 @@ use Rattle.std.proofs.Common.{◌≡◌, ◌≢◌, ℕ, zero, suc, ◌+◌, ◌
 use Rattle.std.specs.List.{AllByRecursion, IsDistinct}
 use Rattle.std.specs.FinMap as finmap
 use Rattle.cells.specs.Places.{cell_count, c_index, c_place}
-use Rattle.cells.proofs.PlaceLaws.{IsInside-c_index, c_place-c_index}
+use Rattle.cells.proofs.Laws.{IsInside-c_index, c_place-c_index}
 use Rattle.kv_face.specs.declared.change.Change.{Change}
 use Rattle.kv_face.specs.Store.{Contents, changed, after, keys_of}
-use Rattle.kv_face.proofs.Changes.{get-put_bytes}
+use Rattle.kv_face.proofs.Laws.{get-put_bytes}
 use Rattle.zarr_chunks.specs.Metadata.{Metadata, IsMetadata}
 use Rattle.zarr_chunks.specs.Key as zarr
 use Rattle.shared_state.specs.Grid.{grid_of}

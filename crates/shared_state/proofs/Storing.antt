@@ -9,7 +9,7 @@ use Rattle.cells.specs.Bytes.{word_bytes}
 use Rattle.cells.specs.Numbers.{IsWord}
 use Rattle.cells.specs.Dense.{DenseCells, IsDense}
 use Rattle.cells.specs.Places.{cell_count, IsInside, c_place, c_index}
-use Rattle.cells.proofs.PlaceLaws.{c_place-lt, IsInside-c_index, c_place-c_index}
+use Rattle.cells.proofs.Laws.{c_place-lt, IsInside-c_index, c_place-c_index}
 use Rattle.zarr_chunks.specs.Metadata.{Metadata, IsMetadata}
 use Rattle.zarr_chunks.specs.Chunk.{word_at}
 use Rattle.shared_state.specs.Grid.{grid_of, IsGrid}

@@ -4,7 +4,7 @@ use Rattle.std.specs.Prelude.{◌&&◌, ◌||◌, slice_index}
 use Rattle.std.specs.List.{list_any, zip, range_with_len}
 use Rattle.std.specs.Str.{bytes_eq}
 use Rattle.cells.specs.Places.{cell_count, IsInside, c_index, c_place}
-use Rattle.cells.proofs.PlaceLaws.{c_place-lt, c_index-c_place}
+use Rattle.cells.proofs.Laws.{c_place-lt, c_index-c_place}
 use Rattle.kv_face.specs.Store.{Contents}
 use Rattle.shared_state.specs.declared.event.Mode.{Mode}
 use Rattle.shared_state.specs.declared.event.Op.TheVariants.{Write}

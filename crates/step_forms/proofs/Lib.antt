@@ -5,3 +5,4 @@ pub mod GivenLaws
 pub mod Ranges
 pub mod Repeats
 pub mod StepLists
+pub mod Laws

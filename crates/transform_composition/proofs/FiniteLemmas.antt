@@ -16,12 +16,7 @@ use Rattle.transform_composition.specs.Inside.{goes_down, end_inside, are_ends_i
 use Rattle.index_transform.specs.Values.{reaches_dim, reaches, has_value, is_effective, entry_place, map_value}
 use Rattle.index_transform.specs.Walks.{IsCell}
 use Rattle.transform_composition.specs.Reading.{depends_on, is_read_along, read_along, read_dims, point, can_read}
-use Rattle.index_transform.proofs.Laws.{get_or-inside}
-use Rattle.index_transform.proofs.EntryLemmas.{entry_place-below}
-use Rattle.index_transform.proofs.InsideLemmas.{reaches_between, reaches_dim-fits}
-use Rattle.index_transform.proofs.ListLemmas.{all-at}
-use Rattle.index_transform.proofs.MapLemmas.{list_all-position_from}
-use Rattle.index_transform.proofs.NumberLemmas.{between_up, between_down}
+use Rattle.index_transform.proofs.Laws.{get_or-inside, entry_place-below, reaches_between, reaches_dim-fits, all-at, list_all-position_from, between_up, between_down}
 use Rattle.transform_composition.proofs.ReadLemmas.{read_cell-length, read_cell-between}
 use Rattle.cells.proofs.Laws.{both, both_true}
 

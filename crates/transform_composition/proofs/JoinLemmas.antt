@@ -19,11 +19,8 @@ use Rattle.transform_composition.specs.Inside.{first_outside_by}
 use Rattle.transform_composition.specs.Reading.{has_array_along, is_read_along, read_along, read_dims, read_sizes, read_entries, entry_over, point}
 use Rattle.transform_composition.specs.Composing.{nowhere, strided_over, composed_map, passes_word, is_too_large, closed, closed_along, closed_dims, joined, composed}
 use Rattle.transform_composition.specs.declared.error.ComposeError.TheVariants.{Overflow, TooLarge}
-use Rattle.index_transform.proofs.CellLemmas.{length-cells_of}
-use Rattle.index_transform.proofs.Laws.{get_or-inside}
+use Rattle.index_transform.proofs.Laws.{length-cells_of, get_or-inside, set-more, fails, all-at, product_nonzero}
 use Rattle.transform_composition.proofs.FiniteLemmas.{finite-read-at}
-use Rattle.index_transform.proofs.ListLemmas.{set-more, fails, all-at}
-use Rattle.index_transform.proofs.NumberLemmas.{product_nonzero}
 use Rattle.cells.proofs.Laws.{both, both_true}
 
 pub length-closed_dims : (k : ℕ) (ds : List Bounds) (ms : List OutMap) → length (closed_dims k ds ms) ≡ length ds

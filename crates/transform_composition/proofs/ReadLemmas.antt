@@ -10,7 +10,7 @@ use Rattle.index_transform.specs.declared.map.OutMap.{OutMap}
 use Rattle.index_transform.specs.Walks.{IsCell}
 use Rattle.index_transform.specs.Values.{entry_index, reaches_dim, reaches, has_value, map_value}
 use Rattle.transform_composition.specs.Reading.{is_read_along, read_dims, point, can_read}
-use Rattle.index_transform.proofs.EntryLemmas.{IsAlong, reaches-lengths}
+use Rattle.index_transform.proofs.Laws.{IsAlong, reaches-lengths}
 use Rattle.cells.proofs.Laws.{both}
 
 -- the value of the map at a place

@@ -17,10 +17,9 @@ use Rattle.index_transform.specs.Values.{entry_index, entry_place, map_value}
 use Rattle.transform_composition.specs.Reading.{has_array_along, depends_on, is_read_along, read_along, read_dims, read_sizes, entry_over, point}
 use Rattle.transform_composition.specs.Composing.{nowhere, strided_over, composed_map, closed, closed_along, closed_dims}
 use Rattle.transform_composition.specs.Agreeing.{reads_along}
-use Rattle.index_transform.proofs.CellLemmas.{length-cells_of, length-flat_map, length-counting}
+use Rattle.index_transform.proofs.Laws.{length-cells_of, length-flat_map, length-counting, multiplied_out}
 use Rattle.transform_composition.proofs.FiniteLemmas.{read_head, read_tail}
 use Rattle.transform_composition.proofs.FitLemmas.{tight-fixed}
-use Rattle.index_transform.proofs.NumberLemmas.{multiplied_out}
 use Rattle.cells.proofs.Laws.{both}
 
 -- explicit bounds change no value

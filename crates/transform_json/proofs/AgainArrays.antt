@@ -8,7 +8,7 @@ use Rattle.std.proofs.lemmas.List.FromFn.{length-map-range_with_len}
 use Rattle.serde_json.specs.Data.{Data}
 use Rattle.json_forms.specs.Numbers.{whole_number, integer}
 use Rattle.json_forms.specs.Lists.{list_of, list_items, all_of}
-use Rattle.json_forms.proofs.ItemLists.{data_list-items_of}
+use Rattle.json_forms.proofs.Laws.{data_list-items_of}
 use Rattle.cells.specs.Places.{cell_count}
 use Rattle.index_intervals.specs.Bounds.{Bounds, is_index}
 use Rattle.index_transform.specs.Maps.{fits, are_entries}

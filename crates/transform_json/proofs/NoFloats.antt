@@ -7,7 +7,7 @@ use Rattle.serde_json.specs.Data.{Data, Members, string, no_members, put}
 use Rattle.serde_json.specs.Written.{has_float, members_have_float}
 use Rattle.json_forms.specs.Numbers.{natural, integer}
 use Rattle.json_forms.specs.Lists.{list_of}
-use Rattle.json_forms.proofs.NoFloats.{has_float-integer, has_float-list_of, members_have_float-put}
+use Rattle.json_forms.proofs.Laws.{has_float-integer, has_float-list_of, members_have_float-put}
 use Rattle.cells.specs.Places.{cell_count}
 use Rattle.index_intervals.specs.Bounds.{Bounds, minus_infinity, plus_infinity}
 use Rattle.index_transform.specs.Transforms.{DomainAndMaps}

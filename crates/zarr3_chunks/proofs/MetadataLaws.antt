@@ -8,7 +8,7 @@ use Rattle.serde_json.proofs.OnLiterals.{serde_json_on_literals}
 use Rattle.json_forms.specs.Lists.{list_of}
 use Rattle.json_forms.specs.Members.{object_of}
 use Rattle.json_forms.specs.Numbers.{natural, integer, whole_number}
-use Rattle.json_forms.proofs.NoFloats.{has_float-integer, has_float-naturals}
+use Rattle.json_forms.proofs.Laws.{has_float-integer, has_float-naturals}
 use Rattle.cells.specs.Numbers.{number_of}
 use Rattle.zarr3_chunks.specs.Key.{separator}
 use Rattle.zarr3_chunks.specs.Metadata.{Metadata}

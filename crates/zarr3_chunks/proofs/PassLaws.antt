@@ -7,15 +7,13 @@ use Rattle.serde_json.proofs.OnLiterals.{serde_json_on_literals}
 use Rattle.cells.specs.Bytes.{byte_count}
 use Rattle.cells.specs.Shapes.{IsChunkShape}
 use Rattle.cells.specs.declared.dtype.Dtype.{Dtype}
-use Rattle.cells.proofs.DtypeLaws.{dtype_named-dtype_name}
-use Rattle.cells.proofs.Laws.{then_from}
+use Rattle.cells.proofs.Laws.{dtype_named-dtype_name, then_from}
 use Rattle.json_forms.specs.Lists.{list_of, list_items}
 use Rattle.meta_forms.specs.Judged.{text_in, list_len, judged_format, judged_shape, judged_word, judged_chunks, sizes_at}
 use Rattle.meta_forms.specs.declared.error.MetaError.TheVariants.{NotJson}
 use Rattle.meta_forms.specs.declared.error.Fault.{Fault}
 use Rattle.meta_forms.specs.declared.error.Fault.TheVariants.{Bad}
-use Rattle.meta_forms.proofs.Laws.{ok_only, sizes_read, object_from_member, shape_passes, chunks_pass}
-use Rattle.meta_forms.proofs.NumberLaws.{format_passes, word_passes}
+use Rattle.meta_forms.proofs.Laws.{ok_only, sizes_read, object_from_member, shape_passes, chunks_pass, format_passes, word_passes}
 use Rattle.zarr3_chunks.specs.Key.{separator}
 use Rattle.zarr3_chunks.specs.Metadata.{Metadata}
 use Rattle.zarr3_chunks.specs.Written.{endian}

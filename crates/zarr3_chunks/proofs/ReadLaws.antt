@@ -9,8 +9,7 @@ use Rattle.cells.specs.Bytes.{byte_count}
 use Rattle.cells.specs.DtypeNames.{dtype_name, dtype_named}
 use Rattle.cells.specs.Shapes.{IsChunkShape}
 use Rattle.cells.specs.declared.dtype.Dtype.{Dtype}
-use Rattle.cells.proofs.DtypeLaws.{dtype_name-dtype_named}
-use Rattle.cells.proofs.Laws.{ok_from_then, then_from, else_from, true_or_false}
+use Rattle.cells.proofs.Laws.{dtype_name-dtype_named, ok_from_then, then_from, else_from, true_or_false}
 use Rattle.json_forms.specs.Bytes.{data_of}
 use Rattle.json_forms.specs.Numbers.{natural}
 use Rattle.json_forms.specs.Lists.{list_of, list_items, data_list}
@@ -19,8 +18,7 @@ use Rattle.meta_forms.specs.Judged.{text_in, whole_at, sizes_at, is_there, is_ob
 use Rattle.meta_forms.specs.declared.error.MetaError.TheVariants.{NotJson}
 use Rattle.meta_forms.specs.declared.error.Fault.{Fault}
 use Rattle.meta_forms.specs.declared.error.Fault.TheVariants.{Bad, Unsupported}
-use Rattle.meta_forms.proofs.Laws.{parts_of, judged_from_named, ok_only, sizes_found, text_found, empty_found, len_judged, one_of_two, shape_judged, chunks_judged}
-use Rattle.meta_forms.proofs.NumberLaws.{format_judged, word_judged}
+use Rattle.meta_forms.proofs.Laws.{parts_of, judged_from_named, ok_only, sizes_found, text_found, empty_found, len_judged, one_of_two, shape_judged, chunks_judged, format_judged, word_judged}
 use Rattle.zarr3_chunks.specs.Key.{separator}
 use Rattle.zarr3_chunks.specs.Metadata.{Metadata, IsMetadata}
 use Rattle.zarr3_chunks.specs.Written.{endian}

@@ -9,8 +9,7 @@ use Rattle.cells.specs.Bytes.{byte_count, word_bytes, word_of_bytes}
 use Rattle.cells.specs.Places.{cell_count, IsInside, place_of, c_place, f_place, c_index, f_index}
 use Rattle.cells.specs.declared.order.Order.{Order}
 use Rattle.cells.specs.declared.order.Order.TheVariants.{C, F}
-use Rattle.cells.proofs.ByteLaws.{word_of_bytes-word_bytes, word_bytes-word_of_bytes, IsWord-word_of_bytes}
-use Rattle.cells.proofs.PlaceLaws.{place_of-lt, c_place-lt, IsInside-c_index, c_place-c_index, IsInside-f_index, f_place-f_index, cell_count-pos}
+use Rattle.cells.proofs.Laws.{word_of_bytes-word_bytes, word_bytes-word_of_bytes, IsWord-word_of_bytes, place_of-lt, c_place-lt, IsInside-c_index, c_place-c_index, IsInside-f_index, f_place-f_index, cell_count-pos}
 use Rattle.cells.specs.Shapes.{IsChunkShape}
 use Rattle.zarr_chunks.specs.Metadata.{Metadata}
 use Rattle.zarr_chunks.specs.Chunk.{element_bytes, SpellsWords, SpellsChunk, chunk_len, chunk_word}

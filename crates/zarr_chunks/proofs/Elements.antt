@@ -7,7 +7,7 @@ use Rattle.std.proofs.Math.ListN.{get_or-append}
 use Rattle.cells.specs.Numbers.{IsWord}
 use Rattle.cells.specs.Bytes.{byte_count, word_bytes}
 use Rattle.cells.specs.declared.dtype.Dtype.{Dtype}
-use Rattle.cells.proofs.ByteLaws.{length-word_bytes}
+use Rattle.cells.proofs.Laws.{length-word_bytes}
 use Rattle.zarr_chunks.specs.Chunk.{element_bytes, SpellsWords}
 
 -- what holds of each number of a list and its place, and of one more at its end

@@ -6,7 +6,7 @@ use Rattle.std.proofs.lemmas.List.{length-take-le}
 use Rattle.std.proofs.lemmas.List.Concat.{get_or-flat_map}
 use Rattle.std.proofs.lemmas.List.FromFn.{length-range_with_len, get_or-range_with_len}
 use Rattle.cells.specs.Places.{cell_count, IsInside, c_place, f_place, index_vectors}
-use Rattle.cells.proofs.PlaceLaws.{c_place-lt}
+use Rattle.cells.proofs.Laws.{c_place-lt}
 use Rattle.zarr_chunks.specs.Reorder.{gathered}
 use Rattle.zarr_chunks.proofs.Elements.{length-elements}
 use Rattle.zarr_chunks.proofs.Backwards.{IsInside-reverse, c_place-reverse, f_place-reverse}

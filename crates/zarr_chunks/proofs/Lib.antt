@@ -6,3 +6,4 @@ pub mod ChunkLaws
 pub mod MetadataLaws
 pub mod TypeLaws
 pub mod ReadLaws
+pub mod Laws

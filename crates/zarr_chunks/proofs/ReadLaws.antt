@@ -17,8 +17,7 @@ use Rattle.meta_forms.specs.Faults.{named}
 use Rattle.meta_forms.specs.Judged.{text_in, whole_at, sizes_at, is_there, is_null_at, is_object_at, list_len, list_len_at, judged_format, judged_shape, judged_chunks, judged_word}
 use Rattle.meta_forms.specs.declared.error.MetaError.TheVariants.{NotJson}
 use Rattle.meta_forms.specs.declared.error.Fault.{Fault}
-use Rattle.meta_forms.proofs.Laws.{parts_of, judged_from_named, ok_only, sizes_found, sizes_read, text_found, null_found, empty_found, len_judged, one_of_two, object_from_member, shape_judged, shape_passes, chunks_judged, chunks_pass}
-use Rattle.meta_forms.proofs.NumberLaws.{format_judged, format_passes, word_judged, word_passes}
+use Rattle.meta_forms.proofs.Laws.{parts_of, judged_from_named, ok_only, sizes_found, sizes_read, text_found, null_found, empty_found, len_judged, one_of_two, object_from_member, shape_judged, shape_passes, chunks_judged, chunks_pass, format_judged, format_passes, word_judged, word_passes}
 use Rattle.zarr_chunks.specs.Key.{separator}
 use Rattle.zarr_chunks.specs.Metadata.{Metadata, IsMetadata}
 use Rattle.zarr_chunks.specs.Written.{order_text}

@@ -1,7 +1,7 @@
 use Rattle.std.proofs.Common.{◌≡◌, true, sym, subst}
 use Rattle.kv_face.specs.Store.{are_together}
 use Rattle.kv_face.specs.Memory.{prefixes_of}
-use Rattle.kv_face.proofs.Changes.{together_of_empty}
+use Rattle.kv_face.proofs.Laws.{together_of_empty}
 use Rattle.tensor_run.proofs.ran.Goals as goal
 
 pub run-outcome-requires-clause-together : goal.run-outcome-requires-clause-together

@@ -1,7 +1,7 @@
 use Rattle.std.proofs.Common.{◌≡◌, to_z, of_z, arith}
 use Rattle.std.proofs.lemmas.Int.{ints}
 use Rattle.std.specs.Int.{w128}
-use Rattle.index_transform.proofs.EntryLemmas.{product_small}
+use Rattle.index_transform.proofs.Laws.{product_small}
 use Rattle.chunk_grid.proofs.boxes.output_at.Goals as goal
 
 pub overflow_add-result : goal.overflow_add-result

@@ -1,6 +1,6 @@
 use Rattle.std.proofs.Common.{◌≡◌, ◌∙◌, sym, Result, Ok, Err, ◌++◌, take, drop, length, arith}
 use Rattle.std.specs.Prelude.{OnOk}
-use Rattle.index_transform.proofs.WalkLemmas.{written_back}
+use Rattle.index_transform.proofs.Laws.{written_back}
 use Rattle.chunk_grid.specs.Grid.{numbers}
 use Rattle.chunk_grid.specs.Pieces.{Pair}
 use Rattle.chunk_grid.proofs.CutLaws.{AreCuts-more}

@@ -1,6 +1,6 @@
 use Rattle.std.proofs.Common.{rules, arith, ◌∙◌, add-one, pos, FitsSigned, w64, get_or}
 use Rattle.std.proofs.lemmas.Int.{ints, to_z-of_z}
-use Rattle.cells.proofs.PlaceSteps.{c_place-step, c_place-bound}
+use Rattle.cells.proofs.Laws.{c_place-step, c_place-bound}
 use Rattle.chunk_grid.specs.Grid.{numbers, within_chunk}
 use Rattle.chunk_grid.proofs.GridLaws.{from_zero_at, within_chunk-at, length-numbers, inside_within}
 use Rattle.chunk_grid.proofs.grid.place_over.Goals as goal

@@ -7,7 +7,7 @@ use Rattle.dim_changes.specs.declared.cause.Cause.{Cause}
 use Rattle.dim_changes.specs.Causes.{with_cause, first_cause}
 use Rattle.dim_changes.specs.Dims.{dim_at}
 use Rattle.dim_expressions.specs.Arrays.{entries_cause, array_at, length_cause}
-use Rattle.dim_changes.proofs.CauseLaws.{causes-more}
+use Rattle.dim_changes.proofs.Laws.{causes-more}
 use Rattle.dim_expressions.proofs.arrays.array_causes.Goals as goal
 
 -- the cause at one selected dimension, and those behind it

@@ -1,8 +1,7 @@
 use Rattle.std.proofs.Common.{◌∙◌, [], length, sym, ap, subst, arith}
 use Rattle.index_transform.specs.declared.domain.Domain.{Domain}
 use Rattle.index_transform.specs.Transforms.{KeepsRules}
-use Rattle.dim_changes.proofs.LeftLaws.{others_known, others_few}
-use Rattle.dim_changes.proofs.OverLaws.{gives-over}
+use Rattle.dim_changes.proofs.Laws.{others_known, others_few, gives-over}
 use Rattle.dim_expressions.specs.At.{at_map, at_view}
 use Rattle.dim_expressions.proofs.WithoutLaws.{rank_few, without-made}
 use Rattle.dim_expressions.proofs.AtLaws.{IsTransform-at, tight-at}

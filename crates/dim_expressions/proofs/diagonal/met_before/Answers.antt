@@ -1,8 +1,7 @@
 use Rattle.std.proofs.Common.{◌∙◌, [], ◌∷◌, length, sym, ap, subst, arith}
 use Rattle.index_transform.specs.declared.domain.Domain.{Domain}
 use Rattle.index_transform.specs.Transforms.{DomainAndMaps, KeepsRules}
-use Rattle.dim_changes.proofs.LeftLaws.{others_known}
-use Rattle.dim_changes.proofs.OverLaws.{gives-tightened}
+use Rattle.dim_changes.proofs.Laws.{others_known, gives-tightened}
 use Rattle.dim_changes.specs.Causes.{or_cause, Gives}
 use Rattle.transform_composition.specs.Composing.{composed}
 use Rattle.dim_expressions.specs.Diagonal.{unbounded, diagonal_map, diagonal_view}

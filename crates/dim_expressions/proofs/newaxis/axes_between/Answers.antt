@@ -5,8 +5,7 @@ use Rattle.index_transform.specs.declared.domain.Domain.{Domain}
 use Rattle.index_transform.specs.declared.map.OutMap.{OutMap}
 use Rattle.index_transform.specs.Transforms.{DomainAndMaps, IsTransform, KeepsRules}
 use Rattle.dim_changes.specs.Dims.{place_in, others, dim_at}
-use Rattle.dim_changes.proofs.OverLaws.{gives-over}
-use Rattle.dim_changes.proofs.TightAnswers.{tighten_answer-same}
+use Rattle.dim_changes.proofs.Laws.{gives-over, tighten_answer-same}
 use Rattle.dim_expressions.specs.Left.{passed}
 use Rattle.dim_expressions.specs.Newaxis.{axis_by, axis_label_by, newaxis_view}
 use Rattle.dim_expressions.proofs.CarriedLaws.{AreDims}

@@ -4,9 +4,7 @@ use Rattle.index_intervals.specs.Bounds.{Bounds}
 use Rattle.index_transform.specs.declared.domain.Domain.{Domain}
 use Rattle.index_transform.specs.declared.map.OutMap.{OutMap}
 use Rattle.index_transform.specs.Transforms.{DomainAndMaps, IsTransform, KeepsRules}
-use Rattle.dim_changes.proofs.OverLaws.{gives-over}
-use Rattle.dim_changes.proofs.StepLemmas.{made-of}
-use Rattle.dim_changes.proofs.TightAnswers.{tighten_answer-same}
+use Rattle.dim_changes.proofs.Laws.{gives-over, made-of, tighten_answer-same}
 use Rattle.dim_expressions.specs.Oindex.{indexed_dim, indexed_label, indexed_map, oindex_view}
 use Rattle.dim_expressions.proofs.ArrayCauses.{few-entries, arrays-fit}
 use Rattle.dim_expressions.proofs.OindexLaws.{IsTransform-oindex, IsTightTransform-oindex, ranks-few}

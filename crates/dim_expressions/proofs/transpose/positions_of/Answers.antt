@@ -3,7 +3,7 @@ use Rattle.std.specs.List.{All}
 use Rattle.index_transform.proofs.Laws.{get_or-inside}
 use Rattle.json_forms.specs.Lists.{all_of}
 use Rattle.dim_changes.specs.Dims.{position_of}
-use Rattle.step_forms.proofs.Gathered.{Gathered}
+use Rattle.step_forms.proofs.Laws.{Gathered}
 use Rattle.dim_expressions.proofs.TargetLaws.{gathered-item, below-more}
 use Rattle.dim_expressions.proofs.transpose.positions_of.Goals as goal
 

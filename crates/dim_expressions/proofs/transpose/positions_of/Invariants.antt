@@ -2,7 +2,7 @@ use Rattle.std.proofs.Common.{◌<◌, drop}
 use Rattle.std.specs.List.{All}
 use Rattle.json_forms.specs.Lists.{all_of}
 use Rattle.dim_changes.specs.Dims.{position_of}
-use Rattle.step_forms.proofs.Gathered.{Gathered}
+use Rattle.step_forms.proofs.Laws.{Gathered}
 use Rattle.dim_expressions.proofs.transpose.positions_of.Given as goal
 
 abbrev pub invariant-loop-k : goal.invariant-loop-k

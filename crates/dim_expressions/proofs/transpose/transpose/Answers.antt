@@ -5,7 +5,7 @@ use Rattle.index_intervals.specs.Bounds.{Bounds}
 use Rattle.index_transform.specs.Transforms.{DomainAndMaps}
 use Rattle.json_forms.specs.Lists.{all_of}
 use Rattle.dim_changes.specs.Causes.{Gives}
-use Rattle.dim_changes.proofs.OverLaws.{gives-same}
+use Rattle.dim_changes.proofs.Laws.{gives-same}
 use Rattle.dim_changes.specs.Dims.{position_of}
 use Rattle.dim_expressions.specs.Transpose.{to_targets, transpose_view, transpose_answer}
 use Rattle.dim_expressions.proofs.TargetLaws.{length-all_of}

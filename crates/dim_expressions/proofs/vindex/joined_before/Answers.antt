@@ -1,8 +1,7 @@
 use Rattle.std.proofs.Common.{◌∙◌, List, [], ◌∷◌, length, sym, ap, subst, arith, ℕ, map}
 use Rattle.index_transform.specs.declared.domain.Domain.{Domain}
 use Rattle.index_transform.specs.Transforms.{KeepsRules}
-use Rattle.dim_changes.proofs.LeftLaws.{others_known}
-use Rattle.dim_changes.proofs.OverLaws.{gives-over}
+use Rattle.dim_changes.proofs.Laws.{others_known, gives-over}
 use Rattle.dim_changes.specs.Dims.{others}
 use Rattle.std.specs.List.{range_with_len}
 use Rattle.dim_expressions.specs.Left.{left_map}

@@ -1,6 +1,6 @@
 use Rattle.std.proofs.Common.{subst, arith}
 use Rattle.cells.specs.Places.{IsInside, c_place}
-use Rattle.cells.proofs.PlaceLaws.{c_place-lt, c_index-c_place}
+use Rattle.cells.proofs.Laws.{c_place-lt, c_index-c_place}
 use Rattle.format_cases.proofs.writable.are_zero_outside.Goals as goal
 
 pub returns : goal.returns

@@ -1,7 +1,7 @@
 use Rattle.std.proofs.Common.{◌-◌, ◌≤◌, ◌^◌, length, drop, sym, subst, arith}
 use Rattle.std.proofs.lemmas.List.{length-take}
 use Rattle.cells.specs.Bytes.{byte_count}
-use Rattle.cells.proofs.PlaceLaws.{cell_count-pos}
+use Rattle.cells.proofs.Laws.{cell_count-pos}
 use Rattle.n5_blocks.specs.Block.{AreWithin}
 use Rattle.n5_blocks.proofs.FaultLaws.{sound_from_no_fault, elements_small}
 use Rattle.n5_blocks.proofs.block.read_words.Goals as goal

@@ -1,10 +1,9 @@
 use Rattle.std.proofs.Common.{◌*◌, ◌≤◌, ◌^◌, length, reverse, sym, ap, subst, ◌∙◌, arith}
 use Rattle.std.proofs.Math.Nat.{mul-le-mul}
 use Rattle.cells.specs.Places.{cell_count}
-use Rattle.cells.proofs.PlaceLaws.{cell_count-pos}
+use Rattle.cells.proofs.Laws.{cell_count-pos, cell_count-reverse}
 use Rattle.n5_blocks.specs.Block.{AreWithin}
 use Rattle.n5_blocks.proofs.SizeLaws.{cell_count-within, within-reverse}
-use Rattle.cells.proofs.Backwards.{cell_count-reverse}
 use Rattle.n5_blocks.proofs.block.write_block.Goals as goal
 
 pub cells_of-requires : goal.cells_of-requires

@@ -1,7 +1,7 @@
 use Rattle.std.proofs.Common.{◌≡◌, [], ◌∷◌, true, sym, subst}
 use Rattle.std.specs.Prelude.{if◌then◌else◌}
 use Rattle.kv_face.specs.Store.{are_together}
-use Rattle.kv_face.proofs.Changes.{together_of_empty}
+use Rattle.kv_face.proofs.Laws.{together_of_empty}
 use Rattle.script_cases.proofs.runs.ran.Goals as goal
 
 pub run-outcome-requires-clause-together : goal.run-outcome-requires-clause-together

@@ -1,6 +1,6 @@
 use Rattle.std.proofs.Common.{◌≤◌}
 use Rattle.std.specs.Prelude.{All}
-use Rattle.json_forms.proofs.Collecting.{Collected}
+use Rattle.json_forms.proofs.Laws.{Collected}
 use Rattle.script_lines.specs.ZarrSpec.{size_between}
 use Rattle.script_lines.proofs.zarr_spec.sizes_at.Given as goal
 

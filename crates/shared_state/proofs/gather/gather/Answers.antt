@@ -1,6 +1,6 @@
 use Rattle.std.proofs.Common.{◌≡◌, ◌≤◌, length, Some, Err, sym, ap, subst, ◌∙◌, arith}
 use Rattle.cells.specs.Places.{cell_count, IsInside, c_index}
-use Rattle.cells.proofs.PlaceLaws.{IsInside-length}
+use Rattle.cells.proofs.Laws.{IsInside-length}
 use Rattle.shared_state.specs.declared.error.FetchError.TheVariants as fetch
 use Rattle.shared_state.specs.History.{History}
 use Rattle.shared_state.specs.Arrays.{known_after}

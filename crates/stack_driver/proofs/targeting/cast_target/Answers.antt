@@ -1,6 +1,6 @@
 use Rattle.std.proofs.Common.{◌≡◌, sym, ap, subst, List}
 use Rattle.cast_driver.specs.declared.cast.Cast.{Cast}
-use Rattle.cast_driver.proofs.ChainLaws.{AreJoined-push, BeginsWith-push, dtype_after-push}
+use Rattle.cast_driver.proofs.Laws.{AreJoined-push, BeginsWith-push, dtype_after-push}
 use Rattle.stack_driver.specs.Targets.{Target, LeadTo}
 use Rattle.stack_driver.proofs.targeting.cast_target.Goals as goal
 

@@ -1,4 +1,4 @@
-use Rattle.json_forms.proofs.Collecting.{Collected}
+use Rattle.json_forms.proofs.Laws.{Collected}
 use Rattle.step_forms.specs.Forms.{index_of, list_by}
 use Rattle.step_forms.proofs.numbers.arrays_of.Given as goal
 

@@ -1,4 +1,4 @@
-use Rattle.json_forms.proofs.Collecting.{Collected}
+use Rattle.json_forms.proofs.Laws.{Collected}
 use Rattle.step_forms.specs.Forms.{index_of, or_null}
 use Rattle.step_forms.proofs.numbers.indices_or_nulls.Given as goal
 

@@ -1,4 +1,4 @@
-use Rattle.json_forms.proofs.Collecting.{Collected}
+use Rattle.json_forms.proofs.Laws.{Collected}
 use Rattle.serde_json.specs.Find.{as_str}
 use Rattle.step_forms.proofs.numbers.texts_of_list.Given as goal
 

@@ -1,4 +1,4 @@
-use Rattle.json_forms.proofs.Collecting.{Collected}
+use Rattle.json_forms.proofs.Laws.{Collected}
 use Rattle.std.specs.Prelude.{option_map}
 use Rattle.step_forms.specs.Forms.{index_of}
 use Rattle.step_forms.specs.declared.act.Select.TheVariants as select

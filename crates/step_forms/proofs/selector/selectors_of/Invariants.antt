@@ -1,4 +1,4 @@
-use Rattle.json_forms.proofs.Collecting.{Collected}
+use Rattle.json_forms.proofs.Laws.{Collected}
 use Rattle.step_forms.specs.Acts.{selector_of}
 use Rattle.step_forms.proofs.selector.selectors_of.Given as goal
 

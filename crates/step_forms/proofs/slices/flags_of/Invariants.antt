@@ -1,4 +1,4 @@
-use Rattle.json_forms.proofs.Collecting.{Collected}
+use Rattle.json_forms.proofs.Laws.{Collected}
 use Rattle.serde_json.specs.Find.{as_bool}
 use Rattle.step_forms.specs.Forms.{or_null}
 use Rattle.step_forms.proofs.slices.flags_of.Given as goal

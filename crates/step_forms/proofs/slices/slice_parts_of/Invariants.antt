@@ -1,4 +1,4 @@
-use Rattle.json_forms.proofs.Collecting.{Collected}
+use Rattle.json_forms.proofs.Laws.{Collected}
 use Rattle.step_forms.specs.Acts.{slice_part_of}
 use Rattle.step_forms.proofs.slices.slice_parts_of.Given as goal
 

@@ -2,7 +2,7 @@ use Rattle.std.proofs.Common.{◌≡◌, ◌∙◌, ◌<◌, List, ap, sym, subs
 use Rattle.index_intervals.specs.Bounds.{Bounds}
 use Rattle.transform_composition.specs.Composing.{closed_along}
 use Rattle.transform_composition.proofs.JoinLemmas.{closed_dims-more, closed_dims-whole}
-use Rattle.index_transform.proofs.WalkLemmas.{written_back}
+use Rattle.index_transform.proofs.Laws.{written_back}
 use Rattle.transform_composition.proofs.composing.closed_dims.Goals as goal
 
 -- the dimension at the index is made explicit where it has to be

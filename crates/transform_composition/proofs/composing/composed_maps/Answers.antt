@@ -1,4 +1,4 @@
-use Rattle.index_transform.proofs.ListLemmas.{position_from-none}
+use Rattle.index_transform.proofs.Laws.{position_from-none}
 use Rattle.transform_composition.specs.Composing.{passes_word, is_too_large}
 use Rattle.transform_composition.proofs.composing.composed_maps.Goals as goal
 

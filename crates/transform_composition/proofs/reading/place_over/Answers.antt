@@ -1,9 +1,7 @@
 use Rattle.std.proofs.Common.{◌≡◌, ◌<◌, ◌+◌, ◌*◌, ◌==◌, ◌||◌, ◌∙◌, ap, sym, subst, arith, ℤ, pos, map, drop, get_or, length, true}
 use Rattle.std.proofs.lemmas.List.{length-map}
 use Rattle.index_transform.specs.Values.{entry_place, entry_index, map_value, has_value, reaches_dim}
-use Rattle.index_transform.proofs.EntryLemmas.{IsAlong, IsAlong-next, IsAlong-end, IsAlong-most, IsAlong-product, entry_place-below, reaches-lengths}
-use Rattle.index_transform.proofs.ListLemmas.{all-zip-at}
-use Rattle.index_transform.proofs.Laws.{get_or-inside}
+use Rattle.index_transform.proofs.Laws.{IsAlong, IsAlong-next, IsAlong-end, IsAlong-most, IsAlong-product, entry_place-below, reaches-lengths, all-zip-at, get_or-inside}
 use Rattle.transform_composition.proofs.ReadLemmas.{get_or-mapped, IsAlong-reached, readable}
 use Rattle.transform_composition.proofs.reading.place_over.Goals as goal
 

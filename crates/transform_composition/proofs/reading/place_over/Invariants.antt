@@ -1,6 +1,6 @@
 use Rattle.std.proofs.Common.{drop, map}
 use Rattle.index_transform.specs.Values.{entry_place, map_value}
-use Rattle.index_transform.proofs.EntryLemmas.{IsAlong}
+use Rattle.index_transform.proofs.Laws.{IsAlong}
 use Rattle.transform_composition.proofs.reading.place_over.Given as goal
 
 abbrev pub invariant-loop-j : goal.invariant-loop-j

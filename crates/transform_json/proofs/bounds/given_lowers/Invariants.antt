@@ -1,5 +1,5 @@
 use Rattle.std.specs.Prelude.{codes}
-use Rattle.json_forms.proofs.Collecting.{Collected}
+use Rattle.json_forms.proofs.Laws.{Collected}
 use Rattle.transform_json.specs.Bounds.{bound_of}
 use Rattle.transform_json.proofs.bounds.given_lowers.Given as goal
 

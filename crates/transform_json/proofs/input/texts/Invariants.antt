@@ -1,5 +1,5 @@
 use Rattle.serde_json.specs.Find.{as_str}
-use Rattle.json_forms.proofs.Collecting.{Collected}
+use Rattle.json_forms.proofs.Laws.{Collected}
 use Rattle.transform_json.proofs.input.texts.Given as goal
 
 abbrev pub invariant-loop-item : goal.invariant-loop-item

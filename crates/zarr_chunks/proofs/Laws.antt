@@ -1,0 +1,2 @@
+-- The laws of chunks of Zarr that other crates rest on.
+pub use Rattle.zarr_chunks.proofs.ChunkLaws.{SpellsChunk-from_len}
