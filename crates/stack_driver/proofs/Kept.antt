@@ -29,7 +29,7 @@ kept-Leaf : (t : DomainAndMaps) (array : Reference) (u : DomainAndMaps) → Keep
 kept-Leaf t array u h same =
     subst IsView (sym (under-Leaf t array u)) (leaf_view array t (same ∙ outputs (own_transform (view.Leaf array u)) u (own-Leaf array u) ∙ leaf_node array u h))
 
-cast_view : (to : Dtype) (base : View) → IsView base → IsView (view.Cast to base)
+pub cast_view : (to : Dtype) (base : View) → IsView base → IsView (view.Cast to base)
 cast_view to base h = subst IsView (view.rolls-Cast to base) (every_made-View IsNode (View-F.Cast to base) (View-F.Cast to (base, h)) refl tt)
 
 kept-Cast : (t : DomainAndMaps) (to : Dtype) (base : View) → Keeps t base → Keeps t (view.Cast to base)
@@ -45,7 +45,8 @@ pairs-are : (layers : List View) (all : AllByRecursion IsView layers) → map (�
 pairs-are [] all = refl
 pairs-are (l ∷ ls) all = ap (λ vs. l ∷ vs) (pairs-are ls all.1)
 
-stack_view : (layers : List View) (t : DomainAndMaps) → AllByRecursion IsView layers → AreLayers layers (length t.maps) → IsView (view.Stack layers t)
+-- layers of one dtype and rank, as many as a stack has, with a transform that has an output for each of their dimensions
+pub stack_view : (layers : List View) (t : DomainAndMaps) → AllByRecursion IsView layers → AreLayers layers (length t.maps) → IsView (view.Stack layers t)
 stack_view layers t all node =
     subst IsView (view.rolls-Stack layers t)
     (every_made-View IsNode (View-F.Stack layers t) (View-F.Stack (pairs layers all) t) (ap (λ vs. View-F.Stack vs t) (pairs-are layers all)) node)

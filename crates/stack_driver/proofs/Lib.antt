@@ -7,3 +7,4 @@ pub mod Landing
 pub mod Unders
 pub mod Moves
 pub mod ArrayRules
+pub mod StackRules

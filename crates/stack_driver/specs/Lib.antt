@@ -4,3 +4,4 @@ pub mod Views
 pub mod Conditions
 pub mod Changes
 pub mod Arrays
+pub mod Stacks

@@ -24,3 +24,24 @@ impl From<AllocError> for TargetError {
         TargetError::Memory
     }
 }
+
+/// Why views don't stack.
+#[derive(Clone, Copy, Debug, PartialEq, Eq, Error)]
+pub enum StackError {
+    /// This layer has another dtype or rank than the first.
+    #[error("layer {layer} has another dtype or rank than the first")]
+    Layers { layer: u32 },
+    #[error("out of memory")]
+    Memory,
+}
+
+impl From<AllocError> for StackError {
+    ghost use Rattle.std.specs.Prelude.{◌≡◌};
+    ghost use Rattle.stack_driver.specs.declared.error.StackError.TheVariants.{Memory};
+
+    ghost from_gives = { λ _ e. e ≡ Memory };
+
+    fn from(_: AllocError) -> StackError {
+        StackError::Memory
+    }
+}

@@ -10,13 +10,14 @@ mod error;
 mod look;
 mod place;
 mod reference;
+mod stacking;
 mod targeting;
 mod view;
 mod wholes;
 
 pub use changing::{set_transform, with_transform};
 pub use copying::copy;
-pub use error::TargetError;
+pub use error::{StackError, TargetError};
 pub use look::{dtype, transform_of};
 pub use place::Target;
 pub use reference::ArrayRef;

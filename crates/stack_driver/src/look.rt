@@ -1,20 +1,25 @@
 ghost use Rattle.std.specs.Prelude.{◌≡◌};
 ghost use Rattle.stack_driver.specs.Views.{look_of, own_transform};
-ghost use Rattle.stack_driver.specs.Conditions.{IsView};
 
 use crate::view::View;
 use cells::Dtype;
 use index_transform::Transform;
 
-/// The dtype that a view shows.
+/// The dtype that a view shows; that of a stack is its first layer's.
 pub fn dtype(v: &View) -> Dtype
-    requires { IsView v.now }
     ensures { result ≡ (look_of v.now).dtype }
 {
     match v {
         View::Leaf { array, .. } => array.dtype,
         View::Cast { to, .. } => *to,
-        View::Stack { layers, .. } => dtype(&layers.items()[0]),
+        View::Stack { layers, .. } => {
+            let layers = layers.items();
+            if layers.is_empty() {
+                Dtype::I32
+            } else {
+                dtype(&layers[0])
+            }
+        }
     }
 }
 

@@ -28,9 +28,6 @@ target-requires t c =
     let inside : IsTrue (has_index (look_of base).dims c.args.index.now) = subst (λ (ds : List Bounds). IsTrue (has_index ds c.args.index.now)) (dims-Cast c.args.v.now c.in-Cast.to base c.in-Cast.is) c.requires.inside in
     ((let d = c.decreases in omega (arith, less, d)), (subst IsView (sym at) (base_view c.in-Cast.to base here), subst (λ v. IsTrue (has_index (look_of v).dims c.args.index.now)) (sym at) inside))
 
-pub dtype-requires : goal.dtype-requires
-dtype-requires t c = subst IsView (sym c.get-base.ensures) (base_view c.in-Cast.to c.in-Cast.base (subst IsView c.in-Cast.is c.requires.view))
-
 pub returns-in-Leaf-clause-err : goal.returns-in-Leaf-clause-err
 returns-in-Leaf-clause-err t c =
     subst (λ (z : Result Target TargetError). IfErr c.leaf_target.result (λ e. e ≢ Memory → z ≡ Err e)) (sym (on-Leaf c.args.v.now c.in-Leaf.array c.in-Leaf.transform c.args.index.now c.in-Leaf.is)) c.leaf_target.ensures.err
