@@ -8,3 +8,5 @@ pub mod Unders
 pub mod Moves
 pub mod ArrayRules
 pub mod StackRules
+pub mod StackTargets
+pub mod Renewals

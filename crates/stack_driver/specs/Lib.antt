@@ -5,3 +5,4 @@ pub mod Conditions
 pub mod Changes
 pub mod Arrays
 pub mod Stacks
+pub mod Renewed

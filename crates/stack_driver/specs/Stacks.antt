@@ -1,5 +1,5 @@
 -- Stacks of views: their domain, and which views stack.
-use Rattle.std.specs.Prelude.{ℕ, ◌+◌, ◌==◌, not, ◌&&◌, Bool, List, [], ◌∷◌, length, map, slice_index_or, Option, Some, None, Result, Ok, Err, if◌then◌else◌}
+use Rattle.std.specs.Prelude.{ℕ, ◌+◌, ◌==◌, not, ◌&&◌, Bool, List, [], ◌∷◌, length, map, slice_index_or, Option, Some, None, Result, Ok, Err, if◌then◌else◌, ◌≡◌, ℤ}
 use Rattle.std.specs.List.{list_all, position_from}
 use Rattle.std.specs.Str.{bytes_eq}
 use Rattle.cells.specs.DtypeNames.{dtype_name}
@@ -7,7 +7,8 @@ use Rattle.index_intervals.specs.Bounds.{Bounds}
 use Rattle.index_intervals.specs.Around.{around_all}
 use Rattle.index_transform.specs.Identity.{identity_over}
 use Rattle.index_transform.specs.declared.domain.Domain.{Domain}
-use Rattle.stack_driver.specs.Views.{look_of, own_transform}
+use Rattle.stack_driver.specs.Views.{look_of, own_transform, target_of, last_target}
+use Rattle.stack_driver.specs.declared.error.TargetError.TheVariants.{Uncovered}
 use Rattle.stack_driver.specs.declared.error.StackError.{StackError}
 use Rattle.stack_driver.specs.declared.error.StackError.TheVariants.{Layers}
 use Rattle.stack_driver.specs.declared.view.View.{View}
@@ -50,3 +51,7 @@ unless_unlike None layers = Ok (view.Stack layers (identity_over (stacked_domain
 -- the stack of the views over its own domain, or the first that isn't like the first one
 abbrev pub stack_answer : List View → Result View StackError
 stack_answer layers = unless_unlike (first_unlike layers) layers
+
+-- the view's cell at an index vector is that of the last of some views whose domain has it
+abbrev pub HasLastTargets : View → List View → Type 0
+HasLastTargets v layers = (index : List ℤ) → length index ≡ length (look_of v).dims → target_of v index ≡ last_target (map look_of layers) index (Err Uncovered)

@@ -1,5 +1,6 @@
 use std::alloc::AllocError;
 use thiserror::Error;
+use transform_composition::ComposeError;
 
 /// Why a cell of a view has no target.
 #[derive(Clone, Copy, Debug, PartialEq, Eq, Error)]
@@ -43,5 +44,29 @@ impl From<AllocError> for StackError {
 
     fn from(_: AllocError) -> StackError {
         StackError::Memory
+    }
+}
+
+/// Why a view doesn't take a new shape.
+#[derive(Clone, Copy, Debug, PartialEq, Eq, Error)]
+pub enum RenewError {
+    /// Through casts, the view is no leaf.
+    #[error("the view is no array")]
+    NotArray,
+    /// The transform doesn't go into the array's domain.
+    #[error("{cause}")]
+    Refused { cause: ComposeError },
+    #[error("out of memory")]
+    Memory,
+}
+
+impl From<AllocError> for RenewError {
+    ghost use Rattle.std.specs.Prelude.{◌≡◌};
+    ghost use Rattle.stack_driver.specs.declared.error.RenewError.TheVariants.{Memory};
+
+    ghost from_gives = { λ _ e. e ≡ Memory };
+
+    fn from(_: AllocError) -> RenewError {
+        RenewError::Memory
     }
 }

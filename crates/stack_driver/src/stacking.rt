@@ -4,7 +4,7 @@ ghost use Rattle.std.specs.List.{AllByRecursion, list_all, position_from};
 ghost use Rattle.index_intervals.specs.Bounds.{Bounds};
 ghost use Rattle.index_transform.specs.Transforms.{IsDomain};
 ghost use Rattle.stack_driver.specs.Conditions.{IsView};
-ghost use Rattle.stack_driver.specs.Stacks.{column, stacked_dims, has_label, stacked_labels, stacked_domain, is_like, first_unlike, stack_answer};
+ghost use Rattle.stack_driver.specs.Stacks.{column, stacked_dims, has_label, stacked_labels, stacked_domain, is_like, first_unlike, stack_answer, HasLastTargets};
 ghost use Rattle.stack_driver.specs.Views.{look_of, own_transform};
 ghost use Rattle.stack_driver.specs.declared.error.StackError.{StackError};
 
@@ -34,6 +34,7 @@ impl View {
         requires views { AllByRecursion IsView layers.items }
         ensures ok { IfOk result (λ v. stack_answer layers.items ≡ Ok v) }
         ensures err { IfErr result (λ e. e ≢ StackError.Memory → stack_answer layers.items ≡ Err e) }
+        ensures targets { IfOk result (λ v. HasLastTargets v layers.items) }
         ensures view { IfOk result IsView }
     {
         if let Some(layer) = first_unlike(&layers) {
@@ -52,6 +53,7 @@ fn stack_over(alloc: Global, layers: Vec<View>) -> Result<View, AllocError>
     requires views { AllByRecursion IsView layers.items }
     requires alike { first_unlike layers.items ≡ None }
     ensures value { IfOk result (λ v. stack_answer layers.items ≡ Ok v) }
+    ensures targets { IfOk result (λ v. HasLastTargets v layers.items) }
     ensures view { IfOk result IsView }
 {
     let domain = stacked_domain(alloc, &layers)?;

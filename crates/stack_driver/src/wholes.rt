@@ -29,7 +29,7 @@ pub fn whole(alloc: Global, array: ArrayRef) -> Result<View, AllocError>
     })
 }
 
-fn array_domain(alloc: Global, array: &ArrayRef) -> Result<Domain, AllocError>
+pub(crate) fn array_domain(alloc: Global, array: &ArrayRef) -> Result<Domain, AllocError>
     ensures value { IfOk result (λ d. d ≡ array_domain array.now) }
     ensures rules { IfOk result IsDomain }
 {
