@@ -10,3 +10,4 @@ pub mod ArrayRules
 pub mod StackRules
 pub mod StackTargets
 pub mod Renewals
+pub mod Tallies

@@ -6,3 +6,4 @@ pub mod Changes
 pub mod Arrays
 pub mod Stacks
 pub mod Renewed
+pub mod Counts

@@ -6,6 +6,7 @@
 
 mod changing;
 mod copying;
+mod counting;
 mod error;
 mod look;
 mod place;
@@ -18,6 +19,7 @@ mod wholes;
 
 pub use changing::{set_transform, with_transform};
 pub use copying::copy;
+pub use counting::{casts, depth, leaves};
 pub use error::{RenewError, StackError, TargetError};
 pub use look::{dtype, transform_of};
 pub use place::Target;
