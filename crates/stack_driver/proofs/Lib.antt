@@ -11,3 +11,4 @@ pub mod StackRules
 pub mod StackTargets
 pub mod Renewals
 pub mod Tallies
+pub mod LeafTargets

@@ -7,3 +7,4 @@ pub mod Arrays
 pub mod Stacks
 pub mod Renewed
 pub mod Counts
+pub mod Leaves

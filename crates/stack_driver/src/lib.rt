@@ -21,7 +21,7 @@ pub use changing::{set_transform, with_transform};
 pub use copying::copy;
 pub use counting::{casts, depth, leaves};
 pub use error::{RenewError, StackError, TargetError};
-pub use look::{dtype, transform_of};
+pub use look::{array_of, dtype, transform_of};
 pub use place::Target;
 pub use reference::ArrayRef;
 pub use renewing::renew;

@@ -1,6 +1,9 @@
-ghost use Rattle.std.specs.Prelude.{◌≡◌};
+ghost use Rattle.std.specs.Prelude.{◌≡◌, Some, None, IfSome, IfNone};
+ghost use Rattle.stack_driver.specs.Leaves.{IsLeafOf};
+ghost use Rattle.stack_driver.specs.Renewed.{array_of};
 ghost use Rattle.stack_driver.specs.Views.{look_of, own_transform};
 
+use crate::reference::ArrayRef;
 use crate::view::View;
 use cells::Dtype;
 use index_transform::Transform;
@@ -32,5 +35,19 @@ pub fn transform_of(v: &View) -> &Transform
         View::Leaf { transform, .. } => transform,
         View::Cast { base, .. } => transform_of(base.get()),
         View::Stack { transform, .. } => transform,
+    }
+}
+
+/// The array of a leaf, through casts; `None` for a stack under casts. Each target of the view is this array at the value of
+/// the view's transform, behind the view's casts.
+pub fn array_of(v: &View) -> Option<&ArrayRef>
+    ensures some { IfSome result (λ r. array_of v.now ≡ Some r.now) }
+    ensures none { IfNone result (array_of v.now ≡ None) }
+    ensures targets { IfSome result (λ r. IsLeafOf v.now r.now) }
+{
+    match v {
+        View::Leaf { array, .. } => Some(array),
+        View::Cast { base, .. } => array_of(base.get()),
+        View::Stack { .. } => None,
     }
 }
