@@ -1,7 +1,8 @@
 // The same view under another transform.
-ghost use Rattle.std.specs.Prelude.{◌≡◌, ◌≢◌, IfOk, IfErr, Ok, Err};
+ghost use Rattle.std.specs.Prelude.{◌≡◌, ◌≢◌, length, IfOk, IfErr, Ok, Err};
 ghost use Rattle.stack_driver.specs.Changes.{under, moved, HasTargetsOf};
 ghost use Rattle.stack_driver.specs.Conditions.{IsView};
+ghost use Rattle.stack_driver.specs.Views.{own_transform};
 ghost use Rattle.transform_composition.specs.declared.error.ComposeError.{ComposeError};
 
 use crate::look::transform_of;
@@ -13,11 +14,18 @@ use transform_composition::{ComposeError, compose};
 /// Gives a view another own transform: a leaf or a stack this one, a cast's base likewise. Nothing is composed, so a bound
 /// that was marked implicit stays so.
 pub fn set_transform(v: &mut View, transform: Transform)
+    ensures value { v.new ≡ under transform v.old }
+    ensures view { IsView v.old → length transform.maps ≡ length (own_transform v.old).maps → IsView v.new }
+{
+    put_transform(v, transform);
+}
+
+fn put_transform(v: &mut View, transform: Transform)
     ensures { v.new ≡ under transform v.old }
 {
     match v {
         View::Leaf { transform: own, .. } => *own = transform,
-        View::Cast { base, .. } => set_transform(base.get_mut(), transform),
+        View::Cast { base, .. } => put_transform(base.get_mut(), transform),
         View::Stack { transform: own, .. } => *own = transform,
     }
 }

@@ -25,6 +25,6 @@ pub use look::{array_of, dtype, transform_of};
 pub use place::Target;
 pub use reference::ArrayRef;
 pub use renewing::renew;
-pub use targeting::target;
+pub use targeting::{contains, target};
 pub use view::View;
 pub use wholes::whole;

@@ -101,6 +101,13 @@ fn last_with(layers: &[View], index: &[i64]) -> Option<usize>
     last
 }
 
+/// Whether a view's domain has an index vector, its bounds as they stand.
+pub fn contains(v: &View, index: &[i64]) -> bool
+    ensures { result ≡ has_index (look_of v.now).dims index.now }
+{
+    has_index(transform_of(v).domain().dims.items(), index)
+}
+
 // Whether a domain has an index vector, its bounds as they stand.
 fn has_index(dims: &[Interval], index: &[i64]) -> bool
     ensures { result ≡ has_index dims.now index.now }
