@@ -12,3 +12,4 @@ pub mod StackTargets
 pub mod Renewals
 pub mod Tallies
 pub mod LeafTargets
+pub mod Laws

@@ -1,0 +1,67 @@
+// What is asked of a view.
+ghost use Rattle.stack_driver.specs.Conditions.{IsView};
+
+use crate::args::{member, numbers};
+use crate::fault::Fault;
+use serde_json::Value;
+use stack_driver::{
+    TargetError, View, array_of, casts, contains, depth, dtype, leaves, target, transform_of,
+};
+use std::alloc::Global;
+use std::fmt::Debug;
+use transform_json::write_transform;
+
+pub(crate) fn asked(alloc: Global, view: &View, call: &str, v: &Value) -> Result<String, Fault>
+    requires { IsView view.now }
+{
+    match call {
+        "look" => look(alloc, view),
+        "target" => target_at(alloc, view, member(v, "index")?),
+        "counts" => told(alloc, &(leaves(view), depth(view))),
+        "casts" => told(alloc, &casts(alloc, view)?),
+        "array" => told(alloc, &array_of(view)),
+        _ => Err(Fault::Line),
+    }
+}
+
+// The dtype, and the own transform as JSON.
+fn look(alloc: Global, view: &View) -> Result<String, Fault> {
+    let mut text = String::from_str(alloc, dtype(view).name())?;
+    text.push(' ')?;
+    put_transform(alloc, &mut text, view)?;
+    Ok(text)
+}
+
+fn put_transform(alloc: Global, text: &mut String, view: &View) -> Result<(), Fault> {
+    let json = transform_text(alloc, view)?;
+    Ok(text.push_str(&json)?)
+}
+
+fn transform_text(alloc: Global, view: &View) -> Result<String, Fault> {
+    Ok(write_transform(alloc, transform_of(view))?.to_string(alloc)?)
+}
+
+fn target_at(alloc: Global, view: &View, index: &Value) -> Result<String, Fault>
+    requires { IsView view.now }
+{
+    let index = numbers(alloc, index)?;
+    target_told(alloc, view, &index)
+}
+
+fn target_told(alloc: Global, view: &View, index: &[i64]) -> Result<String, Fault>
+    requires { IsView view.now }
+{
+    if !contains(view, index) {
+        return Err(Fault::Line);
+    }
+    match target(alloc, view, index) {
+        Ok(found) => told(alloc, &found),
+        Err(TargetError::Memory) => Err(Fault::Memory),
+        Err(e) => told(alloc, &e),
+    }
+}
+
+// Any answer, by its Debug.
+pub(crate) fn told<T: Debug>(alloc: Global, value: &T) -> Result<String, Fault> {
+    Ok(format!(in alloc; "{value:?}")?)
+}
