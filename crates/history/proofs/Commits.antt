@@ -104,15 +104,18 @@ either : (b : Bool) (start : Contents) (events xs ys : History) → IsLegal star
 either true start events xs ys one many = one
 either false start events xs ys one many = many
 
+-- a commit whose kept operations may follow gives a legal history, by one event or by one for each key
+pub committed : (fixed : Fixed) (events : History) (owner : ℕ) (t : Transaction) → IsLegal fixed.start events → IsLegalDone fixed.start events (kept_ops t) → IsLegal fixed.start (events ++ commit_events fixed events owner t)
+committed fixed events owner t legal ok =
+    let one = done_legal fixed.start events owner t (kept_ops t) None legal ok in
+    let many = done_each_legal fixed.start owner t (changed_keys events t.ops) events (kept_ops t) legal ok in
+    either (are_together fixed.prefixes (stored_keys events t.ops)) fixed.start events _ _ one many
+
 -- a commit without conflict, whose cells lie in the present shapes, gives a legal history
 pub commit_legal : (fixed : Fixed) (events : History) (owner : ℕ) (t : Transaction) → IsLegal fixed.start events → IsTransaction fixed.start events t → HasNoConflict events t → AllByRecursion (IsLegalOp events) t.ops
     → IsLegal fixed.start (events ++ commit_events fixed events owner t)
 commit_legal fixed events owner t legal tx free ok =
-    let ops = kept_ops t in
-    let done_ok : IsLegalDone fixed.start events ops = record { each = kept_each events t t.mode.repeatable_read ok; reads = kept_reads fixed.start events t t.mode.repeatable_read refl legal tx free } in
-    let one = done_legal fixed.start events owner t ops None legal done_ok in
-    let many = done_each_legal fixed.start owner t (changed_keys events t.ops) events ops legal done_ok in
-    either (are_together fixed.prefixes (stored_keys events t.ops)) fixed.start events _ _ one many
+    committed fixed events owner t legal (record { each = kept_each events t t.mode.repeatable_read ok; reads = kept_reads fixed.start events t t.mode.repeatable_read refl legal tx free })
 
 -- Writes alone read nothing first
 pub nothing_read : (before ops : List Op) → AllByRecursion (λ op. is_write op ≡ true) ops → first_reads before ops ≡ []

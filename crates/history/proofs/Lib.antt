@@ -30,3 +30,4 @@ pub mod CutCounts
 pub mod Counted
 pub mod Grids
 pub mod Conflicts
+pub mod Staged

@@ -23,3 +23,4 @@ pub mod Shown
 pub mod Refs
 pub mod Generations
 pub mod Stored
+pub mod Staged

@@ -1,5 +1,5 @@
 -- When a read, a commit or a resize is refused after its transaction's own faults.
-use Rattle.std.specs.Prelude.{◌≡◌, ◌<◌, max, ℕ, List, [], ◌∷◌, length, map, filter, filter_map, take, fold, Bool, false, not, ◌==◌, Option, Some, None, IsTrue, Contains, if◌then◌else◌}
+use Rattle.std.specs.Prelude.{◌≡◌, ◌<◌, max, ℕ, List, ◌∷◌, length, map, filter, filter_map, take, fold, Bool, false, not, ◌==◌, Option, Some, None, IsTrue, Contains, if◌then◌else◌}
 use Rattle.chunk_forms.specs.Words.{is_inside}
 use Rattle.chunk_forms.specs.declared.form.Damage.{Damage}
 use Rattle.stack_driver.specs.declared.view.View.{View}
