@@ -13,18 +13,14 @@ use Rattle.history.specs.Touch.{generation_of}
 use Rattle.history.specs.Writes.{Content}
 use Rattle.kv_face.specs.Store.{Contents}
 use Rattle.history.specs.Content.{world_after}
-use Rattle.history.specs.Reads.{Marks, mark_of, first_reads, marked_world}
+use Rattle.history.specs.Reads.{Marks, mark_of, first_reads}
 use Rattle.history.specs.Legal.{IsLegal, IsLegalDone, IsLegalOp, HasTarget, AreReads, viewed, is_present_in}
 use Rattle.history.specs.Commit.{Key, Fixed, Transaction, done, done_each, kept_ops, commit_events, stored_keys, changed_keys, are_together, is_write, HasNoConflict, read_generation}
 use Rattle.history.proofs.Generations.{generation_of-le-length}
 use Rattle.history.proofs.Histories.{known_after-more, IsLegal-more}
-use Rattle.history.proofs.Longer.{AreWithin, mark_of-within}
+use Rattle.history.specs.Staged.{AreWithin, IsTransaction}
+use Rattle.history.proofs.Longer.{mark_of-within}
 use Rattle.history.proofs.Serial.{reads_are_present, IsFresh}
-
--- what a transaction has read stands by its marks
-pub record IsTransaction (start : Contents) (events : History) (t : Transaction) : Type 0 where
-  pub seen : AreReads (marked_world start events (mark_of t.marks)) [] t.ops
-  pub within : AreWithin (length events) t.marks
 
 module _ {A : Type 0} where
   pub all_to : (P Q : A → Type 0) → ((x : A) → P x → Q x) → (xs : List A) → AllByRecursion P xs → AllByRecursion Q xs

@@ -1,5 +1,5 @@
 -- A conflict is real: a commit or a resize touched a chunk after it was read.
-use Rattle.std.proofs.Common.{◌≡◌, ◌≢◌, ℕ, zero, suc, ◌+◌, ◌<◌, ◌≤◌, List, [], ◌∷◌, ◌++◌, length, map, take, drop, Bool, true, false, cond, Option, Some, None, Result, Ok, Err, inl, inr, refl, sym, ap, subst, ◌∙◌, arith}
+use Rattle.std.proofs.Common.{◌≡◌, ℕ, zero, suc, ◌+◌, ◌<◌, ◌≤◌, List, [], ◌∷◌, ◌++◌, length, map, take, drop, Bool, true, false, cond, Option, Some, None, Result, Ok, Err, inl, inr, refl, sym, ap, subst, ◌∙◌, arith}
 use Rattle.std.specs.Prelude.{Contains, filter, filter_map, option_map, not}
 use Rattle.std.specs.List.{AllByRecursion}
 use Rattle.std.proofs.lemmas.List.{take-append-drop}
@@ -10,7 +10,6 @@ use Rattle.stack_driver.specs.declared.error.TargetError.{TargetError}
 use Rattle.history.specs.declared.array.ArrayInfo.{ArrayInfo}
 use Rattle.history.specs.declared.event.Op.{Op}
 use Rattle.history.specs.declared.event.Op.TheVariants.{Write, Read}
-use Rattle.history.specs.declared.event.Kind.TheVariants.{Opened}
 use Rattle.history.specs.History.{History}
 use Rattle.history.specs.Arrays.{Known, known_after}
 use Rattle.history.specs.Chunks.{Chunk, chunk_of}
@@ -23,14 +22,15 @@ use Rattle.history.specs.Commit.{Key, Transaction, IsConflict, read_generation}
 use Rattle.history.proofs.Histories.{each_history}
 use Rattle.history.proofs.Known.{known_split, no_array, none_is_none}
 use Rattle.history.proofs.Untouched.{generation_touched, chunk_array}
-use Rattle.history.proofs.Generations.{IsTouched, generation_of-rises}
+use Rattle.history.proofs.Generations.{generation_of-rises}
 use Rattle.history.proofs.Presence.{world_some}
 use Rattle.history.proofs.Longer.{IsOpenedAs, known-longer}
 use Rattle.history.proofs.Written.{puts_elsewhere}
-use Rattle.history.proofs.Commits.{IsTransaction}
+use Rattle.history.specs.Staged.{IsTransaction}
 use Rattle.history.proofs.Transactions.{all_with}
 use Rattle.history.proofs.Touching.{touched_later}
 use Rattle.std.proofs.Common.{eq-eqb}
+use Rattle.history.specs.Generations.{IsRealConflict}
 
 -- the content has a word at the cell
 abbrev pub HasWord : Content → Cell → Type 0
@@ -98,12 +98,6 @@ opened_of_known : (i : ArrayInfo) (n : ℕ) (o : Option Known) → IsOpenedAs i 
 unfolding IsOpenedAs
 opened_of_known i n None opened = absurd opened
 opened_of_known i n (Some k) opened = (k, refl, opened.1)
-
--- the event of a conflict touches the chunk, is no opening, and came after the chunk was read
-pub record IsRealConflict (events : History) (chunk : Chunk) (read now : ℕ) : Type 0 where
-  pub touch : IsTouched events chunk now
-  pub no_opening : (info : ArrayInfo) → touch.event.kind ≢ Opened info
-  pub later : read < now
 
 pub conflict_is_real : (start : Contents) (events : History) (t : Transaction) (key : Key) (read now : ℕ) → IsLegal start events → IsTransaction start events t → (is : IsConflict events t key read now) → IsRealConflict events is.chunk read now
 conflict_is_real start events t key read now legal tx is =

@@ -19,6 +19,7 @@ use Rattle.history.proofs.Histories.{each_history, known_after-more, legal_step}
 use Rattle.history.proofs.Known.{known_below}
 use Rattle.history.proofs.Presence.{IsLegal-front, world_some}
 use Rattle.history.proofs.Serial.{IsKeptAt, reads_kept}
+use Rattle.history.specs.Staged.{AreWithin}
 
 -- the array is known, with this opening
 unfoldable pub IsOpenedAs : ArrayInfo → ℕ → Option Known → Type 0
@@ -85,10 +86,6 @@ unfolding IsKnown
 known-after_take start events a m legal known =
     let parts = take-append-drop m events in
     (known.0, known.1, subst (λ h. IsOpenedAs known.0 known.1 (known_after h a)) parts (known-longer start (take m events) a known.0 known.1 known.2 (drop m events) (subst (IsLegal start) (sym parts) legal)))
-
--- every mark lies within the history
-abbrev pub AreWithin : ℕ → Marks → Type 0
-AreWithin n marks = AllByRecursion (λ m. m.1 ≤ n) marks
 
 mark_step : (b : Bool) (m rest n : ℕ) → m ≤ n → rest ≤ n → cond b m rest ≤ n
 mark_step true m rest n h k = h

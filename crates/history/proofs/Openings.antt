@@ -33,6 +33,7 @@ use Rattle.history.proofs.Names.{before_separator, no_separator, all_digits, beh
 use Rattle.history.proofs.Ordering.{IsAmong, among_first, among_left, among_right, least_none, kept, filter_map-append, begins_split}
 use Rattle.history.proofs.Written.{or_parts}
 use Rattle.cells.proofs.Laws.{both}
+use Rattle.history.specs.Places.{IsFree}
 
 pub array_at-more : (events : History) (e : Event) (here : List ℕ) → array_at (events ++ e ∷ []) here ≡ at_step here events e.kind (array_at events here)
 array_at-more events e here = after-more (λ before f found. at_step here before f.kind found) None events e
@@ -159,11 +160,6 @@ not_begun us vs ne below =
       | inl t ↦ elim (above_or_same us vs t) [ inl same ↦ absurd (ne same) | inr above ↦ (let clash : true ≡ false = sym above ∙ below in absurd (cc)) ]
       | inr f ↦ f
     ]
-
--- no array lies at the location, above it or below it
-pub record IsFree (events : History) (here : List ℕ) : Type 0 where
-  pub alone : taken events here ≡ None
-  pub empty : array_at events here ≡ None
 
 slash_last : (m p : List ℕ) → (m ++ 47 ∷ p) ++ 47 ∷ [] ≡ m ++ 47 ∷ p ++ 47 ∷ []
 slash_last [] p = refl

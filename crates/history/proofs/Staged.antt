@@ -19,7 +19,8 @@ use Rattle.history.specs.Reads.{is_put}
 use Rattle.history.specs.Legal.{IsLegal, IsLegalOp, HasTarget, AreReads, is_present}
 use Rattle.history.specs.Commit.{Fixed, Transaction, kept_ops, commit_events, is_write, HasNoConflict}
 use Rattle.history.specs.Staged.{IsFound, IsStaged, AreInShapes}
-use Rattle.history.proofs.Commits.{IsTransaction, all_filter, kept_reads, committed}
+use Rattle.history.proofs.Commits.{all_filter, kept_reads, committed}
+use Rattle.history.specs.Staged.{IsTransaction}
 use Rattle.history.proofs.Presence.{world_some}
 use Rattle.history.proofs.Written.{puts_elsewhere}
 

@@ -17,7 +17,8 @@ use Rattle.history.specs.Commit.{Key, Transaction, done}
 use Rattle.history.proofs.Histories.{known_after-more}
 use Rattle.history.proofs.Known.{opened_as, some_inj}
 use Rattle.history.proofs.Untouched.{content_touched}
-use Rattle.history.proofs.Generations.{IsTouched, generation_of-touches}
+use Rattle.history.proofs.Generations.{generation_of-touches}
+use Rattle.history.specs.Generations.{IsTouched}
 use Rattle.history.proofs.Longer.{IsOpenedAs, known-longer}
 use Rattle.history.proofs.Written.{else_word, last_put, written-is}
 

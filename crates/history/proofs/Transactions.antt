@@ -16,7 +16,7 @@ use Rattle.history.specs.Commit.{Fixed, Transaction}
 use Rattle.history.specs.Shown.{IsRead, IsMarkWithin}
 use Rattle.history.proofs.Serial.{IsKeptAt, reads_kept}
 use Rattle.history.proofs.Longer.{each_cell, seen-longer}
-use Rattle.history.proofs.Commits.{IsTransaction}
+use Rattle.history.specs.Staged.{IsTransaction}
 
 -- one operation more
 pub AreReads-more : (f : Content) (op : Op) (before ops : List Op) → AreReads f before ops → AreReads f (before ++ ops) (op ∷ []) → AreReads f before (ops ++ op ∷ [])

@@ -1,5 +1,6 @@
 -- The operations of a transaction before they are committed.
-use Rattle.std.specs.Prelude.{◌≡◌, List, length, true, Result, Ok, Err, IsTrue}
+use Rattle.std.specs.Prelude.{◌≡◌, ◌≤◌, ℕ, List, [], length, true, Result, Ok, Err, IsTrue}
+use Rattle.kv_face.specs.Store.{Contents}
 use Rattle.std.specs.List.{AllByRecursion, list_all}
 use Rattle.index_transform.specs.Cells.{is_finite}
 use Rattle.stack_driver.specs.Targets.{Cell, Target}
@@ -8,8 +9,9 @@ use Rattle.stack_driver.specs.declared.error.TargetError.{TargetError}
 use Rattle.history.specs.declared.event.Op.{Op}
 use Rattle.history.specs.History.{History}
 use Rattle.history.specs.Writes.{puts_of}
-use Rattle.history.specs.Reads.{is_put}
-use Rattle.history.specs.Legal.{viewed, words_of, AreWritten, is_present}
+use Rattle.history.specs.Reads.{Marks, mark_of, marked_world, is_put}
+use Rattle.history.specs.Commit.{Transaction}
+use Rattle.history.specs.Legal.{viewed, words_of, AreWritten, AreReads, is_present}
 
 abbrev pub IsFound : Result Target TargetError → Type 0
 IsFound (Ok t) = Unit {0}
@@ -25,3 +27,12 @@ pub record IsStaged (op : Op) : Type 0 where
 -- each cell that the operations write lies in the present shape of its array
 abbrev pub AreInShapes : History → List Op → Type 0
 AreInShapes events ops = (x : Cell) → is_put (puts_of ops) x ≡ true → is_present events x ≡ true
+
+-- no mark lies behind a number of events
+abbrev pub AreWithin : ℕ → Marks → Type 0
+AreWithin n marks = AllByRecursion (λ m. m.1 ≤ n) marks
+
+-- what a transaction has read stands by its marks
+pub record IsTransaction (start : Contents) (events : History) (t : Transaction) : Type 0 where
+  pub seen : AreReads (marked_world start events (mark_of t.marks)) [] t.ops
+  pub within : AreWithin (length events) t.marks
