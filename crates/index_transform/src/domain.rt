@@ -57,8 +57,8 @@ fn look_at(dim: &Interval)
     let _ = &dim.lo;
 }
 
-// Whether no label is too long or comes twice.
-pub(crate) fn are_labels(labels: &[Name]) -> bool
+/// Whether no label has more than 64 bytes, and none that isn't empty comes twice.
+pub fn are_labels(labels: &[Name]) -> bool
     ensures { result ≡ are_labels labels.now }
 {
     for (i, label) in labels.iter().enumerate() {

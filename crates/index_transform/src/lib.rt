@@ -17,9 +17,9 @@ mod value;
 mod walk;
 
 pub use copies::{copied_map, copied_maps};
-pub use domain::{Domain, copied_names, look_at_all};
+pub use domain::{Domain, are_labels, copied_names, look_at_all};
 pub use error::{AtError, CountError, TransformError};
-pub use map::{OutMap, size_of};
+pub use map::{OutMap, fits, size_of};
 pub use transform::Transform;
 pub use value::{is_effective, scaled};
 pub use walk::{Walk, lower_bounds};

@@ -69,8 +69,9 @@ impl OutMap {
     }
 }
 
-// Whether the sizes of an index array fit the dimensions.
-fn fits(dims: &[Interval], sizes: &[u64]) -> bool
+/// Whether an index array may have these sizes: as many as there are dimensions, each 1 or that of its dimension, whose bounds
+/// are then explicit and finite.
+pub fn fits(dims: &[Interval], sizes: &[u64]) -> bool
     ensures { result ≡ fits dims.now sizes.now }
 {
     dims.len() == sizes.len() && each_fits(dims, sizes)

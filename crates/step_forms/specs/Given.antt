@@ -12,17 +12,17 @@ use Rattle.step_forms.specs.declared.act.Act.TheVariants as act
 use Rattle.step_forms.specs.declared.act.PerDim.TheVariants as per
 use Rattle.step_forms.specs.declared.act.Slices.TheVariants as slices
 
--- the number for a selected dimension, by its place in the selection
+-- the number for a selected dimension, by its spot in the selection
 abbrev pub number_for : PerDim → ℕ → Option ℤ
-number_for (per.All number) place = Some number
-number_for (per.Each numbers) place = slice_index_or numbers place None
+number_for (per.All number) spot = Some number
+number_for (per.Each numbers) spot = slice_index_or numbers spot None
 
 abbrev pub no_part : SlicePart
 no_part = record { start = None; stop = None; step = pos 1 }
 
 abbrev pub part_for : Slices → ℕ → SlicePart
-part_for (slices.All part) place = part
-part_for (slices.Each parts) place = slice_index_or parts place no_part
+part_for (slices.All part) spot = part
+part_for (slices.Each parts) spot = slice_index_or parts spot no_part
 
 -- the numbers of a part are finite indices
 pub record IsIndexPart (part : SlicePart) : Type 0 where
@@ -30,23 +30,23 @@ pub record IsIndexPart (part : SlicePart) : Type 0 where
   pub stop : ForSome part.stop IsIndex
   pub step : IsIndex part.step
 
--- the numbers for the dimension at a place of the selection are finite indices
+-- the numbers for the dimension at a spot of the selection are finite indices
 abbrev pub HasIndicesAt : Act → ℕ → Type 0
-HasIndicesAt (act.TranslateTo by) place = ForSome (number_for by place) IsIndex
-HasIndicesAt (act.TranslateBy by) place = ForSome (number_for by place) IsIndex
-HasIndicesAt (act.TranslateBackwardBy by) place = ForSome (number_for by place) IsIndex
-HasIndicesAt (act.Stride by) place = ForSome (number_for by place) IsIndex
-HasIndicesAt (act.Slice by) place = IsIndexPart (part_for by place)
-HasIndicesAt (act.Label labels) place = Unit {0}
-HasIndicesAt (act.Transpose targets) place = Unit {0}
-HasIndicesAt act.Diagonal place = Unit {0}
-HasIndicesAt (act.At by) place = Unit {0}
-HasIndicesAt (act.Oindex arrays) place = Unit {0}
-HasIndicesAt (act.Vindex arrays) place = Unit {0}
-HasIndicesAt act.Newaxis place = Unit {0}
-HasIndicesAt (act.MarkBoundsImplicit lower upper) place = Unit {0}
+HasIndicesAt (act.TranslateTo by) spot = ForSome (number_for by spot) IsIndex
+HasIndicesAt (act.TranslateBy by) spot = ForSome (number_for by spot) IsIndex
+HasIndicesAt (act.TranslateBackwardBy by) spot = ForSome (number_for by spot) IsIndex
+HasIndicesAt (act.Stride by) spot = ForSome (number_for by spot) IsIndex
+HasIndicesAt (act.Slice by) spot = IsIndexPart (part_for by spot)
+HasIndicesAt (act.Label labels) spot = Unit {0}
+HasIndicesAt (act.Transpose targets) spot = Unit {0}
+HasIndicesAt act.Diagonal spot = Unit {0}
+HasIndicesAt (act.At by) spot = Unit {0}
+HasIndicesAt (act.Oindex arrays) spot = Unit {0}
+HasIndicesAt (act.Vindex arrays) spot = Unit {0}
+HasIndicesAt act.Newaxis spot = Unit {0}
+HasIndicesAt (act.MarkBoundsImplicit lower upper) spot = Unit {0}
 
 -- the step is one that JSON can give: its selectors are those of a step, and its numbers are finite indices
 pub record IsGiven (step : Step) : Type 0 where
   pub selectors : AreSelectors step
-  pub numbers : (place : ℕ) → HasIndicesAt step.act place
+  pub numbers : (spot : ℕ) → HasIndicesAt step.act spot

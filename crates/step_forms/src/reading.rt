@@ -323,10 +323,10 @@ pub fn read_steps(alloc: Global, value: &Value) -> Result<List<Step>, StepsError
 }
 
 // So many steps would not fit the memory.
-fn bad_step(place: usize) -> StepsError
-    ensures { result ≢ StepsError.Memory → result ≡ StepsError.BadStep place }
+fn bad_step(number: usize) -> StepsError
+    ensures { result ≢ StepsError.Memory → result ≡ StepsError.BadStep number }
 {
-    match u32::try_from(place) {
+    match u32::try_from(number) {
         Ok(step) => StepsError::BadStep { step },
         Err(_) => StepsError::Memory,
     }
