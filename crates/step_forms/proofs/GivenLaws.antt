@@ -79,18 +79,18 @@ or_null-given d = told (is_some (as_null d))
     told true = λ y e x q. let same : None ≡ y = cc in cc
     told false = map-given Some IsIndex IsMaybe (λ z p x q. let same : z ≡ x = cc in rw (← same) p) (index_of d) (index-given d)
 
-pub per_dim-given : (d : Data) → ForSome (per_dim_of d) (λ by. (place : ℕ) → ForSome (number_for by place) IsIndex)
+pub per_dim-given : (d : Data) → ForSome (per_dim_of d) (λ by. (spot : ℕ) → ForSome (number_for by spot) IsIndex)
 per_dim-given d = told (index_of d) (index-given d)
   where
-    each : (ns : List (Option ℤ)) → ((k : ℕ) (e : Option ℤ) → k < length ns → IsMaybe (get_or ns k e)) → (place : ℕ) → IsMaybe (get_or ns place None)
-    each [] h place = λ x q. cc
+    each : (ns : List (Option ℤ)) → ((k : ℕ) (e : Option ℤ) → k < length ns → IsMaybe (get_or ns k e)) → (spot : ℕ) → IsMaybe (get_or ns spot None)
+    each [] h spot = λ x q. cc
     each (n ∷ ns) h zero = h 0 None (omega arith)
-    each (n ∷ ns) h (suc place) = each ns (λ k e l. h (suc k) e (omega (arith, l))) place
+    each (n ∷ ns) h (suc spot) = each ns (λ k e l. h (suc k) e (omega (arith, l))) spot
 
-    told : (o : Option ℤ) → ForSome o IsIndex → ForSome (elim o [ Some z ↦ Some (per.All z) | None ↦ option_map per.Each (list_by (or_null index_of) d) ]) (λ by. (place : ℕ) → ForSome (number_for by place) IsIndex)
-    told (Some z) p = λ y e place x q. let same : per.All z ≡ y = cc in (let here : number_for y place ≡ Some z = rw (← same) refl in let w : z ≡ x = cc in rw (← w) (p z refl))
-    told None p = map-given per.Each (λ ns. (k : ℕ) (e : Option ℤ) → k < length ns → IsMaybe (get_or ns k e)) (λ by. (place : ℕ) → ForSome (number_for by place) IsIndex)
-        (λ ns h place. each ns h place) (list_by (or_null index_of) d) (list-given (or_null index_of) IsMaybe or_null-given d)
+    told : (o : Option ℤ) → ForSome o IsIndex → ForSome (elim o [ Some z ↦ Some (per.All z) | None ↦ option_map per.Each (list_by (or_null index_of) d) ]) (λ by. (spot : ℕ) → ForSome (number_for by spot) IsIndex)
+    told (Some z) p = λ y e spot x q. let same : per.All z ≡ y = cc in (let here : number_for y spot ≡ Some z = rw (← same) refl in let w : z ≡ x = cc in rw (← w) (p z refl))
+    told None p = map-given per.Each (λ ns. (k : ℕ) (e : Option ℤ) → k < length ns → IsMaybe (get_or ns k e)) (λ by. (spot : ℕ) → ForSome (number_for by spot) IsIndex)
+        (λ ns h spot. each ns h spot) (list_by (or_null index_of) d) (list-given (or_null index_of) IsMaybe or_null-given d)
 
 -- Parts.
 
@@ -119,26 +119,26 @@ slice_part-given d =
     maybe f h None p = λ y e. cc
     maybe f h (Some o) p = h o (p o refl)
 
-pub slices-given : (d : Data) → ForSome (slices_of d) (λ by. (place : ℕ) → IsIndexPart (part_for by place))
+pub slices-given : (d : Data) → ForSome (slices_of d) (λ by. (spot : ℕ) → IsIndexPart (part_for by spot))
 slices-given d = told (as_object d)
   where
     none : IsIndexPart no_part
     none = record { start = λ x q. cc; stop = λ x q. cc; step = record { above = omega (arith, ints); below = omega (arith, ints) } }
 
-    each : (ps : List SlicePart) → ((k : ℕ) (e : SlicePart) → k < length ps → IsIndexPart (get_or ps k e)) → (place : ℕ) → IsIndexPart (get_or ps place no_part)
-    each [] h place = none
+    each : (ps : List SlicePart) → ((k : ℕ) (e : SlicePart) → k < length ps → IsIndexPart (get_or ps k e)) → (spot : ℕ) → IsIndexPart (get_or ps spot no_part)
+    each [] h spot = none
     each (p ∷ ps) h zero = h 0 no_part (omega arith)
-    each (p ∷ ps) h (suc place) = each ps (λ k e l. h (suc k) e (omega (arith, l))) place
+    each (p ∷ ps) h (suc spot) = each ps (λ k e l. h (suc k) e (omega (arith, l))) spot
 
-    told : {M : Type 0} (o : Option M) → ForSome (elim o [ Some ms ↦ option_map slices.All (slice_part_of d) | None ↦ option_map slices.Each (list_by slice_part_of d) ]) (λ by. (place : ℕ) → IsIndexPart (part_for by place))
-    told (Some ms) = map-given slices.All IsIndexPart (λ by. (place : ℕ) → IsIndexPart (part_for by place)) (λ part p place. p) (slice_part_of d) (slice_part-given d)
-    told None = map-given slices.Each (λ ps. (k : ℕ) (e : SlicePart) → k < length ps → IsIndexPart (get_or ps k e)) (λ by. (place : ℕ) → IsIndexPart (part_for by place))
-        (λ ps h place. each ps h place) (list_by slice_part_of d) (list-given slice_part_of IsIndexPart slice_part-given d)
+    told : {M : Type 0} (o : Option M) → ForSome (elim o [ Some ms ↦ option_map slices.All (slice_part_of d) | None ↦ option_map slices.Each (list_by slice_part_of d) ]) (λ by. (spot : ℕ) → IsIndexPart (part_for by spot))
+    told (Some ms) = map-given slices.All IsIndexPart (λ by. (spot : ℕ) → IsIndexPart (part_for by spot)) (λ part p spot. p) (slice_part_of d) (slice_part-given d)
+    told None = map-given slices.Each (λ ps. (k : ℕ) (e : SlicePart) → k < length ps → IsIndexPart (get_or ps k e)) (λ by. (spot : ℕ) → IsIndexPart (part_for by spot))
+        (λ ps h spot. each ps h spot) (list_by slice_part_of d) (list-given slice_part_of IsIndexPart slice_part-given d)
 
 -- What a step does.
 
 abbrev HasIndices : Act → Type 0
-HasIndices a = (place : ℕ) → HasIndicesAt a place
+HasIndices a = (spot : ℕ) → HasIndicesAt a spot
 
 act_at-given : (k : List ℕ) (f : Data → Option Act) (other : Option Act) (d : Data) → ((v : Data) → ForSome (f v) HasIndices) → ForSome other HasIndices → ForSome (act_at k f other d) HasIndices
 act_at-given k f other d h o = told (get k d)
@@ -157,39 +157,39 @@ true-given a h d = then-given (λ b. where_so b (Some a)) HasIndices (λ b. wher
 flags-given : (fs : List (Option Bool)) → ForSome (two_flags fs) HasIndices
 flags-given [] = λ y e. cc
 flags-given (lower ∷ []) = λ y e. cc
-flags-given (lower ∷ upper ∷ []) = λ y e. let same : act.MarkBoundsImplicit lower upper ≡ y = cc in rw (← same) (λ place. tt)
+flags-given (lower ∷ upper ∷ []) = λ y e. let same : act.MarkBoundsImplicit lower upper ≡ y = cc in rw (← same) (λ spot. tt)
 flags-given (lower ∷ upper ∷ more ∷ flags) = λ y e. cc
 
 marks-given : (d : Data) → ForSome (marks_of d) HasIndices
 marks-given d = told (as_bool d)
   where
     told : (o : Option Bool) → ForSome (elim o [ Some b ↦ Some (act.MarkBoundsImplicit (Some b) (Some b)) | None ↦ option_and_then two_flags (list_by (or_null as_bool) d) ]) HasIndices
-    told (Some b) = λ y e. let same : act.MarkBoundsImplicit (Some b) (Some b) ≡ y = cc in rw (← same) (λ place. tt)
+    told (Some b) = λ y e. let same : act.MarkBoundsImplicit (Some b) (Some b) ≡ y = cc in rw (← same) (λ spot. tt)
     told None = then-given two_flags HasIndices flags-given (list_by (or_null as_bool) d)
 
 taking-given : (d : Data) → ForSome (taking_act d) HasIndices
 taking-given d =
-    act_at-given (codes "at") (λ v. option_map act.At (numbers_of v)) _ d (λ v. free act.At (λ by place. tt) (numbers_of v))
+    act_at-given (codes "at") (λ v. option_map act.At (numbers_of v)) _ d (λ v. free act.At (λ by spot. tt) (numbers_of v))
     (act_at-given (codes "slice") (λ v. option_map act.Slice (slices_of v)) _ d
-    (λ v. map-given act.Slice (λ by. (place : ℕ) → IsIndexPart (part_for by place)) HasIndices (λ by h place. h place) (slices_of v) (slices-given v))
-    (act_at-given (codes "oindex") (λ v. option_map act.Oindex (list_by (list_by index_of) v)) _ d (λ v. free act.Oindex (λ by place. tt) (list_by (list_by index_of) v))
-    (act_at-given (codes "vindex") (λ v. option_map act.Vindex (list_by (list_by index_of) v)) _ d (λ v. free act.Vindex (λ by place. tt) (list_by (list_by index_of) v))
-    (act_at-given (codes "newaxis") (only_true act.Newaxis) _ d (true-given act.Newaxis (λ place. tt))
+    (λ v. map-given act.Slice (λ by. (spot : ℕ) → IsIndexPart (part_for by spot)) HasIndices (λ by h spot. h spot) (slices_of v) (slices-given v))
+    (act_at-given (codes "oindex") (λ v. option_map act.Oindex (list_by (list_by index_of) v)) _ d (λ v. free act.Oindex (λ by spot. tt) (list_by (list_by index_of) v))
+    (act_at-given (codes "vindex") (λ v. option_map act.Vindex (list_by (list_by index_of) v)) _ d (λ v. free act.Vindex (λ by spot. tt) (list_by (list_by index_of) v))
+    (act_at-given (codes "newaxis") (only_true act.Newaxis) _ d (true-given act.Newaxis (λ spot. tt))
     (act_at-given (codes "mark_bounds_implicit") marks_of None d marks-given (λ y e. cc))))))
 
 pub act-given : (d : Data) → ForSome (act_of d) HasIndices
 act-given d =
-    act_at-given (codes "label") (λ v. option_map act.Label (texts_of v)) _ d (λ v. free act.Label (λ by place. tt) (texts_of v))
+    act_at-given (codes "label") (λ v. option_map act.Label (texts_of v)) _ d (λ v. free act.Label (λ by spot. tt) (texts_of v))
     (act_at-given (codes "translate_to") (λ v. option_map act.TranslateTo (per_dim_of v)) _ d
-    (λ v. map-given act.TranslateTo (λ by. (place : ℕ) → ForSome (number_for by place) IsIndex) HasIndices (λ by h place. h place) (per_dim_of v) (per_dim-given v))
+    (λ v. map-given act.TranslateTo (λ by. (spot : ℕ) → ForSome (number_for by spot) IsIndex) HasIndices (λ by h spot. h spot) (per_dim_of v) (per_dim-given v))
     (act_at-given (codes "translate_by") (λ v. option_map act.TranslateBy (per_dim_of v)) _ d
-    (λ v. map-given act.TranslateBy (λ by. (place : ℕ) → ForSome (number_for by place) IsIndex) HasIndices (λ by h place. h place) (per_dim_of v) (per_dim-given v))
+    (λ v. map-given act.TranslateBy (λ by. (spot : ℕ) → ForSome (number_for by spot) IsIndex) HasIndices (λ by h spot. h spot) (per_dim_of v) (per_dim-given v))
     (act_at-given (codes "translate_backward_by") (λ v. option_map act.TranslateBackwardBy (per_dim_of v)) _ d
-    (λ v. map-given act.TranslateBackwardBy (λ by. (place : ℕ) → ForSome (number_for by place) IsIndex) HasIndices (λ by h place. h place) (per_dim_of v) (per_dim-given v))
+    (λ v. map-given act.TranslateBackwardBy (λ by. (spot : ℕ) → ForSome (number_for by spot) IsIndex) HasIndices (λ by h spot. h spot) (per_dim_of v) (per_dim-given v))
     (act_at-given (codes "stride") (λ v. option_map act.Stride (per_dim_of v)) _ d
-    (λ v. map-given act.Stride (λ by. (place : ℕ) → ForSome (number_for by place) IsIndex) HasIndices (λ by h place. h place) (per_dim_of v) (per_dim-given v))
-    (act_at-given (codes "transpose") (λ v. option_map act.Transpose (list_by index_of v)) _ d (λ v. free act.Transpose (λ by place. tt) (list_by index_of v))
-    (act_at-given (codes "diagonal") (only_true act.Diagonal) (taking_act d) d (true-given act.Diagonal (λ place. tt)) (taking-given d)))))))
+    (λ v. map-given act.Stride (λ by. (spot : ℕ) → ForSome (number_for by spot) IsIndex) HasIndices (λ by h spot. h spot) (per_dim_of v) (per_dim-given v))
+    (act_at-given (codes "transpose") (λ v. option_map act.Transpose (list_by index_of v)) _ d (λ v. free act.Transpose (λ by spot. tt) (list_by index_of v))
+    (act_at-given (codes "diagonal") (only_true act.Diagonal) (taking_act d) d (true-given act.Diagonal (λ spot. tt)) (taking-given d)))))))
 
 -- Selectors.
 
