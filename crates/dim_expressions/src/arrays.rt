@@ -93,7 +93,7 @@ pub(crate) fn array_dim(entries: &[i64]) -> Interval
 }
 
 // Sizes that are 1 but along one dimension.
-#[tactic(auto, using(crate::proofs::Lists::listed_more))]
+#[tactic(auto, using(dim_changes::proofs::Laws::listed_more))]
 fn sizes_along(alloc: Global, rank: usize, dim: usize, len: usize) -> Result<Sizes, AllocError>
     ensures { IfOk result (λ sizes. sizes ≡ sizes_along rank dim len) }
 {

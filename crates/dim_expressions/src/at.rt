@@ -88,7 +88,7 @@ fn at_map(selected: &[usize], rest: &[usize], by: &Numbers, dim: usize) -> OutMa
     }
 }
 
-#[tactic(auto, using(crate::proofs::Lists::listed_more))]
+#[tactic(auto, using(dim_changes::proofs::Laws::listed_more))]
 fn at_maps(
     alloc: Global,
     rank: usize,

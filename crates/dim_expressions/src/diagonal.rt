@@ -24,7 +24,7 @@ fn diagonal_map(selected: &[usize], rest: &[usize], dim: usize) -> OutMap
     }
 }
 
-#[tactic(auto, using(crate::proofs::Lists::listed_more))]
+#[tactic(auto, using(dim_changes::proofs::Laws::listed_more))]
 fn diagonal_maps(
     alloc: Global,
     rank: usize,

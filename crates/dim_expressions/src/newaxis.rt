@@ -40,7 +40,7 @@ fn axis_at(dims: &[Interval], olds: &[usize], position: usize) -> Interval
     }
 }
 
-#[tactic(auto, using(crate::proofs::Lists::listed_more))]
+#[tactic(auto, using(dim_changes::proofs::Laws::listed_more))]
 fn axes(
     alloc: Global,
     dims: &[Interval],
@@ -72,7 +72,7 @@ fn axis_label(
     }
 }
 
-#[tactic(auto, using(crate::proofs::Lists::listed_more))]
+#[tactic(auto, using(dim_changes::proofs::Laws::listed_more))]
 fn axis_labels(
     alloc: Global,
     labels: &[Name],

@@ -27,7 +27,7 @@ fn indexed_dim(dims: &[Interval], selected: &[usize], arrays: &[Index], dim: usi
     }
 }
 
-#[tactic(auto, using(crate::proofs::Lists::listed_more))]
+#[tactic(auto, using(dim_changes::proofs::Laws::listed_more))]
 fn indexed_dims(
     alloc: Global,
     dims: &[Interval],
@@ -60,7 +60,7 @@ fn indexed_label(
     }
 }
 
-#[tactic(auto, using(crate::proofs::Lists::listed_more))]
+#[tactic(auto, using(dim_changes::proofs::Laws::listed_more))]
 fn indexed_labels(
     alloc: Global,
     labels: &[Name],
@@ -93,7 +93,7 @@ fn indexed_map(
     }
 }
 
-#[tactic(auto, using(crate::proofs::Lists::listed_more))]
+#[tactic(auto, using(dim_changes::proofs::Laws::listed_more))]
 fn indexed_maps(
     alloc: Global,
     rank: usize,

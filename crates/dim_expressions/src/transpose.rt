@@ -45,7 +45,7 @@ fn carried(from: &[usize], rest: &[usize], to: &[usize], free: &[usize], x: usiz
     }
 }
 
-#[tactic(auto, using(crate::proofs::Lists::listed_more))]
+#[tactic(auto, using(dim_changes::proofs::Laws::listed_more))]
 fn carried_each(
     alloc: Global,
     rank: usize,

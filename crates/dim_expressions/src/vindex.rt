@@ -56,7 +56,7 @@ fn vindex_map(
     }
 }
 
-#[tactic(auto, using(crate::proofs::Lists::listed_more))]
+#[tactic(auto, using(dim_changes::proofs::Laws::listed_more))]
 fn vindex_maps(
     alloc: Global,
     rank: usize,
