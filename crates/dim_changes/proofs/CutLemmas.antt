@@ -18,7 +18,7 @@ use Rattle.dim_changes.specs.declared.cause.Cause.{Cause}
 use Rattle.dim_changes.specs.declared.cause.Cause.TheVariants.{Overflow, ZeroStep}
 use Rattle.step_forms.specs.declared.act.SlicePart.{SlicePart}
 use Rattle.dim_changes.specs.declared.cut.Cut.{Cut}
-use Rattle.dim_changes.specs.Cuts.{can_move, moved_by, moved_to, placed, strided_by, sliced_by}
+use Rattle.dim_changes.specs.Cuts.{can_move, moved_by, moved_to, strided_by, sliced_by}
 use Rattle.cells.proofs.Laws.{both}
 
 can_move-true : (by x : ℤ) → (IsIndex x → IsIndex (x +ℤ by)) → can_move by x ≡ true
@@ -54,7 +54,7 @@ moved_by-Err b by c = told (can_move by b.lo && can_move by b.hi) refl
 pub strided_by-Err : (b : Bounds) (s : ℤ) → s ≡ pos 0 → strided_by b s ≡ Err ZeroStep
 strided_by-Err b s e = let t = (Decides-int_eq s (pos 0)).1 e in rw t refl
 
-pub strided_by-Ok : (b : Bounds) (s : ℤ) → s ≢ pos 0 → strided_by b s ≡ placed (record { dim = strided b s; offset = pos 0; stride = s })
+pub strided_by-Ok : (b : Bounds) (s : ℤ) → s ≢ pos 0 → strided_by b s ≡ Ok (record { dim = strided b s; offset = pos 0; stride = s })
 strided_by-Ok b s n = let t = int_eq-false s (pos 0) n in rw t refl
 
 -- a cut by its parts
@@ -65,10 +65,10 @@ moved_by-is b d by off c e f = let m = moved_by-Ok b by c in cc
 pub moved_to-is : (b : Bounds) (origin : ℤ) → is_index b.lo ≡ true → moved_by b (origin -ℤ b.lo) ≡ moved_to b origin
 moved_to-is b origin e = rw e refl
 
-pub strided_by-is : (b d : Bounds) (s : ℤ) (r : Result Cut Cause) → s ≢ pos 0 → d ≡ strided b s
-    → r ≡ placed (record { dim = d; offset = pos 0; stride = s }) → r ≡ strided_by b s
-strided_by-is b d s r n e f =
-    f ∙ ap (λ (x : Bounds). placed (record { dim = x; offset = pos 0; stride = s })) e ∙ sym (strided_by-Ok b s n)
+pub strided_by-is : (b d : Bounds) (s : ℤ) → s ≢ pos 0 → d ≡ strided b s
+    → (let r : Result Cut Cause = Ok (record { dim = d; offset = pos 0; stride = s }) in r) ≡ strided_by b s
+strided_by-is b d s n e =
+    ap (λ (x : Bounds). let r : Result Cut Cause = Ok (record { dim = x; offset = pos 0; stride = s }) in r) e ∙ sym (strided_by-Ok b s n)
 
 -- what holds where there is a slice, and what it is
 pub record IsSliced (b : Bounds) (start stop : Option ℤ) (step : ℤ) (s : Sliced) : Type 0 where

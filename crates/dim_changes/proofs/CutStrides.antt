@@ -1,18 +1,17 @@
 -- Dimensions of which every so many indices are taken: tightening leaves them as they are.
-use Rattle.std.proofs.Common.{◌≡◌, ◌≢◌, ◌∙◌, zero, suc, Bool, true, false, cond, not, ◌||◌, refl, ap, subst, arith, ℤ, pos, negsuc, neg_ℤ, ◌≤ℤ◌, ◌<ℤ◌, ◌+ℤ◌, ◌-ℤ◌, ◌*ℤ◌, Some, None}
+use Rattle.std.proofs.Common.{◌≡◌, ◌≢◌, ◌∙◌, zero, suc, Bool, true, false, cond, not, ◌&&◌, ◌||◌, refl, ap, subst, arith, ℤ, pos, negsuc, neg_ℤ, ◌≤ℤ◌, ◌<ℤ◌, ◌+ℤ◌, ◌-ℤ◌, ◌*ℤ◌, Some, None}
 use Rattle.std.proofs.lemmas.Int.{ints}
 use Rattle.std.proofs.Math.IntN.{*ℤ_comm}
 use Rattle.std.specs.Option.{option_map}
-use Rattle.std.specs.Int.RustNames.{int_lt}
 use Rattle.index_intervals.specs.Bounds.{Bounds, AreBounds, IsIndex, is_index, minus_infinity, plus_infinity}
-use Rattle.index_intervals.specs.Members.{IsMember, IsEffectiveMember, IsWithin}
+use Rattle.index_intervals.specs.Members.{IsMember, IsEffectiveMember, IsWithin, is_finite}
 use Rattle.index_intervals.specs.Stride.{quotient_up, quotient_down, mirrored, strided}
 use Rattle.index_intervals.proofs.Laws.{is_index-true, IsIndex-true, lo_infinite, hi_infinite, IsQuotientUp-quotient_up, IsQuotientDown-quotient_down, not_negative, AreBounds-contracted, IsMember-contracted, IsWithin-facing, IsIndex-up, IsIndex-down}
 use Rattle.index_intervals.specs.Edges.{finite_part, lower_edge, upper_edge, least_from, least_beyond, greatest_to, greatest_before, preimage_lower, preimage_upper}
 use Rattle.transform_composition.specs.Inside.{goes_down, end_inside}
-use Rattle.dim_changes.specs.Cuts.{has_places}
+use Rattle.dim_changes.specs.Emptied.{stays_infinite}
 use Rattle.dim_changes.proofs.CutTight.{IsTightCut, ends_inside, end_inside-index, end_inside-down, end_inside-up, edge_at}
-use Rattle.cells.proofs.Laws.{both}
+use Rattle.cells.proofs.Laws.{both, both_true}
 
 -- the pre-image of a bound that is divided
 part_divided : (f : ℤ → ℤ) (x q : ℤ) → f x ≡ q → (IsIndex x → IsIndex q) → option_map f (finite_part x) ≡ finite_part (cond (is_index x) q x)
@@ -125,9 +124,9 @@ IsEffectiveMember-strided b s x p n m i =
     high true e w q j = let a = w.below_hi (is_index-true b.hi e) in subst (λ (y : ℤ). y ≤ℤ b.hi) q a
     high false e w q j = let a = hi_infinite b p e in omega (arith, ints, j.below)
 
--- an end that is a finite index has a place, where there is one
-end_placed : (x y : ℤ) → (not (is_index x) || is_index y) ≡ true → is_index x ≡ true → IsIndex y
-end_placed x y h e = is_index-true y (rw e at h)
+-- an end that is a finite index has a spot, where there is one
+end_reached : (x y : ℤ) → (not (is_index x) || is_index y) ≡ true → is_index x ≡ true → IsIndex y
+end_reached x y h e = is_index-true y (rw e at h)
 
 inside-lo : (b : Bounds) (s : ℤ) → AreBounds b → s ≢ pos 0 → (not (is_index (strided b s).lo) || is_index (pos 0 +ℤ s *ℤ (strided b s).lo)) ≡ true
     → (strided b s).lo ≤ℤ (strided b s).hi → end_inside b (pos 0) s (strided b s).lo ≡ true
@@ -174,7 +173,7 @@ inside-lo b s p n h l = told (is_index (strided b s).lo) refl
         end_inside-index b (pos 0) s (strided b s).lo e
         (IsEffectiveMember-strided b s (strided b s).lo p n
         (record { index = is_index-true (strided b s).lo e; above_lo = omega (arith, ints); below_hi = l })
-        (end_placed (strided b s).lo (pos 0 +ℤ s *ℤ (strided b s).lo) h e))
+        (end_reached (strided b s).lo (pos 0 +ℤ s *ℤ (strided b s).lo) h e))
 
 inside-hi : (b : Bounds) (s : ℤ) → AreBounds b → s ≢ pos 0 → (not (is_index (strided b s).hi) || is_index (pos 0 +ℤ s *ℤ (strided b s).hi)) ≡ true
     → (strided b s).lo ≤ℤ (strided b s).hi → end_inside b (pos 0) s (strided b s).hi ≡ true
@@ -221,26 +220,67 @@ inside-hi b s p n h l = told (is_index (strided b s).hi) refl
         end_inside-index b (pos 0) s (strided b s).hi e
         (IsEffectiveMember-strided b s (strided b s).hi p n
         (record { index = is_index-true (strided b s).hi e; above_lo = l; below_hi = omega (arith, ints) })
-        (end_placed (strided b s).hi (pos 0 +ℤ s *ℤ (strided b s).hi) h e))
+        (end_reached (strided b s).hi (pos 0 +ℤ s *ℤ (strided b s).hi) h e))
 
--- where its ends have places, a strided dimension is tight
-pub IsTightCut-strided : (b : Bounds) (s : ℤ) → AreBounds b → s ≢ pos 0 → has_places (record { dim = strided b s; offset = pos 0; stride = s }) ≡ true
+-- a bound that is divided to a finite index was one
+index-before : (x q : ℤ) → is_index (cond (is_index x) q x) ≡ true → is_index x ≡ true
+index-before x q h = told (is_index x) refl h
+  where
+    told : (t : Bool) → is_index x ≡ t → is_index (cond t q x) ≡ true → is_index x ≡ true
+    told true e f = e
+    told false e f = f
+
+index-negated : (x : ℤ) → is_index (neg_ℤ x) ≡ true → is_index x ≡ true
+index-negated x e = let i = is_index-true (neg_ℤ x) e in IsIndex-true x (record { above = omega (arith, ints, i.below); below = omega (arith, ints, i.above) })
+
+-- what is finite under a stride was finite
+finite-before : (b : Bounds) (s : ℤ) → s ≢ pos 0 → is_finite (strided b s) ≡ true → is_finite b ≡ true
+finite-before b (pos zero) n e = absurd (n refl)
+finite-before b (pos (suc k)) n e =
+    let f = not_negative (suc k) in
+    let p = both (is_index (cond (is_index b.lo) (quotient_up b.lo (pos (suc k))) b.lo)) (is_index (cond (is_index b.hi) (quotient_down b.hi (pos (suc k))) b.hi)) (rw f at e) in
+    both_true (is_index b.lo) (is_index b.hi) (index-before b.lo (quotient_up b.lo (pos (suc k))) p.0) (index-before b.hi (quotient_down b.hi (pos (suc k))) p.1)
+finite-before b (negsuc k) n e =
+    let m = mirrored b in
+    let p = both (is_index (cond (is_index m.lo) (quotient_up m.lo (pos (suc k))) m.lo)) (is_index (cond (is_index m.hi) (quotient_down m.hi (pos (suc k))) m.hi)) e in
+    both_true (is_index b.lo) (is_index b.hi) (index-negated b.lo (index-before m.hi (quotient_down m.hi (pos (suc k))) p.1)) (index-negated b.hi (index-before m.lo (quotient_up m.lo (pos (suc k))) p.0))
+
+-- the multiple of a member was a finite index in a finite interval
+index-reached : (b : Bounds) (s x : ℤ) → AreBounds b → s ≢ pos 0 → is_finite b ≡ true → IsMember (strided b s) x → IsIndex (pos 0 +ℤ s *ℤ x)
+index-reached b s x p n f m =
+    let w = IsWithin-strided b s x p n m in
+    let same : x *ℤ s ≡ pos 0 +ℤ s *ℤ x = *ℤ_comm x s ∙ omega (arith, ints) in
+    let g = both (is_index b.lo) (is_index b.hi) f in
+    let l = is_index-true b.lo g.0 in
+    let h = is_index-true b.hi g.1 in
+    let low = w.above_lo l in
+    let high = w.below_hi h in
+    subst IsIndex same (record { above = omega (arith, ints, l.above, low); below = omega (arith, ints, h.below, high) })
+
+-- a strided dimension is tight, unless it stays infinite
+pub IsTightCut-strided : (b : Bounds) (s : ℤ) → AreBounds b → s ≢ pos 0 → stays_infinite b (strided b s) ≡ false
     → IsTightCut b (record { dim = strided b s; offset = pos 0; stride = s })
 IsTightCut-strided b s p n h = record {
   bounds = AreBounds-strided b s p n;
   nonzero = n;
   lower = λ _. lower-strided b s p n;
   upper = λ _. upper-strided b s p n;
-  inside = ends_inside (strided b s) b (pos 0) s (λ l. inside-lo b s p n (places l).0 l) (λ l. inside-hi b s p n (places l).1 l);
+  inside = ends_inside (strided b s) b (pos 0) s
+      (λ l. inside-lo b s p n (reached (strided b s).lo (λ i. record { index = i; above_lo = omega (arith, ints); below_hi = l })) l)
+      (λ l. inside-hi b s p n (reached (strided b s).hi (λ i. record { index = i; above_lo = l; below_hi = omega (arith, ints) })) l);
 }
   where
-    low : Bool
-    low = not (is_index (strided b s).lo) || is_index (pos 0 +ℤ s *ℤ (strided b s).lo)
+    finite : is_finite b ≡ true
+    finite = told (is_finite b) (is_finite (strided b s)) refl refl h
+      where
+        told : (f g : Bool) → is_finite b ≡ f → is_finite (strided b s) ≡ g → (not f && not g) ≡ false → is_finite b ≡ true
+        told true g e d h = e
+        told false true e d h = finite-before b s n d
+        told false false e d h = cc
 
-    high : Bool
-    high = not (is_index (strided b s).hi) || is_index (pos 0 +ℤ s *ℤ (strided b s).hi)
-
-    places : (strided b s).lo ≤ℤ (strided b s).hi → (low ≡ true) × (high ≡ true)
-    places l =
-        let e : int_lt (strided b s).hi (strided b s).lo ≡ false = grind (arith, ints) in
-        both low high (rw e at h)
+    reached : (x : ℤ) → (IsIndex x → IsMember (strided b s) x) → (not (is_index x) || is_index (pos 0 +ℤ s *ℤ x)) ≡ true
+    reached x m = told (is_index x) refl
+      where
+        told : (t : Bool) → is_index x ≡ t → (not t || is_index (pos 0 +ℤ s *ℤ x)) ≡ true
+        told false e = refl
+        told true e = IsIndex-true (pos 0 +ℤ s *ℤ x) (index-reached b s x p n finite (m (is_index-true x e)))

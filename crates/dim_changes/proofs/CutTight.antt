@@ -14,6 +14,7 @@ use Rattle.transform_composition.specs.Tightening.{is_open}
 use Rattle.index_transform.specs.Values.{is_effective}
 use Rattle.dim_changes.specs.declared.cut.Cut.{Cut}
 use Rattle.dim_changes.specs.Cuts.{kept}
+use Rattle.dim_changes.specs.Emptied.{stays_infinite, empty_dim, emptied}
 use Rattle.dim_changes.proofs.TightBounds.{Edge, quotient_up-one, quotient_down-one}
 use Rattle.cells.proofs.Laws.{both_true}
 
@@ -166,3 +167,24 @@ IsTightCut-kept b p =
   where
     zero_more : (x : ℤ) → x +ℤ pos 0 ≡ x
     zero_more x = omega (arith, ints)
+
+-- an empty interval is tight by any map
+pub IsTightCut-empty : (b : Bounds) (o s : ℤ) → s ≢ pos 0 → IsTightCut b (record { dim = empty_dim; offset = o; stride = s })
+IsTightCut-empty b o s n = record {
+  bounds = record { lo_from = omega (arith, ints); lo_below = omega (arith, ints); hi_above = omega (arith, ints); hi_to = omega (arith, ints); ordered = omega (arith, ints) };
+  nonzero = n;
+  lower = λ e. cc;
+  upper = λ e. cc;
+  inside = refl;
+}
+
+-- a cut with an empty interval in place of one that stays infinite
+abbrev pub emptied_cut : Bounds → Cut → Cut
+emptied_cut b cut = record { dim = emptied b cut.dim; offset = cut.offset; stride = cut.stride }
+
+pub IsTightCut-emptied : (b : Bounds) (cut : Cut) → IsTightCut b cut → IsTightCut b (emptied_cut b cut)
+IsTightCut-emptied b cut t = told (stays_infinite b cut.dim)
+  where
+    told : (e : Bool) → IsTightCut b (record { dim = cond e empty_dim cut.dim; offset = cut.offset; stride = cut.stride })
+    told true = IsTightCut-empty b cut.offset cut.stride t.nonzero
+    told false = t

@@ -79,7 +79,7 @@ are_labels-true (x ∷ xs) p =
     once true e = refl
     once false e = let none = list_any_none (λ other. pointwise nat_eq other x) xs (apart e) in rw none refl
 
--- labels of which each is none, or that of another place, no place twice
+-- labels of which each is none, or that of another spot, no spot twice
 pub AreLabels-taken : (olds news : List (List ℕ)) (from : ℕ → ℕ) → AreLabels olds
     → ((i : ℕ) → i < length news → get_or news i [] ≢ [] → (from i < length olds) × (get_or news i [] ≡ get_or olds (from i) []))
     → ((i j : ℕ) → i < length news → j < length news → from i ≡ from j → get_or news i [] ≢ [] → get_or news j [] ≢ [] → i ≡ j)

@@ -2,13 +2,13 @@
 use Rattle.std.proofs.Common.{◌≡◌, ◌∙◌, zero, suc, ℕ, ◌+◌, ◌<◌, ◌≤◌, ◌==◌, ◌||◌, Bool, true, false, cond, List, [], ◌∷◌, length, filter, get_or, refl, sym, ap, subst, arith, Option, Some, None, is_none, is_some}
 use Rattle.std.proofs.lemmas.Bool.Decides.{nat_tests}
 use Rattle.std.specs.List.{All, list_any, position_from, range_with_len}
-use Rattle.dim_changes.specs.Dims.{place_in, others}
+use Rattle.dim_changes.specs.Dims.{spot_in, others}
 use Rattle.step_forms.specs.Selection.{has_repeat}
-use Rattle.dim_changes.proofs.PlaceLaws.{place_in-Some}
+use Rattle.dim_changes.proofs.SpotLaws.{spot_in-Some}
 
 -- the dimension isn't selected
 abbrev pub stays : List ℕ → ℕ → Bool
-stays selected dim = is_none (place_in selected dim)
+stays selected dim = is_none (spot_in selected dim)
 
 -- those of so many from one on that aren't selected
 abbrev pub rest_from : List ℕ → ℕ → ℕ → List ℕ
@@ -22,7 +22,7 @@ none_of (Some x) e = cc
 pub record IsLeft (selected : List ℕ) (a n dim : ℕ) : Type 0 where
   pub above : a ≤ dim
   pub below : dim < a + n
-  pub kept : place_in selected dim ≡ None
+  pub kept : spot_in selected dim ≡ None
 
 left_later : (selected : List ℕ) (a n dim : ℕ) → IsLeft selected (a + 1) n dim → IsLeft selected a (suc n) dim
 left_later selected a n dim l = let low = l.above in let high = l.below in record { above = omega (arith, low); below = omega (arith, high); kept = l.kept }
@@ -34,7 +34,7 @@ rest_at selected a (suc n) p x less = told (stays selected a) refl p less (λ q 
     told : (b : Bool) → stays selected a ≡ b → (q : ℕ) → q < length (cond b (a ∷ rest_from selected (a + 1) n) (rest_from selected (a + 1) n))
         → ((k : ℕ) → k < length (rest_from selected (a + 1) n) → IsLeft selected a (suc n) (get_or (rest_from selected (a + 1) n) k x))
         → IsLeft selected a (suc n) (get_or (cond b (a ∷ rest_from selected (a + 1) n) (rest_from selected (a + 1) n)) q x)
-    told true e zero h later = record { above = omega arith; below = omega arith; kept = none_of (place_in selected a) e }
+    told true e zero h later = record { above = omega arith; below = omega arith; kept = none_of (spot_in selected a) e }
     told true e (suc q) h later = later q (omega (arith, h))
     told false e q h later = later q h
 
@@ -91,7 +91,7 @@ rest_distinct selected a (suc n) = told (stays selected a) (rest_distinct select
     told true h = ap (λ z. z || has_repeat (rest_from selected (a + 1) n)) (rest_above selected a (a + 1) n (omega arith)) ∙ h
     told false h = h
 
--- Places in lists.
+-- Spots in lists.
 
 some_any : (i : ℕ) (xs : List ℕ) (x : ℕ) → is_some (position_from (λ d. d == x) i xs) ≡ list_any (λ d. d == x) xs
 some_any i [] x = refl
@@ -101,11 +101,11 @@ some_any i (y ∷ xs) x = told (y == x) (some_any (i + 1) xs x)
     told true h = refl
     told false h = h
 
--- what is in a list has a place there
-pub any_place : (xs : List ℕ) (x : ℕ) → list_any (λ d. d == x) xs ≡ true → (p : ℕ) × (place_in xs x ≡ Some p)
-any_place xs x there = told (place_in xs x) refl (some_any 0 xs x ∙ there)
+-- what is in a list has a spot there
+pub any_spot : (xs : List ℕ) (x : ℕ) → list_any (λ d. d == x) xs ≡ true → (p : ℕ) × (spot_in xs x ≡ Some p)
+any_spot xs x there = told (spot_in xs x) refl (some_any 0 xs x ∙ there)
   where
-    told : (o : Option ℕ) → place_in xs x ≡ o → is_some o ≡ true → (p : ℕ) × (place_in xs x ≡ Some p)
+    told : (o : Option ℕ) → spot_in xs x ≡ o → is_some o ≡ true → (p : ℕ) × (spot_in xs x ≡ Some p)
     told None e h = cc
     told (Some p) e h = (p, e)
 
@@ -119,13 +119,13 @@ none_at (z ∷ xs) y p x none less = told (z == y) refl none p less (none_at xs 
     told false e f zero h later = e
     told false e f (suc q) h later = later q x f (omega (arith, h))
 
-place_from : (i : ℕ) (xs : List ℕ) (p x : ℕ) → has_repeat xs ≡ false → p < length xs → position_from (λ d. d == get_or xs p x) i xs ≡ Some (i + p)
-place_from i [] p x once less = absurd (omega (arith, less))
-place_from i (y ∷ xs) zero x once less =
+spot_from : (i : ℕ) (xs : List ℕ) (p x : ℕ) → has_repeat xs ≡ false → p < length xs → position_from (λ d. d == get_or xs p x) i xs ≡ Some (i + p)
+spot_from i [] p x once less = absurd (omega (arith, less))
+spot_from i (y ∷ xs) zero x once less =
     let same : (y == y) ≡ true = grind (arith, nat_tests) in
     let z : i ≡ i + 0 = omega arith in
     ap (λ b. cond b (Some i) (position_from (λ d. d == y) (i + 1) xs)) same ∙ ap Some z
-place_from i (y ∷ xs) (suc p) x once less = told (list_any (λ d. d == y) xs) refl once (place_from (i + 1) xs p x)
+spot_from i (y ∷ xs) (suc p) x once less = told (list_any (λ d. d == y) xs) refl once (spot_from (i + 1) xs p x)
   where
     told : (b : Bool) → list_any (λ d. d == y) xs ≡ b → (b || has_repeat xs) ≡ false
         → (has_repeat xs ≡ false → p < length xs → position_from (λ d. d == get_or xs p x) (i + 1) xs ≡ Some (i + 1 + p))
@@ -138,22 +138,22 @@ place_from i (y ∷ xs) (suc p) x once less = told (list_any (λ d. d == y) xs) 
         let z : i + 1 + p ≡ i + suc p = omega arith in
         ap (λ b. cond b (Some i) (position_from (λ d. d == get_or xs p x) (i + 1) xs)) other ∙ later f h ∙ ap Some z
 
--- where none comes twice, each has its own place
-pub place_distinct : (xs : List ℕ) (p x : ℕ) → has_repeat xs ≡ false → p < length xs → place_in xs (get_or xs p x) ≡ Some p
-place_distinct xs p x once less = place_from 0 xs p x once less ∙ (let z : 0 + p ≡ p = omega arith in ap Some z)
+-- where none comes twice, each has its own spot
+pub spot_distinct : (xs : List ℕ) (p x : ℕ) → has_repeat xs ≡ false → p < length xs → spot_in xs (get_or xs p x) ≡ Some p
+spot_distinct xs p x once less = spot_from 0 xs p x once less ∙ (let z : 0 + p ≡ p = omega arith in ap Some z)
 
--- a dimension that stays has its place among those that do
-pub record HasPlace (rest : List ℕ) (dim : ℕ) : Type 0 where
-  pub place : ℕ
-  pub found : place_in rest dim ≡ Some place
-  pub inside : place < length rest
-  pub there : (x : ℕ) → get_or rest place x ≡ dim
+-- a dimension that stays has its spot among those that do
+pub record HasSpot (rest : List ℕ) (dim : ℕ) : Type 0 where
+  pub spot : ℕ
+  pub found : spot_in rest dim ≡ Some spot
+  pub inside : spot < length rest
+  pub there : (x : ℕ) → get_or rest spot x ≡ dim
 
-pub left_place : (selected : List ℕ) (rank dim : ℕ) → dim < rank → place_in selected dim ≡ None → HasPlace (others selected rank) dim
-left_place selected rank dim less left =
-    let found = any_place (others selected rank) dim (rest_has selected 0 rank dim (omega arith) (omega (arith, less)) (ap is_none left)) in
-    let is = place_in-Some (others selected rank) dim found.0 found.1 in
-    record { place = found.0; found = found.1; inside = is.inside; there = is.there }
+pub left_spot : (selected : List ℕ) (rank dim : ℕ) → dim < rank → spot_in selected dim ≡ None → HasSpot (others selected rank) dim
+left_spot selected rank dim less left =
+    let found = any_spot (others selected rank) dim (rest_has selected 0 rank dim (omega arith) (omega (arith, less)) (ap is_none left)) in
+    let is = spot_in-Some (others selected rank) dim found.0 found.1 in
+    record { spot = found.0; found = found.1; inside = is.inside; there = is.there }
 
 pub others_known : (selected : List ℕ) (n rank : ℕ) (rest : List ℕ) → n ≤ rank → rest ≡ others selected n → All (λ dim. dim < rank) rest
 others_known selected n rank rest most is = subst (λ (ds : List ℕ). All (λ dim. dim < rank) ds) (sym is) (λ k d h. let b = (rest_at selected 0 n k d h).below in omega (arith, b, most))

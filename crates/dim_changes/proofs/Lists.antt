@@ -3,7 +3,7 @@ use Rattle.std.proofs.Common.{◌≡◌, ◌∙◌, ℕ, ◌+◌, Bool, true, fa
 use Rattle.std.specs.Option.{is_none}
 use Rattle.std.specs.List.{range_with_len}
 use Rattle.std.proofs.lemmas.List.FromFn.{map-range_with_len_more}
-use Rattle.dim_changes.specs.Dims.{place_in, others}
+use Rattle.dim_changes.specs.Dims.{spot_in, others}
 use Rattle.step_forms.proofs.Laws.{positions_more}
 
 -- one dimension more
@@ -22,7 +22,7 @@ filter_last p (y ∷ xs) x b e = told (p y) b (filter_last p xs x b e)
     told false true f = f
     told false false f = f
 
-pub others_more : (selected : List ℕ) (n : ℕ) (b : Bool) → is_none (place_in selected n) ≡ b → others selected (n + 1) ≡ (if b then others selected n ++ n ∷ [] else others selected n)
+pub others_more : (selected : List ℕ) (n : ℕ) (b : Bool) → is_none (spot_in selected n) ≡ b → others selected (n + 1) ≡ (if b then others selected n ++ n ∷ [] else others selected n)
 others_more selected n b e =
     let z : 0 + n ≡ n = omega arith in
-    ap (filter (λ dim. is_none (place_in selected dim))) (positions_more 0 n ∙ ap (λ k. range_with_len 0 n ++ k ∷ []) z) ∙ filter_last (λ dim. is_none (place_in selected dim)) (range_with_len 0 n) n b e
+    ap (filter (λ dim. is_none (spot_in selected dim))) (positions_more 0 n ∙ ap (λ k. range_with_len 0 n ++ k ∷ []) z) ∙ filter_last (λ dim. is_none (spot_in selected dim)) (range_with_len 0 n) n b e

@@ -11,18 +11,18 @@ use Rattle.index_transform.specs.Maps.{is_map, fits, fits_dim, is_fixed, are_ent
 use Rattle.transform_composition.specs.Reading.{point, has_array_along}
 use Rattle.index_transform.specs.Transforms.{DomainAndMaps, IsTransform, KeepsRules}
 use Rattle.index_transform.specs.Values.{value_at, map_value, entry_place, entry_index}
-use Rattle.dim_changes.specs.Dims.{place_in, dim_at}
+use Rattle.dim_changes.specs.Dims.{spot_in, dim_at}
 use Rattle.dim_changes.specs.Marks.{marked, marked_dim, with_marks, has_array_on, makes_implicit, mark_answer}
 use Rattle.dim_changes.specs.declared.cause.Cause.TheVariants.{IndexDim}
 use Rattle.cells.proofs.Laws.{both, both_true}
 
--- what holds of off listed dimension doesn't hold of one that has a place in the list
-pub none_placed : (p : ℕ → Bool) (selected : List ℕ) (i k place : ℕ) → position_from (λ d. d == k) i selected ≡ Some place → list_any p selected ≡ false → p k ≡ false
-none_placed p [] i k place e none = cc
-none_placed p (d ∷ selected) i k place e none = told (d == k) (p d) refl refl e none (none_placed p selected (i + 1) k place)
+-- what holds of off listed dimension doesn't hold of one that has a spot in the list
+pub none_selected : (p : ℕ → Bool) (selected : List ℕ) (i k spot : ℕ) → position_from (λ d. d == k) i selected ≡ Some spot → list_any p selected ≡ false → p k ≡ false
+none_selected p [] i k spot e none = cc
+none_selected p (d ∷ selected) i k spot e none = told (d == k) (p d) refl refl e none (none_selected p selected (i + 1) k spot)
   where
-    told : (b c : Bool) → (d == k) ≡ b → p d ≡ c → cond b (Some i) (position_from (λ x. x == k) (i + 1) selected) ≡ Some place → (c || list_any p selected) ≡ false
-        → (position_from (λ x. x == k) (i + 1) selected ≡ Some place → list_any p selected ≡ false → p k ≡ false) → p k ≡ false
+    told : (b c : Bool) → (d == k) ≡ b → p d ≡ c → cond b (Some i) (position_from (λ x. x == k) (i + 1) selected) ≡ Some spot → (c || list_any p selected) ≡ false
+        → (position_from (λ x. x == k) (i + 1) selected ≡ Some spot → list_any p selected ≡ false → p k ≡ false) → p k ≡ false
     told b true f g h n rest = cc
     told true false f g h n rest = let same : d ≡ k = grind (arith, nat_tests) in ap p (sym same) ∙ g
     told false false f g h n rest = rest h n
@@ -61,7 +61,7 @@ fits_marked lower upper d size off fit = told (size == 1) (makes_implicit lower 
     told false false e n f = let p = both (is_fixed d) (size == size_of d) f in both_true (is_fixed (marked lower upper d)) (size == size_of d) (fixed_marked lower upper d e p.0) p.1
 
 -- sizes that fit dimensions fit others that they fit one by one
-fit_others : (ds es : List Bounds) (sizes : List ℕ) → length ds ≡ length es
+pub fit_others : (ds es : List Bounds) (sizes : List ℕ) → length ds ≡ length es
     → ((k : ℕ) → k < length ds → fits_dim (get_or ds k point) (get_or sizes k 1) ≡ true → fits_dim (get_or es k point) (get_or sizes k 1) ≡ true)
     → list_all (λ p. fits_dim p.0 p.1) (zip ds sizes) ≡ true → list_all (λ p. fits_dim p.0 p.1) (zip es sizes) ≡ true
 fit_others [] [] sizes same each all = refl
@@ -89,7 +89,7 @@ and_false false b e = refl
 
 -- one map still goes from the dimensions
 map_marked : (dims : List Bounds) (selected : List ℕ) (lower upper : Option Bool) (m : OutMap)
-    → ((k place : ℕ) → place_in selected k ≡ Some place → (makes_implicit lower upper && has_array_along k m) ≡ false)
+    → ((k spot : ℕ) → spot_in selected k ≡ Some spot → (makes_implicit lower upper && has_array_along k m) ≡ false)
     → is_map dims m ≡ true → is_map (marked_dims dims selected lower upper) m ≡ true
 map_marked dims selected lower upper (Constant offset) apart is = refl
 map_marked dims selected lower upper (Strided offset stride dim) apart is = ap (λ n. nat_lt dim n) (length_marked dims selected lower upper) ∙ is
@@ -101,23 +101,23 @@ map_marked dims selected lower upper (Indexed offset stride sizes entries) apart
     (both_true (length (marked_dims dims selected lower upper) == length sizes) _ same
     (fit_others dims (marked_dims dims selected lower upper) sizes (sym (length_marked dims selected lower upper)) each q.1)) p.1
   where
-    told : (k : ℕ) (o : Option ℕ) → place_in selected k ≡ o → fits_dim (get_or dims k point) (get_or sizes k 1) ≡ true
-        → fits_dim (elim o [ Some place ↦ marked lower upper (dim_at dims k) | None ↦ dim_at dims k ]) (get_or sizes k 1) ≡ true
+    told : (k : ℕ) (o : Option ℕ) → spot_in selected k ≡ o → fits_dim (get_or dims k point) (get_or sizes k 1) ≡ true
+        → fits_dim (elim o [ Some spot ↦ marked lower upper (dim_at dims k) | None ↦ dim_at dims k ]) (get_or sizes k 1) ≡ true
     told k None e fit = fit
-    told k (Some place) e fit = fits_marked lower upper (get_or dims k point) (get_or sizes k 1) (apart k place e) fit
+    told k (Some spot) e fit = fits_marked lower upper (get_or dims k point) (get_or sizes k 1) (apart k spot e) fit
 
     each : (k : ℕ) → k < length dims → fits_dim (get_or dims k point) (get_or sizes k 1) ≡ true → fits_dim (get_or (marked_dims dims selected lower upper) k point) (get_or sizes k 1) ≡ true
-    each k less fit = ap (λ d. fits_dim d (get_or sizes k 1)) (marked_at dims selected lower upper k less) ∙ told k (place_in selected k) refl fit
+    each k less fit = ap (λ d. fits_dim d (get_or sizes k 1)) (marked_at dims selected lower upper k less) ∙ told k (spot_in selected k) refl fit
 
 maps_marked : (dims : List Bounds) (selected : List ℕ) (lower upper : Option Bool) (maps : List OutMap)
-    → ((k place : ℕ) → place_in selected k ≡ Some place → (makes_implicit lower upper && list_any (has_array_along k) maps) ≡ false)
+    → ((k spot : ℕ) → spot_in selected k ≡ Some spot → (makes_implicit lower upper && list_any (has_array_along k) maps) ≡ false)
     → list_all (is_map dims) maps ≡ true → list_all (is_map (marked_dims dims selected lower upper)) maps ≡ true
 maps_marked dims selected lower upper [] apart all = refl
 maps_marked dims selected lower upper (m ∷ maps) apart all =
     let p = both (is_map dims m) (list_all (is_map dims) maps) all in
     both_true (is_map (marked_dims dims selected lower upper) m) _
-    (map_marked dims selected lower upper m (λ k place e. (split (makes_implicit lower upper) (has_array_along k m) (list_any (has_array_along k) maps) (apart k place e)).0) p.0)
-    (maps_marked dims selected lower upper maps (λ k place e. (split (makes_implicit lower upper) (has_array_along k m) (list_any (has_array_along k) maps) (apart k place e)).1) p.1)
+    (map_marked dims selected lower upper m (λ k spot e. (split (makes_implicit lower upper) (has_array_along k m) (list_any (has_array_along k) maps) (apart k spot e)).0) p.0)
+    (maps_marked dims selected lower upper maps (λ k spot e. (split (makes_implicit lower upper) (has_array_along k m) (list_any (has_array_along k) maps) (apart k spot e)).1) p.1)
   where
     split : (a b c : Bool) → (a && (b || c)) ≡ false → ((a && b) ≡ false) × ((a && c) ≡ false)
     split true b c e = neither b c e
@@ -128,29 +128,29 @@ pub marks_kept : (u : DomainAndMaps) (selected : List ℕ) (lower upper : Option
 marks_kept u selected lower upper t off = record {
   ranks = ranks;
   labels = t.labels;
-  maps = maps_marked u.domain.dims selected lower upper u.maps (λ k place e. apart (makes_implicit lower upper) k place e off) t.maps;
+  maps = maps_marked u.domain.dims selected lower upper u.maps (λ k spot e. apart (makes_implicit lower upper) k spot e off) t.maps;
   plain = t.plain;
 }
   where
     ranks : IsTrue (has_ranks ((with_marks u selected lower upper).domain) u.maps)
     ranks = let r = t.ranks in rw (length_marked u.domain.dims selected lower upper) r
 
-    apart : (b : Bool) (k place : ℕ) → place_in selected k ≡ Some place → (b && has_array_on u.maps selected) ≡ false → (b && list_any (has_array_along k) u.maps) ≡ false
-    apart true k place e f = none_placed (λ dim. list_any (has_array_along dim) u.maps) selected 0 k place e f
-    apart false k place e f = refl
+    apart : (b : Bool) (k spot : ℕ) → spot_in selected k ≡ Some spot → (b && has_array_on u.maps selected) ≡ false → (b && list_any (has_array_along k) u.maps) ≡ false
+    apart true k spot e f = none_selected (λ dim. list_any (has_array_along dim) u.maps) selected 0 k spot e f
+    apart false k spot e f = refl
 
 -- Values don't depend on flags.
 
-place_same : (ds es : List Bounds) (sizes : List ℕ) (index : List ℤ) → length ds ≡ length es → ((k : ℕ) → k < length ds → (get_or es k point).lo ≡ (get_or ds k point).lo)
+spot_same : (ds es : List Bounds) (sizes : List ℕ) (index : List ℤ) → length ds ≡ length es → ((k : ℕ) → k < length ds → (get_or es k point).lo ≡ (get_or ds k point).lo)
     → entry_place es sizes index ≡ entry_place ds sizes index
-place_same [] [] sizes index same lows = refl
-place_same [] (e ∷ es) sizes index same lows = absurd (omega (arith, same))
-place_same (d ∷ ds) [] sizes index same lows = absurd (omega (arith, same))
-place_same (d ∷ ds) (e ∷ es) [] index same lows = refl
-place_same (d ∷ ds) (e ∷ es) (size ∷ sizes) [] same lows = refl
-place_same (d ∷ ds) (e ∷ es) (size ∷ sizes) (x ∷ index) same lows =
+spot_same [] [] sizes index same lows = refl
+spot_same [] (e ∷ es) sizes index same lows = absurd (omega (arith, same))
+spot_same (d ∷ ds) [] sizes index same lows = absurd (omega (arith, same))
+spot_same (d ∷ ds) (e ∷ es) [] index same lows = refl
+spot_same (d ∷ ds) (e ∷ es) (size ∷ sizes) [] same lows = refl
+spot_same (d ∷ ds) (e ∷ es) (size ∷ sizes) (x ∷ index) same lows =
     let low : e.lo ≡ d.lo = lows 0 (omega arith) in
-    let rest = place_same ds es sizes index (omega (arith, same)) (λ k less. lows (suc k) (omega (arith, less))) in
+    let rest = spot_same ds es sizes index (omega (arith, same)) (λ k less. lows (suc k) (omega (arith, less))) in
     ap (λ low. (if size == 1 then 0 else unsigned_abs (x -ℤ low)) * cell_count sizes + entry_place es sizes index) low
     ∙ ap (λ n. entry_index d size x * cell_count sizes + n) rest
 
@@ -158,18 +158,18 @@ abbrev low_of : Bounds → ℤ
 low_of b = b.lo
 
 lows_marked : (dims : List Bounds) (selected : List ℕ) (lower upper : Option Bool) (k : ℕ) → k < length dims → (get_or (marked_dims dims selected lower upper) k point).lo ≡ (get_or dims k point).lo
-lows_marked dims selected lower upper k less = ap low_of (marked_at dims selected lower upper k less) ∙ told (place_in selected k)
+lows_marked dims selected lower upper k less = ap low_of (marked_at dims selected lower upper k less) ∙ told (spot_in selected k)
   where
-    told : (o : Option ℕ) → low_of (elim o [ Some place ↦ marked lower upper (dim_at dims k) | None ↦ dim_at dims k ]) ≡ (get_or dims k point).lo
+    told : (o : Option ℕ) → low_of (elim o [ Some spot ↦ marked lower upper (dim_at dims k) | None ↦ dim_at dims k ]) ≡ (get_or dims k point).lo
     told None = refl
-    told (Some place) = refl
+    told (Some spot) = refl
 
 map_value_marked : (dims : List Bounds) (selected : List ℕ) (lower upper : Option Bool) (index : List ℤ) (m : OutMap) → map_value (marked_dims dims selected lower upper) index m ≡ map_value dims index m
 map_value_marked dims selected lower upper index (Constant offset) = refl
 map_value_marked dims selected lower upper index (Strided offset stride dim) = refl
 map_value_marked dims selected lower upper index (Indexed offset stride sizes entries) =
     ap (λ n. offset +ℤ stride *ℤ get_or entries n (pos 0))
-    (place_same dims (marked_dims dims selected lower upper) sizes index (sym (length_marked dims selected lower upper)) (lows_marked dims selected lower upper))
+    (spot_same dims (marked_dims dims selected lower upper) sizes index (sym (length_marked dims selected lower upper)) (lows_marked dims selected lower upper))
 
 pub value_at-marks : (u : DomainAndMaps) (selected : List ℕ) (lower upper : Option Bool) (index : List ℤ) → value_at (with_marks u selected lower upper) index ≡ value_at u index
 value_at-marks u selected lower upper index = each u.maps
@@ -195,11 +195,11 @@ abbrev high_of : Bounds → ℤ
 high_of b = b.hi
 
 highs_marked : (dims : List Bounds) (selected : List ℕ) (lower upper : Option Bool) (k : ℕ) → k < length dims → (get_or (marked_dims dims selected lower upper) k point).hi ≡ (get_or dims k point).hi
-highs_marked dims selected lower upper k less = ap high_of (marked_at dims selected lower upper k less) ∙ told (place_in selected k)
+highs_marked dims selected lower upper k less = ap high_of (marked_at dims selected lower upper k less) ∙ told (spot_in selected k)
   where
-    told : (o : Option ℕ) → high_of (elim o [ Some place ↦ marked lower upper (dim_at dims k) | None ↦ dim_at dims k ]) ≡ (get_or dims k point).hi
+    told : (o : Option ℕ) → high_of (elim o [ Some spot ↦ marked lower upper (dim_at dims k) | None ↦ dim_at dims k ]) ≡ (get_or dims k point).hi
     told None = refl
-    told (Some place) = refl
+    told (Some spot) = refl
 
 pub ends_marked : (dims : List Bounds) (selected : List ℕ) (lower upper : Option Bool) (k : ℕ) → k < length dims
     → ((get_or (marked_dims dims selected lower upper) k point).lo ≡ (get_or dims k point).lo) × ((get_or (marked_dims dims selected lower upper) k point).hi ≡ (get_or dims k point).hi)

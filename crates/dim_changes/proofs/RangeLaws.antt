@@ -1,6 +1,10 @@
 -- What is mapped over the dimensions of a rank.
-use Rattle.std.proofs.Common.{◌≡◌, ◌∙◌, zero, suc, ℕ, ◌+◌, ◌<◌, Bool, true, List, [], ◌∷◌, length, map, get_or, refl, ap, arith}
+use Rattle.std.proofs.Common.{◌≡◌, ◌∙◌, zero, suc, ℕ, ◌+◌, ◌<◌, Bool, true, List, [], ◌∷◌, length, map, get_or, slice_index_or, refl, ap, arith}
 use Rattle.std.specs.List.{list_all, range_with_len}
+use Rattle.cells.proofs.Laws.{both}
+use Rattle.index_intervals.specs.Bounds.{Bounds, AreBounds, are_bounds}
+use Rattle.index_intervals.proofs.Laws.{AreBounds-true}
+use Rattle.transform_composition.specs.Reading.{point}
 
 pub range-length : {X : Type 0} (f : ℕ → X) (a n : ℕ) → length (map f (range_with_len a n)) ≡ n
 range-length f a zero = refl
@@ -24,7 +28,7 @@ pub map-map : {X Y : Type 0} (g : X → Y) (f : ℕ → X) (xs : List ℕ) → m
 map-map g f [] = refl
 map-map g f (x ∷ xs) = ap (λ ys. g (f x) ∷ ys) (map-map g f xs)
 
--- a list read at each of its places is the list
+-- a list read at each of its spots is the list
 pub read-each : {X : Type 0} (f : ℕ → X) (xs : List ℕ) (d : ℕ) → map (λ i. f (get_or xs i d)) (range_with_len 0 (length xs)) ≡ map f xs
 read-each f xs d = from 0 xs xs (λ i h. let z : 0 + i ≡ i = omega arith in ap (λ k. get_or xs k d) z)
   where
@@ -35,3 +39,20 @@ read-each f xs d = from 0 xs xs (λ i h. let z : 0 + i ≡ i = omega arith in ap
         let here : get_or ys a d ≡ z = (let w : a ≡ a + 0 = omega arith in ap (λ k. get_or ys k d) w) ∙ h 0 (omega arith) in
         let rest = from (a + 1) ys zs (λ i l. (let w : (a + 1) + i ≡ a + suc i = omega arith in ap (λ k. get_or ys k d) w) ∙ h (suc i) (omega (arith, l))) in
         rw (here, rest) refl
+
+-- a list by its items
+pub listed-at : {X : Type 0} (f : ℕ → X) (xs : List X) (d : X) → ((i : ℕ) → i < length xs → get_or xs i d ≡ f i) → xs ≡ map f (range_with_len 0 (length xs))
+listed-at {X} f xs d h = from 0 xs (λ i l. let z : i ≡ 0 + i = omega arith in h i l ∙ ap f z)
+  where
+    from : (a : ℕ) (ys : List X) → ((i : ℕ) → i < length ys → get_or ys i d ≡ f (a + i)) → ys ≡ map f (range_with_len a (length ys))
+    from a [] g = refl
+    from a (y ∷ ys) g =
+        let here : y ≡ f a = g 0 (omega arith) ∙ (let w : a + 0 ≡ a = omega arith in ap f w) in
+        ap (λ (x : X). x ∷ ys) here
+        ∙ ap (λ (zs : List X). f a ∷ zs) (from (a + 1) ys (λ i l. g (suc i) (omega (arith, l)) ∙ (let w : a + suc i ≡ (a + 1) + i = omega arith in ap f w)))
+
+-- bounds that keep the rule, one by one
+pub AreBounds-each : (dims : List Bounds) → list_all are_bounds dims ≡ true → (k : ℕ) → k < length dims → AreBounds (slice_index_or dims k point)
+AreBounds-each [] e k h = absurd (omega (arith, h))
+AreBounds-each (d ∷ dims) e zero h = AreBounds-true d ((both (are_bounds d) (list_all are_bounds dims) e).0)
+AreBounds-each (d ∷ dims) e (suc k) h = AreBounds-each dims ((both (are_bounds d) (list_all are_bounds dims) e).1) k (omega (arith, h))

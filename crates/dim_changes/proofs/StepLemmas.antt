@@ -57,14 +57,14 @@ checked-IsTransform domain maps t =
     rw (r, l, none, same) refl
 
 -- the index along a dimension of a cell lies between its bounds
-between : (dims : List Bounds) (index : List ℤ) (dim : ℕ) → IsCell dims index → dim < length dims
+pub between : (dims : List Bounds) (index : List ℤ) (dim : ℕ) → IsCell dims index → dim < length dims
     → ((get_or dims dim point).lo ≤ℤ get_or index dim (pos 0)) × (get_or index dim (pos 0) ≤ℤ (get_or dims dim point).hi)
 between [] index dim c h = absurd (omega (arith, h))
 between (d ∷ dims) [] dim c h = absurd c
 between (d ∷ dims) (x ∷ index) zero c h = (c.0, c.1)
 between (d ∷ dims) (x ∷ index) (suc dim) c h = between dims index dim c.2 (omega (arith, h))
 
-length-IsCell : (dims : List Bounds) (index : List ℤ) → IsCell dims index → length index ≡ length dims
+pub length-IsCell : (dims : List Bounds) (index : List ℤ) → IsCell dims index → length index ≡ length dims
 length-IsCell [] [] c = refl
 length-IsCell [] (x ∷ index) c = absurd c
 length-IsCell (d ∷ dims) [] c = absurd c

@@ -32,7 +32,7 @@ IsTightened-same k dim outers maps t = record {
   high_index = rw t.upper (finite_part-index dim.hi);
 }
 
--- each dimension becomes the one at its place
+-- each dimension becomes the one at its spot
 tight_dims-news : (k : ℕ) (builts news outers : List Bounds) (maps : List OutMap) → length news ≡ length builts
     → ((i : ℕ) → i < length builts → IsTightened (k + i) (get_or builts i point) (get_or news i point) outers maps)
     → tight_dims k builts outers maps ≡ news

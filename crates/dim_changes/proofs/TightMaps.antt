@@ -30,7 +30,7 @@ preimages-none side dim (o ∷ outers) (m ∷ maps) h =
     preimages_at-other side dim o m (preimages side dim outers maps) (h 0 (omega arith))
     ∙ preimages-none side dim outers maps (λ j i. h (suc j) (omega (arith, i)))
 
--- where exactly the map at one place is, it has the one pre-image
+-- where exactly the map at one spot is, it has the one pre-image
 pub preimages-one : (side : Bounds → ℤ → ℤ → Edge) (dim : ℕ) (outers : List Bounds) (maps : List OutMap) (k : ℕ) (offset stride : ℤ)
     → k < length maps → length maps ≡ length outers → get_or maps k nowhere ≡ Strided offset stride dim
     → ((j : ℕ) → j < length maps → j ≢ k → is_strided_from dim (get_or maps j nowhere) ≡ false)

@@ -11,12 +11,12 @@ position_of rank x =
     if int_le (pos 0) y && int_lt y (pos rank) then Some (unsigned_abs y) else None
 
 -- where a dimension stands in a list
-abbrev pub place_in : List ℕ → ℕ → Option ℕ
-place_in dims dim = position_from (λ d. d == dim) 0 dims
+abbrev pub spot_in : List ℕ → ℕ → Option ℕ
+spot_in dims dim = position_from (λ d. d == dim) 0 dims
 
 -- the dimensions of a rank that aren't in the list, in their order
 abbrev pub others : List ℕ → ℕ → List ℕ
-others selected rank = filter (λ dim. is_none (place_in selected dim)) (range_with_len 0 rank)
+others selected rank = filter (λ dim. is_none (spot_in selected dim)) (range_with_len 0 rank)
 
 -- the interval and the label of a dimension
 abbrev pub dim_at : List Bounds → ℕ → Bounds

@@ -1,4 +1,6 @@
 pub mod Causes
+pub mod CutViews
 pub mod Cuts
 pub mod Dims
+pub mod Emptied
 pub mod Marks

@@ -8,11 +8,11 @@ use Rattle.transform_composition.specs.Reading.{has_array_along}
 use Rattle.index_transform.specs.Transforms.{DomainAndMaps}
 use Rattle.dim_changes.specs.declared.cause.Cause.{Cause}
 use Rattle.dim_changes.specs.declared.cause.Cause.TheVariants.{Count, Label, IndexDim}
-use Rattle.dim_changes.specs.Dims.{place_in, dim_at, label_at}
+use Rattle.dim_changes.specs.Dims.{spot_in, dim_at, label_at}
 
 -- the label of a dimension: a new one where it is selected
 abbrev pub new_label : List (List ℕ) → List ℕ → List (List ℕ) → ℕ → List ℕ
-new_label olds selected labels dim = elim (place_in selected dim) [ Some place ↦ label_at labels place | None ↦ label_at olds dim ]
+new_label olds selected labels dim = elim (spot_in selected dim) [ Some spot ↦ label_at labels spot | None ↦ label_at olds dim ]
 
 abbrev pub new_labels : DomainAndMaps → List ℕ → List (List ℕ) → List (List ℕ)
 new_labels u selected labels = map (new_label u.domain.labels selected labels) (range_with_len 0 (length u.domain.dims))
@@ -35,7 +35,7 @@ marked lower upper dim = record dim { lo_implicit = unwrap_or lower dim.lo_impli
 
 abbrev pub marked_dim : List Bounds → List ℕ → Option Bool → Option Bool → ℕ → Bounds
 marked_dim dims selected lower upper dim =
-    elim (place_in selected dim) [ Some place ↦ marked lower upper (dim_at dims dim) | None ↦ dim_at dims dim ]
+    elim (spot_in selected dim) [ Some spot ↦ marked lower upper (dim_at dims dim) | None ↦ dim_at dims dim ]
 
 abbrev pub with_marks : DomainAndMaps → List ℕ → Option Bool → Option Bool → DomainAndMaps
 with_marks u selected lower upper = record {

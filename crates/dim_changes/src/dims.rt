@@ -1,7 +1,7 @@
 // Dimensions by their numbers.
 ghost use Rattle.std.specs.List.{All};
 ghost use Rattle.std.specs.Prelude.{◌<◌, ◌≡◌, ◌≤◌, IfOk, IfSome, length};
-ghost use Rattle.dim_changes.specs.Dims.{dim_at, label_at, others, place_in, position_of};
+ghost use Rattle.dim_changes.specs.Dims.{dim_at, label_at, others, spot_in, position_of};
 
 use cells::Name;
 use index_intervals::Interval;
@@ -17,9 +17,9 @@ pub fn position_of(rank: usize, x: i64) -> Option<usize>
 }
 
 /// Where a dimension stands in a list.
-pub fn place_in(dims: &[usize], dim: usize) -> Option<usize>
-    ensures value { result ≡ place_in dims.now dim }
-    ensures bound { IfSome result (λ place. place < length dims.now) }
+pub fn spot_in(dims: &[usize], dim: usize) -> Option<usize>
+    ensures value { result ≡ spot_in dims.now dim }
+    ensures bound { IfSome result (λ spot. spot < length dims.now) }
 {
     dims.iter().position(|d| *d == dim)
 }
@@ -32,7 +32,7 @@ pub fn others(alloc: Global, selected: &[usize], rank: usize) -> Result<Vec<usiz
 {
     let mut rest = Vec::new(alloc);
     for dim in 0..rank {
-        if place_in(selected, dim).is_none() {
+        if spot_in(selected, dim).is_none() {
             rest.push(dim)?;
         }
     }

@@ -6,7 +6,7 @@ ghost use Rattle.dim_changes.specs.Causes.{IsFaultOf};
 ghost use Rattle.dim_changes.specs.Marks.{label_answer, new_label, only_labels};
 
 use crate::cause::{Cause, Fault};
-use crate::dims::{copied_label, label_at, place_in};
+use crate::dims::{copied_label, label_at, spot_in};
 use cells::{List, Name};
 use index_transform::{Domain, OutMap, Transform, copied_maps};
 use std::alloc::{AllocError, Global};
@@ -17,8 +17,8 @@ fn new_label<'a>(olds: &'a [Name], selected: &[usize], labels: &'a [Name], dim: 
     requires same { length labels.now ≡ length selected.now }
     ensures { result.now ≡ new_label olds.now selected.now labels.now dim }
 {
-    match place_in(selected, dim) {
-        Some(place) => label_at(labels, place),
+    match spot_in(selected, dim) {
+        Some(spot) => label_at(labels, spot),
         None => label_at(olds, dim),
     }
 }

@@ -5,11 +5,11 @@
 //! which takes a transform over new dimensions.
 #![tactic(auto)]
 
-mod bounds;
 mod cause;
 mod cut;
 mod cutting;
 mod dims;
+mod emptied;
 mod label;
 mod mark;
 mod slice;
@@ -17,11 +17,10 @@ mod stepping;
 mod stride;
 mod translate;
 
-pub use bounds::look_at_all;
 pub use cause::{Cause, Fault, with_cause};
 pub use cut::Cut;
 pub use cutting::with_cuts;
-pub use dims::{copied_label, dim_at, label_at, others, place_in, position_of};
+pub use dims::{copied_label, dim_at, label_at, others, position_of, spot_in};
 pub use label::labelled;
-pub use mark::with_marks;
+pub use mark::{varies_along, with_marks};
 pub use stepping::stepped;

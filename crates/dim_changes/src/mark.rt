@@ -8,7 +8,7 @@ ghost use Rattle.dim_changes.specs.Causes.{IsFaultOf};
 ghost use Rattle.dim_changes.specs.Marks.{has_array_on, makes_implicit, mark_answer, marked, marked_dim, with_marks};
 
 use crate::cause::{Cause, Fault};
-use crate::dims::{dim_at, place_in};
+use crate::dims::{dim_at, spot_in};
 use cells::List;
 use index_intervals::Interval;
 use index_transform::{Domain, OutMap, Transform, copied_maps, copied_names};
@@ -37,7 +37,7 @@ fn marked_dim(
     ensures { result ≡ marked_dim dims.now selected.now lower upper dim }
 {
     let old = dim_at(dims, dim);
-    match place_in(selected, dim) {
+    match spot_in(selected, dim) {
         Some(_) => marked(lower, upper, old),
         None => *old,
     }
@@ -60,8 +60,8 @@ fn marked_dims(
     Ok(news)
 }
 
-// Whether the size along the dimension isn't 1.
-fn varies_along(sizes: &[u64], dim: usize) -> bool
+/// Whether the size along the dimension isn't 1.
+pub fn varies_along(sizes: &[u64], dim: usize) -> bool
     ensures { result ≡ not (slice_index_or sizes.now dim 1 == 1) }
 {
     match sizes.get(dim) {

@@ -35,13 +35,13 @@ pub(crate) fn sliced_by(dim: &Interval, part: SlicePart) -> Result<Cut, Cause>
     }
 }
 
-// The part for the selected dimension at a place.
-pub(crate) fn part_for(by: &Slices, place: usize) -> SlicePart
-    ensures { result ≡ part_for by.now place }
+// The part for the selected dimension at a spot.
+pub(crate) fn part_for(by: &Slices, spot: usize) -> SlicePart
+    ensures { result ≡ part_for by.now spot }
 {
     match by {
         Slices::All { part } => *part,
-        Slices::Each { parts } => match parts.items().get(place) {
+        Slices::Each { parts } => match parts.items().get(spot) {
             Some(part) => *part,
             None => SlicePart {
                 start: None,

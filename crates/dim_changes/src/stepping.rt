@@ -1,6 +1,7 @@
 // A transform over the dimensions that a step gives.
-ghost use Rattle.std.specs.Prelude.{◌≡◌};
+ghost use Rattle.std.specs.Prelude.{◌≡◌, IfOk};
 ghost use Rattle.index_transform.specs.Transforms.{KeepsRules};
+ghost use Rattle.transform_composition.specs.Agreeing.{Agrees};
 ghost use Rattle.transform_composition.specs.Composing.{composed};
 ghost use Rattle.dim_changes.specs.Causes.{Gives, fault_of, or_cause};
 
@@ -21,6 +22,20 @@ pub fn stepped(
     requires { KeepsRules (record { domain = domain; maps = maps.items }) }
     ensures { Gives outer.now (record { domain = domain; maps = maps.items }) (or_cause (composed outer.now (record { domain = domain; maps = maps.items }))) result }
 {
+    agreeing(alloc, outer, domain, maps)
+}
+
+// The same, with what is known of index vectors that are no cells.
+pub(crate) fn agreeing(
+    alloc: Global,
+    outer: &Transform,
+    domain: Domain,
+    maps: Vec<OutMap>,
+) -> Result<Transform, Fault>
+    requires { KeepsRules (record { domain = domain; maps = maps.items }) }
+    ensures given { Gives outer.now (record { domain = domain; maps = maps.items }) (or_cause (composed outer.now (record { domain = domain; maps = maps.items }))) result }
+    ensures agrees { IfOk result (λ t. Agrees t outer.now (record { domain = domain; maps = maps.items })) }
+{
     match Transform::new(domain, maps) {
         Ok(inner) => composed_over(alloc, outer, &inner),
         Err(_) => unreachable!(),
@@ -29,7 +44,8 @@ pub fn stepped(
 
 // The composition, or its fault as that of a step.
 fn composed_over(alloc: Global, outer: &Transform, inner: &Transform) -> Result<Transform, Fault>
-    ensures { Gives outer.now inner.now (or_cause (composed outer.now inner.now)) result }
+    ensures given { Gives outer.now inner.now (or_cause (composed outer.now inner.now)) result }
+    ensures agrees { IfOk result (λ t. Agrees t outer.now inner.now) }
 {
     match compose(alloc, outer, inner) {
         Ok(t) => Ok(t),

@@ -11,17 +11,17 @@ use Rattle.step_forms.specs.declared.act.Numbers.{Numbers}
 use Rattle.dim_changes.specs.declared.cause.Cause.{Cause}
 use Rattle.dim_changes.specs.declared.cause.Cause.TheVariants.{OutOfRange}
 use Rattle.dim_changes.specs.Causes.{with_cause, first_cause, outside_cause}
-use Rattle.dim_changes.specs.Dims.{place_in}
+use Rattle.dim_changes.specs.Dims.{spot_in}
 use Rattle.dim_expressions.specs.At.{at_number, at_cause, at_causes, at_map, at_view}
-use Rattle.dim_changes.proofs.Laws.{place_in-Some, rest_few, tighten_answer-Ok}
+use Rattle.dim_changes.proofs.Laws.{spot_in-Some, rest_few, tighten_answer-Ok}
 use Rattle.dim_expressions.proofs.WithoutLaws.{GoIn, rank_few, becomes, is_transform}
 
-none_of_two : (c later : Option Cause) → with_cause c later ≡ None → (c ≡ None) × (later ≡ None)
+pub none_of_two : (c later : Option Cause) → with_cause c later ≡ None → (c ≡ None) × (later ≡ None)
 none_of_two None later e = (refl, e)
 none_of_two (Some c) later e = cc
 
--- where no cause counts, there is none at any place
-none_at : (f : ℕ × ℕ → Option Cause) (a : ℕ) (xs : List ℕ) → first_cause (map f (enumerate_from a xs)) ≡ None → (k x : ℕ) → k < length xs → f (a + k, get_or xs k x) ≡ None
+-- where no cause counts, there is none at any spot
+pub none_at : (f : ℕ × ℕ → Option Cause) (a : ℕ) (xs : List ℕ) → first_cause (map f (enumerate_from a xs)) ≡ None → (k x : ℕ) → k < length xs → f (a + k, get_or xs k x) ≡ None
 none_at f a [] e k x h = absurd (omega (arith, h))
 none_at f a (y ∷ xs) e zero x h = let z : a + 0 ≡ a = omega arith in ap (λ n. f (n, y)) z ∙ (none_of_two (f (a, y)) (first_cause (map f (enumerate_from (a + 1) xs))) e).0
 none_at f a (y ∷ xs) e (suc k) x h =
@@ -40,20 +40,20 @@ at_goes u selected by t good = record {
   firsts_count = refl;
   news_count = refl;
   few = (let a = rest_few selected 0 (length u.domain.dims) in let b = rank_few u t in omega (arith, a, b));
-  fit = λ dim place h e. refl;
-  plain = λ place. refl;
-  apart = λ place p. refl;
+  fit = λ dim spot h e. refl;
+  plain = λ spot. refl;
+  apart = λ spot p. refl;
   inside = inside;
   tight = λ i h. absurd (omega (arith, h));
 }
   where
-    inside : (dim place : ℕ) → dim < length u.domain.dims → place_in selected dim ≡ Some place → is_effective (get_or u.domain.dims dim point) (at_number by place) ≡ true
-    inside dim place h e =
-        let p = place_in-Some selected dim place e in
-        let none = none_at (at_cause by u.domain.dims) 0 selected good place 0 p.inside in
-        let z : 0 + place ≡ place = omega arith in
-        inside_cause (get_or u.domain.dims dim point) (at_number by place)
-        (ap (λ d. outside_cause (get_or u.domain.dims d point) (at_number by place)) (sym (p.there 0)) ∙ ap (λ n. outside_cause (get_or u.domain.dims (get_or selected place 0) point) (at_number by n)) (sym z) ∙ none)
+    inside : (dim spot : ℕ) → dim < length u.domain.dims → spot_in selected dim ≡ Some spot → is_effective (get_or u.domain.dims dim point) (at_number by spot) ≡ true
+    inside dim spot h e =
+        let p = spot_in-Some selected dim spot e in
+        let none = none_at (at_cause by u.domain.dims) 0 selected good spot 0 p.inside in
+        let z : 0 + spot ≡ spot = omega arith in
+        inside_cause (get_or u.domain.dims dim point) (at_number by spot)
+        (ap (λ d. outside_cause (get_or u.domain.dims d point) (at_number by spot)) (sym (p.there 0)) ∙ ap (λ n. outside_cause (get_or u.domain.dims (get_or selected spot 0) point) (at_number by n)) (sym z) ∙ none)
 
 module _ (u : DomainAndMaps) (selected : List ℕ) (by : Numbers) (t : IsTransform u) (bounds : (i : ℕ) → i < length u.domain.dims → AreBounds (get_or u.domain.dims i point))
     (good : first_cause (at_causes by u.domain.dims selected) ≡ None) where

@@ -1,11 +1,11 @@
 -- Dimensions that go to other positions, and back.
 use Rattle.std.proofs.Common.{◌≡◌, ◌∙◌, ℕ, ◌<◌, false, List, length, get_or, unwrap_or, refl, sym, ap, arith, Option, Some, None, Result, Ok, Err}
 use Rattle.std.specs.Result.{OnOk}
-use Rattle.dim_changes.specs.Dims.{place_in, others}
+use Rattle.dim_changes.specs.Dims.{spot_in, others}
 use Rattle.step_forms.specs.Selection.{has_repeat}
 use Rattle.dim_expressions.specs.Transpose.{AreInverse, carried, carried_by}
 use Rattle.dim_expressions.proofs.CountLaws.{others-count}
-use Rattle.dim_changes.proofs.Laws.{place_in-Some, rest_at, rest_distinct, place_distinct, left_place}
+use Rattle.dim_changes.proofs.Laws.{spot_in-Some, rest_at, rest_distinct, spot_distinct, left_spot}
 
 -- dimensions of a rank, none twice
 pub record AreDims (rank : ℕ) (dims : List ℕ) : Type 0 where
@@ -24,39 +24,39 @@ module _ (rank : ℕ) (from to : List ℕ) (f : AreDims rank from) (t : AreDims 
     pub below : y < rank
     pub back : carried rank to from y ≡ x
 
-  to-place : (x place : ℕ) → place_in from x ≡ Some place → IsCarried x (get_or to place 0)
-  to-place x place e =
-      let p = place_in-Some from x place e in
+  to-spot : (x spot : ℕ) → spot_in from x ≡ Some spot → IsCarried x (get_or to spot 0)
+  to-spot x spot e =
+      let p = spot_in-Some from x spot e in
       let l = p.inside in
-      let h : place < length to = omega (arith, l, same) in
-      let q : place_in to (get_or to place 0) ≡ Some place = place_distinct to place 0 t.once h in
+      let h : spot < length to = omega (arith, l, same) in
+      let q : spot_in to (get_or to spot 0) ≡ Some spot = spot_distinct to spot 0 t.once h in
       record {
-        below = t.below place 0 h;
-        back = ap (carried_by (others to rank) from (others from rank) (get_or to place 0)) q ∙ p.there 0;
+        below = t.below spot 0 h;
+        back = ap (carried_by (others to rank) from (others from rank) (get_or to spot 0)) q ∙ p.there 0;
       }
 
-  to-other : (x : ℕ) → x < rank → place_in from x ≡ None → IsCarried x (get_or (others to rank) (unwrap_or (place_in (others from rank) x) 0) 0)
+  to-other : (x : ℕ) → x < rank → spot_in from x ≡ None → IsCarried x (get_or (others to rank) (unwrap_or (spot_in (others from rank) x) 0) 0)
   to-other x h e =
-      let p = left_place from rank x h e in
+      let p = left_spot from rank x h e in
       let i = p.inside in
-      let k : p.place < length (others to rank) = omega (arith, i, as-many) in
-      let l = rest_at to 0 rank p.place 0 k in
+      let k : p.spot < length (others to rank) = omega (arith, i, as-many) in
+      let l = rest_at to 0 rank p.spot 0 k in
       let b = l.below in
-      let q : place_in (others to rank) (get_or (others to rank) p.place 0) ≡ Some p.place = place_distinct (others to rank) p.place 0 (rest_distinct to 0 rank) k in
-      let at : unwrap_or (place_in (others from rank) x) 0 ≡ p.place = ap (λ (o : Option ℕ). unwrap_or o 0) p.found in
-      let here : IsCarried x (get_or (others to rank) p.place 0) = record {
+      let q : spot_in (others to rank) (get_or (others to rank) p.spot 0) ≡ Some p.spot = spot_distinct (others to rank) p.spot 0 (rest_distinct to 0 rank) k in
+      let at : unwrap_or (spot_in (others from rank) x) 0 ≡ p.spot = ap (λ (o : Option ℕ). unwrap_or o 0) p.found in
+      let here : IsCarried x (get_or (others to rank) p.spot 0) = record {
         below = omega (arith, b);
-        back = ap (carried_by (others to rank) from (others from rank) (get_or (others to rank) p.place 0)) l.kept
+        back = ap (carried_by (others to rank) from (others from rank) (get_or (others to rank) p.spot 0)) l.kept
             ∙ ap (λ (o : Option ℕ). get_or (others from rank) (unwrap_or o 0) 0) q ∙ p.there 0;
       } in
       rw at here
 
   pub IsCarried-of : (x : ℕ) → x < rank → IsCarried x (carried rank from to x)
-  IsCarried-of x h = told (place_in from x) refl
+  IsCarried-of x h = told (spot_in from x) refl
     where
-      told : (o : Option ℕ) → place_in from x ≡ o → IsCarried x (carried_by (others from rank) to (others to rank) x o)
+      told : (o : Option ℕ) → spot_in from x ≡ o → IsCarried x (carried_by (others from rank) to (others to rank) x o)
       told None e = to-other x h e
-      told (Some place) e = to-place x place e
+      told (Some spot) e = to-spot x spot e
 
 -- the two lists of a transposition are inverse
 pub are-inverse : (rank : ℕ) (selected targets : List ℕ) → AreDims rank selected → AreDims rank targets → length targets ≡ length selected → AreInverse rank selected targets

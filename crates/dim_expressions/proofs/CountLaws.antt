@@ -2,7 +2,7 @@
 use Rattle.std.proofs.Common.{◌≡◌, ◌≢◌, ◌∙◌, zero, suc, ℕ, ◌+◌, ◌<◌, ◌≤◌, ◌==◌, ◌||◌, not, Bool, true, false, cond, List, [], ◌∷◌, length, filter, get_or, refl, sym, ap, arith, Some, is_none}
 use Rattle.std.proofs.lemmas.Bool.Decides.{nat_tests}
 use Rattle.std.specs.List.{list_any, position_from, range_with_len}
-use Rattle.dim_changes.specs.Dims.{place_in, others}
+use Rattle.dim_changes.specs.Dims.{spot_in, others}
 use Rattle.step_forms.specs.Selection.{has_repeat}
 
 module _ (p q : ℕ → Bool) where
@@ -43,7 +43,7 @@ module _ (p q : ℕ → Bool) where
 
 -- whether a dimension stays
 abbrev pub stays : List ℕ → ℕ → Bool
-stays selected dim = is_none (place_in selected dim)
+stays selected dim = is_none (spot_in selected dim)
 
 stays-from : (i : ℕ) (xs : List ℕ) (x : ℕ) → is_none (position_from (λ d. d == x) i xs) ≡ not (list_any (λ d. d == x) xs)
 stays-from i [] x = refl

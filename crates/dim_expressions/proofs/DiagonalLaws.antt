@@ -9,7 +9,7 @@ use Rattle.transform_composition.specs.Reading.{point}
 use Rattle.transform_composition.specs.Tightening.{preimages, tighten_answer, met, tight_lower, tight_upper}
 use Rattle.index_transform.specs.Transforms.{DomainAndMaps, IsTransform, KeepsRules}
 use Rattle.index_transform.specs.Values.{first_outside, value_at, map_value}
-use Rattle.dim_changes.specs.Dims.{place_in, others, dim_at}
+use Rattle.dim_changes.specs.Dims.{spot_in, others, dim_at}
 use Rattle.dim_changes.specs.Causes.{Follows}
 use Rattle.dim_expressions.specs.Left.{left_by, left_map, without}
 use Rattle.dim_expressions.specs.Diagonal.{unbounded, meet_of, selected_dims, diagonal_map, diagonal_view, meet_ends}
@@ -24,7 +24,7 @@ pub one_fewer : (u : DomainAndMaps) (selected : List ℕ) → IsTransform u → 
 one_fewer u [] t known some = absurd (omega (arith, some))
 one_fewer u (x ∷ selected) t known some =
     let same : (x == x) ≡ true = grind (arith, nat_tests) in
-    let gone : is_none (place_in (x ∷ selected) x) ≡ false = rw same refl in
+    let gone : is_none (spot_in (x ∷ selected) x) ≡ false = rw same refl in
     let less = known 0 0 (omega arith) in
     let fewer = rest_fewer (x ∷ selected) 0 (length u.domain.dims) x (omega arith) (omega (arith, less)) gone in
     let few = rank_few u t in
@@ -32,7 +32,7 @@ one_fewer u (x ∷ selected) t known some =
 
 -- the selected dimensions of a range
 abbrev chosen : List Bounds → List ℕ → ℕ → ℕ → List Bounds
-chosen dims selected a n = map (dim_at dims) (filter (λ dim. is_some (place_in selected dim)) (range_with_len a n))
+chosen dims selected a n = map (dim_at dims) (filter (λ dim. is_some (spot_in selected dim)) (range_with_len a n))
 
 -- the pre-images of the first dimension are the selected ones
 preimages_chosen : (side : Bounds → ℤ → ℤ → Ends) (edge : Bounds → Ends) → ((b : Bounds) → side b (pos 0) (pos 1) ≡ edge b)
@@ -40,7 +40,7 @@ preimages_chosen : (side : Bounds → ℤ → ℤ → Ends) (edge : Bounds → E
     → preimages side 0 outers (map (left_map selected rest 1 diagonal_map) (range_with_len a (length outers))) ≡ map edge (chosen dims selected a (length outers))
 preimages_chosen side edge same dims selected rest a [] each = refl
 preimages_chosen side edge same dims selected rest a (d ∷ outers) each =
-    told (place_in selected a)
+    told (spot_in selected a)
     (preimages_chosen side edge same dims selected rest (a + 1) outers (λ i h. let z : a + suc i ≡ a + 1 + i = omega arith in each (suc i) (omega (arith, h)) ∙ ap (dim_at dims) z))
   where
     here : d ≡ dim_at dims a
@@ -52,41 +52,41 @@ preimages_chosen side edge same dims selected rest a (d ∷ outers) each =
     told : (o : Option ℕ)
         → preimages side 0 outers (map (left_map selected rest 1 diagonal_map) (range_with_len (a + 1) (length outers))) ≡ map edge (chosen dims selected (a + 1) (length outers))
         → preimages side 0 (d ∷ outers) (left_by rest 1 diagonal_map a o ∷ map (left_map selected rest 1 diagonal_map) (range_with_len (a + 1) (length outers)))
-        ≡ map edge (map (dim_at dims) (cond (is_some o) (a ∷ filter (λ dim. is_some (place_in selected dim)) (range_with_len (a + 1) (length outers))) (filter (λ dim. is_some (place_in selected dim)) (range_with_len (a + 1) (length outers)))))
-    told (Some place) rest_is =
+        ≡ map edge (map (dim_at dims) (cond (is_some o) (a ∷ filter (λ dim. is_some (spot_in selected dim)) (range_with_len (a + 1) (length outers))) (filter (λ dim. is_some (spot_in selected dim)) (range_with_len (a + 1) (length outers)))))
+    told (Some spot) rest_is =
         ap (λ (e : Ends). e ∷ preimages side 0 outers (map (left_map selected rest 1 diagonal_map) (range_with_len (a + 1) (length outers)))) (same d ∙ ap edge here)
         ∙ ap (λ (es : List Ends). edge (dim_at dims a) ∷ es) rest_is
     told None rest_is =
-        let apart : (1 + unwrap_or (place_in rest a) 0 == 0) ≡ false = grind (arith, nat_tests) in
+        let apart : (1 + unwrap_or (spot_in rest a) 0 == 0) ≡ false = grind (arith, nat_tests) in
         rw apart rest_is
 
 -- what holds against all selected dimensions holds against each
-one_below : (m : Option ℤ) (dims : List Bounds) (selected : List ℕ) (a n dim : ℕ) → a ≤ dim → dim < a + n → is_some (place_in selected dim) ≡ true
+one_below : (m : Option ℤ) (dims : List Bounds) (selected : List ℕ) (a n dim : ℕ) → a ≤ dim → dim < a + n → is_some (spot_in selected dim) ≡ true
     → AllBelow m (map lower_edge (chosen dims selected a n)) → AtLeast m ((lower_edge (dim_at dims dim)).at)
 one_below m dims selected a zero dim low high there all = absurd (omega arith)
-one_below m dims selected a (suc n) dim low high there all = told (is_some (place_in selected a)) (a == dim) refl refl all (λ l. one_below m dims selected (a + 1) n dim l (omega (arith, high)) there)
+one_below m dims selected a (suc n) dim low high there all = told (is_some (spot_in selected a)) (a == dim) refl refl all (λ l. one_below m dims selected (a + 1) n dim l (omega (arith, high)) there)
   where
-    told : (b c : Bool) → is_some (place_in selected a) ≡ b → (a == dim) ≡ c
-        → AllBelow m (map lower_edge (map (dim_at dims) (cond b (a ∷ filter (λ dim. is_some (place_in selected dim)) (range_with_len (a + 1) n)) (filter (λ dim. is_some (place_in selected dim)) (range_with_len (a + 1) n)))))
+    told : (b c : Bool) → is_some (spot_in selected a) ≡ b → (a == dim) ≡ c
+        → AllBelow m (map lower_edge (map (dim_at dims) (cond b (a ∷ filter (λ dim. is_some (spot_in selected dim)) (range_with_len (a + 1) n)) (filter (λ dim. is_some (spot_in selected dim)) (range_with_len (a + 1) n)))))
         → ((a + 1) ≤ dim → AllBelow m (map lower_edge (chosen dims selected (a + 1) n)) → AtLeast m ((lower_edge (dim_at dims dim)).at))
         → AtLeast m ((lower_edge (dim_at dims dim)).at)
     told true true e f all later = let same : a ≡ dim = grind (arith, nat_tests) in subst (λ (k : ℕ). AtLeast m ((lower_edge (dim_at dims k)).at)) same all.0
     told true false e f all later = let l : (a + 1) ≤ dim = grind (arith, nat_tests) in later l all.1
-    told false true e f all later = let same : a ≡ dim = grind (arith, nat_tests) in absurd (let g = ap (λ k. is_some (place_in selected k)) same in cc)
+    told false true e f all later = let same : a ≡ dim = grind (arith, nat_tests) in absurd (let g = ap (λ k. is_some (spot_in selected k)) same in cc)
     told false false e f all later = let l : (a + 1) ≤ dim = grind (arith, nat_tests) in later l all
 
-one_above : (m : Option ℤ) (dims : List Bounds) (selected : List ℕ) (a n dim : ℕ) → a ≤ dim → dim < a + n → is_some (place_in selected dim) ≡ true
+one_above : (m : Option ℤ) (dims : List Bounds) (selected : List ℕ) (a n dim : ℕ) → a ≤ dim → dim < a + n → is_some (spot_in selected dim) ≡ true
     → AllAbove m (map upper_edge (chosen dims selected a n)) → AtMost m ((upper_edge (dim_at dims dim)).at)
 one_above m dims selected a zero dim low high there all = absurd (omega arith)
-one_above m dims selected a (suc n) dim low high there all = told (is_some (place_in selected a)) (a == dim) refl refl all (λ l. one_above m dims selected (a + 1) n dim l (omega (arith, high)) there)
+one_above m dims selected a (suc n) dim low high there all = told (is_some (spot_in selected a)) (a == dim) refl refl all (λ l. one_above m dims selected (a + 1) n dim l (omega (arith, high)) there)
   where
-    told : (b c : Bool) → is_some (place_in selected a) ≡ b → (a == dim) ≡ c
-        → AllAbove m (map upper_edge (map (dim_at dims) (cond b (a ∷ filter (λ dim. is_some (place_in selected dim)) (range_with_len (a + 1) n)) (filter (λ dim. is_some (place_in selected dim)) (range_with_len (a + 1) n)))))
+    told : (b c : Bool) → is_some (spot_in selected a) ≡ b → (a == dim) ≡ c
+        → AllAbove m (map upper_edge (map (dim_at dims) (cond b (a ∷ filter (λ dim. is_some (spot_in selected dim)) (range_with_len (a + 1) n)) (filter (λ dim. is_some (spot_in selected dim)) (range_with_len (a + 1) n)))))
         → ((a + 1) ≤ dim → AllAbove m (map upper_edge (chosen dims selected (a + 1) n)) → AtMost m ((upper_edge (dim_at dims dim)).at))
         → AtMost m ((upper_edge (dim_at dims dim)).at)
     told true true e f all later = let same : a ≡ dim = grind (arith, nat_tests) in subst (λ (k : ℕ). AtMost m ((upper_edge (dim_at dims k)).at)) same all.0
     told true false e f all later = let l : (a + 1) ≤ dim = grind (arith, nat_tests) in later l all.1
-    told false true e f all later = let same : a ≡ dim = grind (arith, nat_tests) in absurd (let g = ap (λ k. is_some (place_in selected k)) same in cc)
+    told false true e f all later = let same : a ≡ dim = grind (arith, nat_tests) in absurd (let g = ap (λ k. is_some (spot_in selected k)) same in cc)
     told false false e f all later = let l : (a + 1) ≤ dim = grind (arith, nat_tests) in later l all
 
 -- a side of a meet that there may be
@@ -109,16 +109,16 @@ module _ (u : DomainAndMaps) (selected : List ℕ) (t : IsTransform u) (bounds :
     firsts_count = refl;
     news_count = refl;
     few = one_fewer u selected t known some;
-    fit = λ dim place h e. grind (arith, nat_tests);
-    plain = λ place. refl;
-    apart = λ place p. grind (arith, nat_tests);
+    fit = λ dim spot h e. grind (arith, nat_tests);
+    plain = λ spot. refl;
+    apart = λ spot p. grind (arith, nat_tests);
     inside = inside;
     tight = tight;
   }
     where
-      inside : (dim place : ℕ) → dim < length u.domain.dims → place_in selected dim ≡ Some place
+      inside : (dim spot : ℕ) → dim < length u.domain.dims → spot_in selected dim ≡ Some spot
           → are_ends_inside (meet_of (selected_dims u selected)) (get_or u.domain.dims dim point) (pos 0) (pos 1) ≡ true
-      inside dim place h e = meet_within (selected_dims u selected) (get_or u.domain.dims dim point) (bounds dim h)
+      inside dim spot h e = meet_within (selected_dims u selected) (get_or u.domain.dims dim point) (bounds dim h)
           (one_below ((low_of (selected_dims u selected)).at) u.domain.dims selected 0 (length u.domain.dims) dim (omega arith) (omega (arith, h)) (ap is_some e) (low_holds (selected_dims u selected)))
           (one_above ((high_of (selected_dims u selected)).at) u.domain.dims selected 0 (length u.domain.dims) dim (omega arith) (omega (arith, h)) (ap is_some e) (high_holds (selected_dims u selected)))
 
@@ -158,7 +158,7 @@ pub same_values : (u : DomainAndMaps) (selected : List ℕ) (index : List ℤ) �
 same_values u selected index = each (range_with_len 0 (length u.domain.dims))
   where
     one : (dims es : List Bounds) (dim : ℕ) (o : Option ℕ) → map_value dims index (left_by (others selected (length u.domain.dims)) 1 diagonal_map dim o) ≡ map_value es index (left_by (others selected (length u.domain.dims)) 1 diagonal_map dim o)
-    one dims es dim (Some place) = refl
+    one dims es dim (Some spot) = refl
     one dims es dim None = refl
 
     each : (xs : List ℕ) → map (map_value ((diagonal_built u selected).domain.dims) index) (map (left_map selected (others selected (length u.domain.dims)) 1 diagonal_map) xs)
@@ -166,7 +166,7 @@ same_values u selected index = each (range_with_len 0 (length u.domain.dims))
     each [] = refl
     each (x ∷ xs) =
         ap (λ y. y ∷ map (map_value ((diagonal_built u selected).domain.dims) index) (map (left_map selected (others selected (length u.domain.dims)) 1 diagonal_map) xs))
-        (one ((diagonal_built u selected).domain.dims) ((diagonal_view u selected).domain.dims) x (place_in selected x))
+        (one ((diagonal_built u selected).domain.dims) ((diagonal_view u selected).domain.dims) x (spot_in selected x))
         ∙ ap (λ ys. map_value ((diagonal_view u selected).domain.dims) index (left_map selected (others selected (length u.domain.dims)) 1 diagonal_map x) ∷ ys) (each xs)
 
 pub agrees_diagonal : (t u : DomainAndMaps) (selected : List ℕ) → Follows t u (diagonal_built u selected) → Follows t u (diagonal_view u selected)

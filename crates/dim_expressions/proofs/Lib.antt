@@ -11,5 +11,6 @@ pub mod Outcomes
 pub mod PassedLaws
 pub mod TargetLaws
 pub mod TransposeLaws
+pub mod UnreadLaws
 pub mod VindexLaws
 pub mod WithoutLaws

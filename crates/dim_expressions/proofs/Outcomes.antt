@@ -15,7 +15,8 @@ use Rattle.step_forms.specs.declared.act.Act.{Act}
 use Rattle.step_forms.specs.declared.act.Act.TheVariants as act
 use Rattle.step_forms.specs.declared.act.Numbers.{Numbers}
 use Rattle.dim_changes.specs.Causes.{IsFaultOf, Gives}
-use Rattle.dim_changes.specs.Cuts.{is_cut, cut_view, cut_answer}
+use Rattle.dim_changes.specs.Cuts.{is_cut}
+use Rattle.dim_changes.specs.CutViews.{cut_view, cut_answer}
 use Rattle.dim_changes.specs.Dims.{position_of}
 use Rattle.dim_changes.specs.Marks.{with_labels, new_labels, label_answer, with_marks, mark_answer}
 use Rattle.dim_changes.specs.declared.cause.Cause.TheVariants.{Count, Label}

@@ -1,5 +1,5 @@
 -- A dimension that is passed on as it is, and an index array along a dimension of its own.
-use Rattle.std.proofs.Common.{◌≡◌, ◌≢◌, ◌∙◌, zero, suc, ℕ, ◌+◌, ◌*◌, ◌<◌, ◌≤◌, ◌==◌, ◌&&◌, ◌||◌, Bool, true, false, cond, not, List, [], ◌∷◌, length, map, get_or, refl, sym, arith, ℤ, pos, ◌≤ℤ◌, ◌+ℤ◌, ◌-ℤ◌, ◌*ℤ◌}
+use Rattle.std.proofs.Common.{◌≡◌, ◌≢◌, ◌∙◌, zero, suc, ℕ, ◌+◌, ◌*◌, ◌<◌, ◌≤◌, ◌==◌, ◌&&◌, ◌||◌, Bool, true, false, cond, not, List, [], ◌∷◌, length, map, get_or, refl, sym, arith, ℤ, pos, ◌≤ℤ◌, ◌+ℤ◌, ◌-ℤ◌, ◌*ℤ◌, nat_le}
 use Rattle.std.proofs.Math.IntN.{*ℤ_comm, *ℤ-one, one}
 use Rattle.std.proofs.lemmas.Int.{ints}
 use Rattle.std.proofs.lemmas.Bool.Decides.{nat_tests}
@@ -103,10 +103,16 @@ along a (suc n) dim len l h = told (a == dim) refl (λ less. along (a + 1) n dim
 pub cell_count-along : (rank dim len : ℕ) → dim < rank → cell_count (sizes_along rank dim len) ≡ len
 cell_count-along rank dim len h = along 0 rank dim len (omega arith) (omega (arith, h))
 
+-- the last index of a list that isn't too long
+pub last-index : (entries : List ℤ) → nat_le (length entries) 4194304 ≡ true → is_index (pos (length entries) -ℤ pos 1) ≡ true
+last-index entries e =
+    let few : length entries ≤ 4194304 = grind (arith, nat_tests) in
+    IsIndex-true (pos (length entries) -ℤ pos 1) (record { above = omega (arith, ints); below = omega (arith, ints, few) })
+
 -- an index array along a dimension of its own fits
-pub fits-along : (dims : List Bounds) (dim : ℕ) (entries : List ℤ) → length entries ≤ 4194304 → get_or dims dim (array_dim entries) ≡ array_dim entries
+pub fits-along : (dims : List Bounds) (dim : ℕ) (entries : List ℤ) → is_index (pos (length entries) -ℤ pos 1) ≡ true → get_or dims dim (array_dim entries) ≡ array_dim entries
     → fits dims (sizes_along (length dims) dim (length entries)) ≡ true
-fits-along dims dim entries few e =
+fits-along dims dim entries index e =
     let l = range-length (λ d. cond (d == dim) (length entries) 1) 0 (length dims) in
     let same : (length dims == length (sizes_along (length dims) dim (length entries))) ≡ true = grind (arith, nat_tests, l) in
     rw same (each 0 dims (λ i h. let z : 0 + i ≡ i = omega arith in λ q. here i h (sym z ∙ q)))
@@ -116,7 +122,6 @@ fits-along dims dim entries few e =
 
     fixed : fits_dim (array_dim entries) (length entries) ≡ true
     fixed =
-        let index : is_index (pos (length entries) -ℤ pos 1) ≡ true = IsIndex-true (pos (length entries) -ℤ pos 1) (record { above = omega (arith, ints); below = omega (arith, ints, few) }) in
         let size : pos (length entries) -ℤ pos 1 +ℤ pos 1 -ℤ pos 0 ≡ pos (length entries) = omega (arith, ints) in
         let same : (length entries == length entries) ≡ true = grind (arith, nat_tests) in
         rw (index, size, same) (either (length entries == 1))

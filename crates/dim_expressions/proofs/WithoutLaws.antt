@@ -12,10 +12,10 @@ use Rattle.index_transform.specs.Maps.{is_map, is_plain, are_labels, has_ranks}
 use Rattle.transform_composition.specs.Reading.{point}
 use Rattle.transform_composition.specs.Composing.{nowhere}
 use Rattle.index_transform.specs.Transforms.{DomainAndMaps, IsTransform, KeepsRules}
-use Rattle.dim_changes.specs.Dims.{place_in, others, dim_at, label_at}
+use Rattle.dim_changes.specs.Dims.{spot_in, others, dim_at, label_at}
 use Rattle.index_transform.specs.declared.domain.Domain.{Domain}
 use Rattle.dim_expressions.specs.Left.{passed, left_by, left_map, rank_of, without}
-use Rattle.dim_changes.proofs.Laws.{made-of, range-length, range-at, range-all, rest_at, rest_distinct, place_distinct, left_place, AreLabels-from, AreLabels-taken, are_labels-true, IsTight, IsTight-one, preimage_lower-same, preimage_upper-same, is_strided_from, preimages-one, IsTightened, IsTightened-same, BecomesTight}
+use Rattle.dim_changes.proofs.Laws.{made-of, range-length, range-at, range-all, rest_at, rest_distinct, spot_distinct, left_spot, AreLabels-from, AreLabels-taken, are_labels-true, IsTight, IsTight-one, preimage_lower-same, preimage_upper-same, is_strided_from, preimages-one, IsTightened, IsTightened-same, BecomesTight}
 use Rattle.dim_expressions.proofs.PassedLaws.{ends_inside-same}
 use Rattle.cells.proofs.Laws.{both}
 
@@ -48,13 +48,13 @@ module _ (u : DomainAndMaps) (selected : List ℕ) (count : ℕ) (put : ℕ → 
   pub maps_length : length maps ≡ rank
   maps_length = range-length (left_map selected rest count put) 0 rank
 
-  pub map_at : (i : ℕ) (m : OutMap) → i < rank → get_or maps i m ≡ left_by rest count put i (place_in selected i)
+  pub map_at : (i : ℕ) (m : OutMap) → i < rank → get_or maps i m ≡ left_by rest count put i (spot_in selected i)
   map_at i m h = range-at (left_map selected rest count put) 0 rank i m h ∙ (let z : 0 + i ≡ i = omega arith in ap (left_map selected rest count put) z)
 
   pub stay_length : length stay ≡ length rest
   stay_length = length-map rest (dim_at u.domain.dims)
 
-  -- the dimension at a place among those that stay
+  -- the dimension at a spot among those that stay
   pub stay_at : (news : List Bounds) (p : ℕ) (d : Bounds) → length news ≡ count → p < length rest → get_or (news ++ stay) (count + p) d ≡ get_or u.domain.dims (get_or rest p 0) point
   stay_at news p d same h =
       ap (λ n. get_or (news ++ stay) (n + p) d) (sym same) ∙ get_or-append-add news stay p d ∙ get_or-map (dim_at u.domain.dims) rest p 0 d h
@@ -67,46 +67,46 @@ pub record GoIn (u : DomainAndMaps) (selected : List ℕ) (count : ℕ) (put : �
   pub firsts_count : length firsts ≡ count
   pub news_count : length news ≡ count
   pub few : count + length (rest u selected count put) ≤ 32
-  pub fit : (dim place : ℕ) → dim < length u.domain.dims → place_in selected dim ≡ Some place → is_map (firsts ++ stay u selected count put) (put place) ≡ true
-  pub plain : (place : ℕ) → is_plain (put place) ≡ true
-  pub apart : (place p : ℕ) → is_strided_from (count + p) (put place) ≡ false
-  pub inside : (dim place : ℕ) → dim < length u.domain.dims → place_in selected dim ≡ Some place
-      → is_inside_by (news ++ stay u selected count put) (get_or u.domain.dims dim point) (put place) ≡ true
+  pub fit : (dim spot : ℕ) → dim < length u.domain.dims → spot_in selected dim ≡ Some spot → is_map (firsts ++ stay u selected count put) (put spot) ≡ true
+  pub plain : (spot : ℕ) → is_plain (put spot) ≡ true
+  pub apart : (spot p : ℕ) → is_strided_from (count + p) (put spot) ≡ false
+  pub inside : (dim spot : ℕ) → dim < length u.domain.dims → spot_in selected dim ≡ Some spot
+      → is_inside_by (news ++ stay u selected count put) (get_or u.domain.dims dim point) (put spot) ≡ true
   pub tight : (i : ℕ) → i < count → IsTightened i (get_or firsts i point) (get_or news i point) u.domain.dims (maps u selected count put)
 
 module _ (u : DomainAndMaps) (selected : List ℕ) (count : ℕ) (put : ℕ → OutMap) (firsts news : List Bounds) (t : IsTransform u)
     (bounds : (i : ℕ) → i < length u.domain.dims → AreBounds (get_or u.domain.dims i point)) (g : GoIn u selected count put firsts news) where
   -- a dimension that stays goes from its new one
   fit_at : (dim : ℕ) → dim < length u.domain.dims → is_map (firsts ++ stay u selected count put) (left_map selected (rest u selected count put) count put dim) ≡ true
-  fit_at dim h = told (place_in selected dim) refl
+  fit_at dim h = told (spot_in selected dim) refl
     where
-      told : (o : Option ℕ) → place_in selected dim ≡ o → is_map (firsts ++ stay u selected count put) (left_by (rest u selected count put) count put dim o) ≡ true
-      told (Some place) e = g.fit dim place h e
+      told : (o : Option ℕ) → spot_in selected dim ≡ o → is_map (firsts ++ stay u selected count put) (left_by (rest u selected count put) count put dim o) ≡ true
+      told (Some spot) e = g.fit dim spot h e
       told None e =
-          let p = left_place selected (length u.domain.dims) dim h e in
+          let p = left_spot selected (length u.domain.dims) dim h e in
           let w = whole_length u selected count put firsts g.firsts_count in
-          let f : unwrap_or (place_in (rest u selected count put) dim) 0 ≡ p.place = ap (λ o. unwrap_or o 0) p.found in
-          let l : p.place < length (rest u selected count put) = p.inside in
+          let f : unwrap_or (spot_in (rest u selected count put) dim) 0 ≡ p.spot = ap (λ o. unwrap_or o 0) p.found in
+          let l : p.spot < length (rest u selected count put) = p.inside in
           grind (arith, nat_tests)
 
   plain_at : (dim : ℕ) → is_plain (left_map selected (rest u selected count put) count put dim) ≡ true
-  plain_at dim = told (place_in selected dim)
+  plain_at dim = told (spot_in selected dim)
     where
       told : (o : Option ℕ) → is_plain (left_by (rest u selected count put) count put dim o) ≡ true
-      told (Some place) = g.plain place
+      told (Some spot) = g.plain spot
       told None = refl
 
   -- no other map goes from the new dimension of one that stays
   apart_at : (p j : ℕ) → p < length (rest u selected count put) → j < length u.domain.dims → j ≢ get_or (rest u selected count put) p 0
       → is_strided_from (count + p) (left_map selected (rest u selected count put) count put j) ≡ false
-  apart_at p j h k ne = told (place_in selected j) refl
+  apart_at p j h k ne = told (spot_in selected j) refl
     where
-      told : (o : Option ℕ) → place_in selected j ≡ o → is_strided_from (count + p) (left_by (rest u selected count put) count put j o) ≡ false
-      told (Some place) e = g.apart place p
+      told : (o : Option ℕ) → spot_in selected j ≡ o → is_strided_from (count + p) (left_by (rest u selected count put) count put j o) ≡ false
+      told (Some spot) e = g.apart spot p
       told None e =
-          let q = left_place selected (length u.domain.dims) j k e in
-          let f : unwrap_or (place_in (rest u selected count put) j) 0 ≡ q.place = ap (λ o. unwrap_or o 0) q.found in
-          let ne2 : q.place ≢ p = λ s. ne (sym (q.there 0) ∙ ap (λ n. get_or (rest u selected count put) n 0) s) in
+          let q = left_spot selected (length u.domain.dims) j k e in
+          let f : unwrap_or (spot_in (rest u selected count put) j) 0 ≡ q.spot = ap (λ o. unwrap_or o 0) q.found in
+          let ne2 : q.spot ≢ p = λ s. ne (sym (q.there 0) ∙ ap (λ n. get_or (rest u selected count put) n 0) s) in
           grind (arith, nat_tests)
 
   stay_tight : (p : ℕ) → p < length (rest u selected count put) → IsTight (count + p) (get_or u.domain.dims (get_or (rest u selected count put) p 0) point) u.domain.dims (maps u selected count put)
@@ -115,7 +115,7 @@ module _ (u : DomainAndMaps) (selected : List ℕ) (count : ℕ) (put : ℕ → 
       let left = rest_at selected 0 (length u.domain.dims) p 0 h in
       let below : get_or (rest u selected count put) p 0 < length u.domain.dims = let b = left.below in omega (arith, b) in
       let lm = maps_length u selected count put in
-      let own : place_in (rest u selected count put) (get_or (rest u selected count put) p 0) ≡ Some p = place_distinct (rest u selected count put) p 0 (rest_distinct selected 0 (length u.domain.dims)) h in
+      let own : spot_in (rest u selected count put) (get_or (rest u selected count put) p 0) ≡ Some p = spot_distinct (rest u selected count put) p 0 (rest_distinct selected 0 (length u.domain.dims)) h in
       let m : get_or (maps u selected count put) dim nowhere ≡ passed (count + p) =
       map_at u selected count put dim nowhere below ∙ ap (left_by (rest u selected count put) count put dim) left.kept ∙ ap (λ o. passed (count + unwrap_or o 0)) own in
       let k : dim < length (maps u selected count put) = omega (arith, below, lm) in
@@ -129,15 +129,15 @@ module _ (u : DomainAndMaps) (selected : List ℕ) (count : ℕ) (put : ℕ → 
       (λ _. preimage_lower-same (get_or u.domain.dims dim point)) (λ _. preimage_upper-same (get_or u.domain.dims dim point))
 
   inside_at : (dim : ℕ) → dim < length u.domain.dims → is_inside_by (news ++ stay u selected count put) (get_or u.domain.dims dim point) (left_map selected (rest u selected count put) count put dim) ≡ true
-  inside_at dim h = told (place_in selected dim) refl
+  inside_at dim h = told (spot_in selected dim) refl
     where
-      told : (o : Option ℕ) → place_in selected dim ≡ o → is_inside_by (news ++ stay u selected count put) (get_or u.domain.dims dim point) (left_by (rest u selected count put) count put dim o) ≡ true
-      told (Some place) e = g.inside dim place h e
+      told : (o : Option ℕ) → spot_in selected dim ≡ o → is_inside_by (news ++ stay u selected count put) (get_or u.domain.dims dim point) (left_by (rest u selected count put) count put dim o) ≡ true
+      told (Some spot) e = g.inside dim spot h e
       told None e =
-          let p = left_place selected (length u.domain.dims) dim h e in
-          let at : get_or (news ++ stay u selected count put) (count + unwrap_or (place_in (rest u selected count put) dim) 0) (get_or u.domain.dims dim point) ≡ get_or u.domain.dims dim point =
+          let p = left_spot selected (length u.domain.dims) dim h e in
+          let at : get_or (news ++ stay u selected count put) (count + unwrap_or (spot_in (rest u selected count put) dim) 0) (get_or u.domain.dims dim point) ≡ get_or u.domain.dims dim point =
           ap (λ o. get_or (news ++ stay u selected count put) (count + unwrap_or o 0) (get_or u.domain.dims dim point)) p.found
-          ∙ stay_at u selected count put news p.place (get_or u.domain.dims dim point) g.news_count p.inside ∙ ap (λ n. get_or u.domain.dims n point) (p.there 0) in
+          ∙ stay_at u selected count put news p.spot (get_or u.domain.dims dim point) g.news_count p.inside ∙ ap (λ n. get_or u.domain.dims n point) (p.there 0) in
           rw at (ends_inside-same (get_or u.domain.dims dim point) (bounds dim h))
 
   tight_at : (i : ℕ) → i < length (firsts ++ stay u selected count put)
@@ -228,9 +228,9 @@ module _ (u : DomainAndMaps) (selected : List ℕ) (count : ℕ) (put : ℕ → 
           let two = name_behind j n in
           let l = names_length in
           let distinct = rest_distinct selected 0 (length u.domain.dims) in
-          let a = place_distinct (rest u selected count put) (i - count) 0 distinct (omega (arith, h, l, one)) in
-          let b = place_distinct (rest u selected count put) (j - count) 0 distinct (omega (arith, k, l, two)) in
-          let c : Some (i - count) ≡ Some (j - count) = sym a ∙ ap (place_in (rest u selected count put)) e ∙ b in
+          let a = spot_distinct (rest u selected count put) (i - count) 0 distinct (omega (arith, h, l, one)) in
+          let b = spot_distinct (rest u selected count put) (j - count) 0 distinct (omega (arith, k, l, two)) in
+          let c : Some (i - count) ≡ Some (j - count) = sym a ∙ ap (spot_in (rest u selected count put)) e ∙ b in
           let d : i - count ≡ j - count = cc in
           omega (arith, d, one, two)
 

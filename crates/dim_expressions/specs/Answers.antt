@@ -11,7 +11,7 @@ use Rattle.dim_changes.specs.declared.cause.Cause.{Cause}
 use Rattle.dim_changes.specs.declared.cause.Fault.{Fault}
 use Rattle.dim_changes.specs.Causes.{IsFaultOf}
 use Rattle.dim_changes.specs.Dims.{position_of}
-use Rattle.dim_changes.specs.Cuts.{cut_view, cut_answer}
+use Rattle.dim_changes.specs.CutViews.{cut_view, cut_answer}
 use Rattle.dim_changes.specs.Marks.{label_answer, mark_answer}
 use Rattle.dim_expressions.specs.Left.{rank_of}
 use Rattle.dim_expressions.specs.At.{at_view, at_answer}
@@ -55,7 +55,8 @@ old_index u selected act.Newaxis index = value_at (newaxis_view u selected) inde
 old_index u selected (act.MarkBoundsImplicit lower upper) index = index
 
 -- a step's result has the domain, labels and maps of the step, and at each index vector between its bounds the old value at
--- the old index vector; where it is finite, the old effective domain has the old index vector of each cell
+-- the old index vector; where it is finite, the old effective domain has the old index vector of each cell; a strided dimension
+-- that is infinite on one side is the exception, since the old index of its first index may be no finite index
 pub record IsStepped (u : DomainAndMaps) (selected : List ℕ) (a : Act) (t : DomainAndMaps) : Type 0 where
   pub answer : step_answer u selected a ≡ Ok t
   pub values : (index : List ℤ) → IsCell t.domain.dims index → value_at t index ≡ value_at u (old_index u selected a index)

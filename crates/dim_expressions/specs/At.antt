@@ -14,8 +14,8 @@ use Rattle.step_forms.specs.declared.act.Numbers.TheVariants as numbers
 use Rattle.dim_expressions.specs.Left.{without}
 
 abbrev pub at_number : Numbers → ℕ → ℤ
-at_number (numbers.All number) place = number
-at_number (numbers.Each list) place = slice_index_or list place (pos 0)
+at_number (numbers.All number) spot = number
+at_number (numbers.Each list) spot = slice_index_or list spot (pos 0)
 
 abbrev pub numbers_count : Numbers → ℕ → Bool
 numbers_count (numbers.All number) count = true
@@ -28,7 +28,7 @@ abbrev pub at_causes : Numbers → List Bounds → List ℕ → List (Option Cau
 at_causes by dims selected = map (at_cause by dims) (enumerate_from 0 selected)
 
 abbrev pub at_map : Numbers → ℕ → OutMap
-at_map by place = Constant (at_number by place)
+at_map by spot = Constant (at_number by spot)
 
 abbrev pub at_view : DomainAndMaps → List ℕ → Numbers → DomainAndMaps
 at_view u selected by = without u selected [] (at_map by)

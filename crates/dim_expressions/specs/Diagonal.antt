@@ -8,7 +8,7 @@ use Rattle.index_transform.specs.Transforms.{DomainAndMaps}
 use Rattle.index_transform.specs.declared.map.OutMap.{OutMap}
 use Rattle.dim_changes.specs.declared.cause.Cause.{Cause}
 use Rattle.dim_changes.specs.declared.cause.Cause.TheVariants.{Count}
-use Rattle.dim_changes.specs.Dims.{place_in, dim_at}
+use Rattle.dim_changes.specs.Dims.{spot_in, dim_at}
 use Rattle.dim_changes.specs.Causes.{over}
 use Rattle.dim_expressions.specs.Left.{all_dims, rank_of, passed, without}
 
@@ -25,10 +25,10 @@ meet_of dims = interval_of ((meet_ends dims).lower) ((meet_ends dims).upper)
 
 -- the intervals that are met
 abbrev pub selected_dims : DomainAndMaps → List ℕ → List Bounds
-selected_dims u selected = map (dim_at u.domain.dims) (filter (λ dim. is_some (place_in selected dim)) (all_dims (rank_of u)))
+selected_dims u selected = map (dim_at u.domain.dims) (filter (λ dim. is_some (spot_in selected dim)) (all_dims (rank_of u)))
 
 abbrev pub diagonal_map : ℕ → OutMap
-diagonal_map place = passed 0
+diagonal_map spot = passed 0
 
 abbrev pub diagonal_view : DomainAndMaps → List ℕ → DomainAndMaps
 diagonal_view u selected = without u selected (meet_of (selected_dims u selected) ∷ []) diagonal_map

@@ -5,7 +5,7 @@ use Rattle.index_intervals.specs.Bounds.{Bounds}
 use Rattle.index_transform.specs.Transforms.{DomainAndMaps}
 use Rattle.index_transform.specs.declared.map.OutMap.{OutMap}
 use Rattle.index_transform.specs.declared.map.OutMap.TheVariants.{Strided}
-use Rattle.dim_changes.specs.Dims.{place_in, others, dim_at, label_at}
+use Rattle.dim_changes.specs.Dims.{spot_in, others, dim_at, label_at}
 
 -- the numbers of dimensions of a rank
 abbrev pub all_dims : ℕ → List ℕ
@@ -18,14 +18,14 @@ rank_of u = length u.domain.dims
 abbrev pub passed : ℕ → OutMap
 passed dim = Strided (pos 0) (pos 1) dim
 
--- where an old dimension's index comes from: a selected one as `put` says by its place in the selection, another from its
--- place among the others, behind so many new dimensions
+-- where an old dimension's index comes from: a selected one as `put` says by its spot in the selection, another from its
+-- spot among the others, behind so many new dimensions
 abbrev pub left_by : List ℕ → ℕ → (ℕ → OutMap) → ℕ → Option ℕ → OutMap
-left_by rest news put dim (Some place) = put place
-left_by rest news put dim None = passed (news + unwrap_or (place_in rest dim) 0)
+left_by rest news put dim (Some spot) = put spot
+left_by rest news put dim None = passed (news + unwrap_or (spot_in rest dim) 0)
 
 abbrev pub left_map : List ℕ → List ℕ → ℕ → (ℕ → OutMap) → ℕ → OutMap
-left_map selected rest news put dim = left_by rest news put dim (place_in selected dim)
+left_map selected rest news put dim = left_by rest news put dim (spot_in selected dim)
 
 -- new dimensions without labels come first, then those that aren't selected
 abbrev pub without : DomainAndMaps → List ℕ → List Bounds → (ℕ → OutMap) → DomainAndMaps

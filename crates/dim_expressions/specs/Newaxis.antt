@@ -4,7 +4,7 @@ use Rattle.index_intervals.specs.Bounds.{Bounds}
 use Rattle.index_transform.specs.Transforms.{DomainAndMaps}
 use Rattle.dim_changes.specs.declared.cause.Cause.{Cause}
 use Rattle.dim_changes.specs.declared.cause.Cause.TheVariants.{Rank}
-use Rattle.dim_changes.specs.Dims.{place_in, others, dim_at, label_at}
+use Rattle.dim_changes.specs.Dims.{spot_in, others, dim_at, label_at}
 use Rattle.dim_changes.specs.Causes.{over}
 use Rattle.dim_expressions.specs.Left.{all_dims, rank_of, passed}
 
@@ -12,7 +12,7 @@ use Rattle.dim_expressions.specs.Left.{all_dims, rank_of, passed}
 abbrev pub new_axis : Bounds
 new_axis = record { lo = pos 0; hi = pos 0; lo_implicit = true; hi_implicit = true }
 
--- what stands at a position of the result, by its place among those of the old dimensions
+-- what stands at a position of the result, by its spot among those of the old dimensions
 abbrev pub axis_by : List Bounds → Option ℕ → Bounds
 axis_by dims (Some dim) = dim_at dims dim
 axis_by dims None = new_axis
@@ -27,8 +27,8 @@ newaxis_view u added =
     let olds = others added rank in
     record {
       domain = record {
-        dims = map (λ position. axis_by u.domain.dims (place_in olds position)) (all_dims rank);
-        labels = map (λ position. axis_label_by u.domain.labels (place_in olds position)) (all_dims rank);
+        dims = map (λ position. axis_by u.domain.dims (spot_in olds position)) (all_dims rank);
+        labels = map (λ position. axis_label_by u.domain.labels (spot_in olds position)) (all_dims rank);
       };
       maps = map (λ dim. passed (slice_index_or olds dim 0)) (all_dims (rank_of u));
     }

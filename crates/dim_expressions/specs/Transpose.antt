@@ -4,18 +4,18 @@ use Rattle.index_transform.specs.Transforms.{DomainAndMaps}
 use Rattle.json_forms.specs.Lists.{all_of}
 use Rattle.dim_changes.specs.declared.cause.Cause.{Cause}
 use Rattle.dim_changes.specs.declared.cause.Cause.TheVariants.{Count, Target}
-use Rattle.dim_changes.specs.Dims.{position_of, place_in, others, dim_at, label_at}
+use Rattle.dim_changes.specs.Dims.{position_of, spot_in, others, dim_at, label_at}
 use Rattle.dim_changes.specs.Causes.{over}
 use Rattle.step_forms.specs.Selection.{has_repeat}
 use Rattle.dim_expressions.specs.Left.{all_dims, rank_of, passed}
 
--- what stands in a list goes to the same place of another one, and each of the others to the next of those that aren't there
+-- what stands in a list goes to the same spot of another one, and each of the others to the next of those that aren't there
 abbrev pub carried_by : List ℕ → List ℕ → List ℕ → ℕ → Option ℕ → ℕ
-carried_by rest to free x (Some place) = slice_index_or to place 0
-carried_by rest to free x None = slice_index_or free (unwrap_or (place_in rest x) 0) 0
+carried_by rest to free x (Some spot) = slice_index_or to spot 0
+carried_by rest to free x None = slice_index_or free (unwrap_or (spot_in rest x) 0) 0
 
 abbrev pub carried : ℕ → List ℕ → List ℕ → ℕ → ℕ
-carried rank from to x = carried_by (others from rank) to (others to rank) x (place_in from x)
+carried rank from to x = carried_by (others from rank) to (others to rank) x (spot_in from x)
 
 -- `transpose`: the old dimension at a position of the result: the selected one whose target it is, or the next of the others
 abbrev pub old_dim : ℕ → List ℕ → List ℕ → ℕ → ℕ

@@ -8,10 +8,14 @@ use Rattle.dim_changes.specs.declared.cause.Cause.TheVariants.{Count}
 use Rattle.dim_changes.specs.Dims.{others}
 use Rattle.dim_changes.specs.Causes.{first_cause, unless_refused, over}
 use Rattle.dim_expressions.specs.Left.{rank_of, without}
-use Rattle.dim_expressions.specs.Arrays.{array_map, array_dim, array_at, array_causes}
+use Rattle.dim_expressions.specs.Arrays.{array_map, array_dim, array_at, array_causes, short_map}
 
 abbrev pub vindex_map : ℕ → List (List ℤ) → ℕ → OutMap
-vindex_map left arrays place = array_map (1 + left) 0 (array_at arrays place)
+vindex_map left arrays spot = array_map (1 + left) 0 (array_at arrays spot)
+
+-- the map that is composed
+abbrev pub built_map : ℕ → List (List ℤ) → ℕ → OutMap
+built_map left arrays spot = short_map (1 + left) 0 (array_at arrays spot)
 
 abbrev pub vindex_view : DomainAndMaps → List ℕ → List (List ℤ) → DomainAndMaps
 vindex_view u selected arrays =
@@ -25,4 +29,4 @@ are_joined arrays count =
 abbrev pub vindex_answer : DomainAndMaps → List ℕ → List (List ℤ) → Result DomainAndMaps Cause
 vindex_answer u selected arrays =
     if not (are_joined arrays (length selected)) then Err Count
-    else unless_refused (first_cause (array_causes arrays u.domain.dims selected)) (over u (vindex_view u selected arrays))
+    else unless_refused (first_cause (array_causes u arrays selected)) (over u (vindex_view u selected arrays))

@@ -15,7 +15,7 @@ use crate::newaxis::newaxis;
 use crate::oindex::oindex;
 use crate::transpose::transpose;
 use crate::vindex::vindex;
-use dim_changes::{Fault, labelled, look_at_all, with_cuts, with_marks};
+use dim_changes::{Fault, labelled, with_cuts, with_marks};
 use index_transform::Transform;
 use std::alloc::Global;
 use step_forms::{Act, SelectError, Step, selected};
@@ -23,7 +23,7 @@ use step_forms::{Act, SelectError, Step, selected};
 // A step that acts on each dimension by itself.
 fn cut_by(alloc: Global, t: &Transform, dims: &[usize], act: &Act) -> Result<Transform, Fault>
     requires is_cut { is_cut act.now ≡ true }
-    requires numbers { (place : ℕ) → HasIndicesAt act.now place }
+    requires numbers { (spot : ℕ) → HasIndicesAt act.now spot }
     requires known { All (λ dim. dim < length t.now.domain.dims) dims.now }
     ensures { IsOutcome t.now dims.now act.now result }
 {
@@ -32,11 +32,10 @@ fn cut_by(alloc: Global, t: &Transform, dims: &[usize], act: &Act) -> Result<Tra
 
 // A step on the dimensions that it selects.
 fn stepped_by(alloc: Global, t: &Transform, dims: &[usize], act: &Act) -> Result<Transform, Fault>
-    requires numbers { (place : ℕ) → HasIndicesAt act.now place }
+    requires numbers { (spot : ℕ) → HasIndicesAt act.now spot }
     requires selected { AreSelected act.now (length t.now.domain.dims) dims.now }
     ensures { IsOutcome t.now dims.now act.now result }
 {
-    look_at_all(t.domain().dims.items());
     match act {
         Act::Label { labels } => labelled(alloc, t, dims, labels.items()),
         Act::TranslateTo { .. } => cut_by(alloc, t, dims, act),

@@ -1,30 +1,27 @@
 // The step that takes one index of each dimension.
 ghost use Rattle.std.specs.List.{All, range_with_len};
-ghost use Rattle.std.specs.Prelude.{◌<◌, ◌≡◌, ◌≤◌, IfOk, None, length, map, slice_index, slice_index_or, true, ℕ};
-ghost use Rattle.index_intervals.specs.Bounds.{AreBounds};
-ghost use Rattle.transform_composition.specs.Reading.{point};
+ghost use Rattle.std.specs.Prelude.{◌<◌, ◌≡◌, ◌≤◌, IfOk, None, length, map, slice_index, true};
 ghost use Rattle.dim_changes.specs.Causes.{Gives, first_cause, outside_cause, over};
 ghost use Rattle.dim_changes.specs.Dims.{others};
 ghost use Rattle.dim_expressions.specs.At.{at_answer, at_cause, at_causes, at_map, at_number, at_view, numbers_count};
 ghost use Rattle.dim_expressions.specs.Left.{left_map};
 
-use crate::arrays::is_effective;
-use crate::left::{left_domain, left_place, passed};
-use dim_changes::{Cause, Fault, dim_at, look_at_all, others, place_in, stepped, with_cause};
+use crate::left::{left_domain, left_spot, passed};
+use dim_changes::{Cause, Fault, dim_at, others, spot_in, stepped, with_cause};
 use index_intervals::Interval;
-use index_transform::{OutMap, Transform};
+use index_transform::{OutMap, Transform, is_effective};
 use std::alloc::{AllocError, Global};
 use step_forms::Numbers;
 
-// The index for the dimension at a place of the selection.
-fn at_number(by: &Numbers, count: usize, place: usize) -> i64
+// The index for the dimension at a spot of the selection.
+fn at_number(by: &Numbers, count: usize, spot: usize) -> i64
     requires counts { numbers_count by.now count ≡ true }
-    requires within { place < count }
-    ensures { result ≡ at_number by.now place }
+    requires within { spot < count }
+    ensures { result ≡ at_number by.now spot }
 {
     match by {
         Numbers::All { number } => *number,
-        Numbers::Each { numbers } => numbers.items()[place],
+        Numbers::Each { numbers } => numbers.items()[spot],
     }
 }
 
@@ -50,15 +47,15 @@ fn outside_cause(dim: &Interval, x: i64) -> Option<Cause>
     })
 }
 
-// Why an index isn't one of the dimension at a place of the selection.
-fn at_cause(by: &Numbers, dims: &[Interval], selected: &[usize], place: usize) -> Option<Cause>
+// Why an index isn't one of the dimension at a spot of the selection.
+fn at_cause(by: &Numbers, dims: &[Interval], selected: &[usize], spot: usize) -> Option<Cause>
     requires counts { numbers_count by.now (length selected.now) ≡ true }
     requires known { All (λ dim. dim < length dims.now) selected.now }
-    requires within { place < length selected.now }
-    ensures { result ≡ at_cause by.now dims.now (place, slice_index selected.now place) }
+    requires within { spot < length selected.now }
+    ensures { result ≡ at_cause by.now dims.now (spot, slice_index selected.now spot) }
 {
-    let dim = dim_at(dims, selected[place]);
-    outside_cause(dim, at_number(by, selected.len(), place))
+    let dim = dim_at(dims, selected[spot]);
+    outside_cause(dim, at_number(by, selected.len(), spot))
 }
 
 fn at_causes(by: &Numbers, dims: &[Interval], selected: &[usize]) -> Option<Cause>
@@ -80,11 +77,11 @@ fn at_map(selected: &[usize], rest: &[usize], by: &Numbers, dim: usize) -> OutMa
     requires few { length rest.now ≤ 32 }
     ensures { result ≡ left_map selected.now rest.now 0 (at_map by.now) dim }
 {
-    match place_in(selected, dim) {
-        Some(place) => OutMap::Constant {
-            offset: at_number(by, selected.len(), place),
+    match spot_in(selected, dim) {
+        Some(spot) => OutMap::Constant {
+            offset: at_number(by, selected.len(), spot),
         },
-        None => passed(left_place(rest, 0, dim)),
+        None => passed(left_spot(rest, 0, dim)),
     }
 }
 
@@ -114,7 +111,6 @@ fn taken_at(
     selected: &[usize],
     by: &Numbers,
 ) -> Result<Transform, Fault>
-    requires bounds { (i : ℕ) → i < length u.now.domain.dims → AreBounds (slice_index_or u.now.domain.dims i point) }
     requires counts { numbers_count by.now (length selected.now) ≡ true }
     requires good { first_cause (at_causes by.now u.now.domain.dims selected.now) ≡ None }
     ensures { Gives u.now (at_view u.now selected.now by.now) (over u.now (at_view u.now selected.now by.now)) result }
@@ -131,7 +127,6 @@ fn taken_from(
     rest: &[usize],
     by: &Numbers,
 ) -> Result<Transform, Fault>
-    requires bounds { (i : ℕ) → i < length u.now.domain.dims → AreBounds (slice_index_or u.now.domain.dims i point) }
     requires counts { numbers_count by.now (length selected.now) ≡ true }
     requires good { first_cause (at_causes by.now u.now.domain.dims selected.now) ≡ None }
     requires rest { rest.now ≡ others selected.now (length u.now.domain.dims) }
@@ -170,6 +165,5 @@ pub(crate) fn at(
     if let Some(cause) = at_causes(by, dims, selected) {
         return Err(Fault::Refused { cause });
     }
-    look_at_all(dims);
     taken_at(alloc, u, selected, by)
 }

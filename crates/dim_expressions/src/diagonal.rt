@@ -1,15 +1,13 @@
 // The step that takes the cells at which dimensions have the same index.
 ghost use Rattle.std.specs.List.{All, range_with_len};
-ghost use Rattle.std.specs.Prelude.{◌+◌, ◌<◌, ◌≡◌, ◌≤◌, IfOk, length, map, slice_index_or, ℕ};
-ghost use Rattle.index_intervals.specs.Bounds.{AreBounds};
-ghost use Rattle.transform_composition.specs.Reading.{point};
+ghost use Rattle.std.specs.Prelude.{◌+◌, ◌<◌, ◌≡◌, ◌≤◌, IfOk, length, map};
 ghost use Rattle.dim_changes.specs.Causes.{Gives, over};
 ghost use Rattle.dim_changes.specs.Dims.{others};
 ghost use Rattle.dim_expressions.specs.Diagonal.{diagonal_answer, diagonal_map, diagonal_view, unbounded};
 ghost use Rattle.dim_expressions.specs.Left.{left_map};
 
-use crate::left::{front_domain, left_place, passed};
-use dim_changes::{Cause, Fault, look_at_all, others, place_in, stepped};
+use crate::left::{front_domain, left_spot, passed};
+use dim_changes::{Cause, Fault, others, spot_in, stepped};
 use index_intervals::{INFINITY, Interval};
 use index_transform::{OutMap, Transform};
 use std::alloc::{AllocError, Global};
@@ -18,9 +16,9 @@ fn diagonal_map(selected: &[usize], rest: &[usize], dim: usize) -> OutMap
     requires { 1 + length rest.now ≤ 32 }
     ensures { result ≡ left_map selected.now rest.now 1 diagonal_map dim }
 {
-    match place_in(selected, dim) {
+    match spot_in(selected, dim) {
         Some(_) => passed(0),
-        None => passed(left_place(rest, 1, dim)),
+        None => passed(left_spot(rest, 1, dim)),
     }
 }
 
@@ -54,7 +52,6 @@ fn unbounded() -> Interval
 
 // The same for some selected dimensions. The first dimension is tightened to their meet.
 fn met(alloc: Global, u: &Transform, selected: &[usize]) -> Result<Transform, Fault>
-    requires bounds { (i : ℕ) → i < length u.now.domain.dims → AreBounds (slice_index_or u.now.domain.dims i point) }
     requires known { All (λ dim. dim < length u.now.domain.dims) selected.now }
     requires some { 0 < length selected.now }
     ensures { Gives u.now (diagonal_view u.now selected.now) (over u.now (diagonal_view u.now selected.now)) result }
@@ -70,7 +67,6 @@ fn met_before(
     selected: &[usize],
     rest: &[usize],
 ) -> Result<Transform, Fault>
-    requires bounds { (i : ℕ) → i < length u.now.domain.dims → AreBounds (slice_index_or u.now.domain.dims i point) }
     requires known { All (λ dim. dim < length u.now.domain.dims) selected.now }
     requires some { 0 < length selected.now }
     requires rest { rest.now ≡ others selected.now (length u.now.domain.dims) }
@@ -99,6 +95,5 @@ pub(crate) fn diagonal(alloc: Global, u: &Transform, selected: &[usize]) -> Resu
             cause: Cause::Count,
         });
     }
-    look_at_all(u.domain().dims.items());
     met(alloc, u, selected)
 }

@@ -1,13 +1,14 @@
 // Dimensions that stay, and new ones before them.
-ghost use Rattle.std.specs.List.{All};
-ghost use Rattle.std.specs.Prelude.{◌++◌, ◌+◌, ◌<◌, ◌∷◌, ◌≡◌, ◌≤◌, IfOk, [], length, map, unwrap_or};
-ghost use Rattle.dim_changes.specs.Dims.{dim_at, label_at, place_in};
+ghost use Rattle.std.specs.List.{All, list_all};
+ghost use Rattle.std.specs.Prelude.{◌++◌, ◌+◌, ◌<◌, ◌∷◌, ◌≡◌, ◌≤◌, IfOk, IsTrue, [], length, map, unwrap_or};
+ghost use Rattle.index_intervals.specs.Bounds.{are_bounds};
+ghost use Rattle.dim_changes.specs.Dims.{dim_at, label_at, spot_in};
 ghost use Rattle.dim_expressions.specs.Left.{passed};
 
 use cells::{List, Name};
-use dim_changes::{copied_label, dim_at, label_at, place_in};
+use dim_changes::{copied_label, dim_at, label_at, spot_in};
 use index_intervals::Interval;
-use index_transform::{Domain, OutMap, Transform};
+use index_transform::{Domain, OutMap, Transform, look_at_all};
 use std::alloc::{AllocError, Global};
 
 // New dimensions, and those that stay behind them.
@@ -42,14 +43,14 @@ fn left_labels(
 }
 
 // The new position of a dimension that stays, behind so many new ones.
-pub(crate) fn left_place(rest: &[usize], news: usize, dim: usize) -> usize
+pub(crate) fn left_spot(rest: &[usize], news: usize, dim: usize) -> usize
     requires few { news + length rest.now ≤ 32 }
     requires room { news < 32 }
-    ensures value { result ≡ news + unwrap_or (place_in rest.now dim) 0 }
+    ensures value { result ≡ news + unwrap_or (spot_in rest.now dim) 0 }
     ensures bound { result < 32 }
 {
-    match place_in(rest, dim) {
-        Some(place) => news + place,
+    match spot_in(rest, dim) {
+        Some(spot) => news + spot,
         None => news,
     }
 }
@@ -126,4 +127,11 @@ pub(crate) fn front_domain(
         dims: List::wrap(dims),
         labels: List::wrap(labels),
     })
+}
+
+// Looks at the dimensions of a domain: what their type says of one then holds of all.
+pub(crate) fn look_at_dims(domain: &Domain)
+    ensures { IsTrue (list_all are_bounds domain.now.dims) }
+{
+    look_at_all(domain.dims.items());
 }

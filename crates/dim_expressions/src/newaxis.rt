@@ -1,23 +1,18 @@
 // The step that puts new dimensions between the others.
 ghost use Rattle.std.specs.List.{All, range_with_len};
-ghost use Rattle.std.specs.Prelude.{◌+◌, ◌<◌, ◌≡◌, ◌≤◌, IfOk, false, length, map, slice_index_or, ℕ};
-ghost use Rattle.index_intervals.specs.Bounds.{AreBounds};
-ghost use Rattle.transform_composition.specs.Reading.{point};
+ghost use Rattle.std.specs.Prelude.{◌+◌, ◌<◌, ◌≡◌, ◌≤◌, IfOk, false, length, map};
 ghost use Rattle.index_transform.specs.Transforms.{IsTransform};
 ghost use Rattle.dim_changes.specs.Causes.{Gives, over};
-ghost use Rattle.dim_changes.specs.Dims.{others, place_in};
+ghost use Rattle.dim_changes.specs.Dims.{others, spot_in};
 ghost use Rattle.dim_expressions.specs.Newaxis.{axis_by, axis_label_by, new_axis, newaxis_answer, newaxis_view};
 ghost use Rattle.step_forms.specs.Selection.{has_repeat};
 
 use crate::left::passed_each;
-use cells::{List, Name};
-use dim_changes::{Cause, Fault, copied_label, others, place_in, stepped};
+use cells::{LARGEST_RANK, List, Name};
+use dim_changes::{Cause, Fault, copied_label, others, spot_in, stepped};
 use index_intervals::Interval;
 use index_transform::{Domain, Transform};
 use std::alloc::{AllocError, Global};
-
-// The most dimensions.
-const LARGEST_RANK: usize = 32;
 
 fn new_axis() -> Interval
     ensures { result ≡ new_axis }
@@ -32,9 +27,9 @@ fn new_axis() -> Interval
 
 fn axis_at(dims: &[Interval], olds: &[usize], position: usize) -> Interval
     requires { length olds.now ≤ length dims.now }
-    ensures { result ≡ axis_by dims.now (place_in olds.now position) }
+    ensures { result ≡ axis_by dims.now (spot_in olds.now position) }
 {
-    match place_in(olds, position) {
+    match spot_in(olds, position) {
         Some(dim) => dims[dim],
         None => new_axis(),
     }
@@ -48,7 +43,7 @@ fn axes(
     count: usize,
 ) -> Result<Vec<Interval>, AllocError>
     requires { length olds.now ≤ length dims.now }
-    ensures { IfOk result (λ v. v.items ≡ map (λ position. axis_by dims.now (place_in olds.now position)) (range_with_len 0 count)) }
+    ensures { IfOk result (λ v. v.items ≡ map (λ position. axis_by dims.now (spot_in olds.now position)) (range_with_len 0 count)) }
 {
     let mut news = Vec::with_capacity(alloc, count)?;
     for position in 0..count {
@@ -64,9 +59,9 @@ fn axis_label(
     position: usize,
 ) -> Result<Name, AllocError>
     requires { length olds.now ≤ length labels.now }
-    ensures { IfOk result (λ label. label ≡ axis_label_by labels.now (place_in olds.now position)) }
+    ensures { IfOk result (λ label. label ≡ axis_label_by labels.now (spot_in olds.now position)) }
 {
-    match place_in(olds, position) {
+    match spot_in(olds, position) {
         Some(dim) => copied_label(alloc, &labels[dim]),
         None => Ok(Name::wrap(String::new(alloc))),
     }
@@ -80,7 +75,7 @@ fn axis_labels(
     count: usize,
 ) -> Result<Vec<Name>, AllocError>
     requires { length olds.now ≤ length labels.now }
-    ensures { IfOk result (λ v. v.items ≡ map (λ position. axis_label_by labels.now (place_in olds.now position)) (range_with_len 0 count)) }
+    ensures { IfOk result (λ v. v.items ≡ map (λ position. axis_label_by labels.now (spot_in olds.now position)) (range_with_len 0 count)) }
 {
     let mut news = Vec::with_capacity(alloc, count)?;
     for position in 0..count {
@@ -93,17 +88,17 @@ fn axis_labels(
 fn axis_domain(
     alloc: Global,
     u: &Transform,
-    places: &[usize],
+    spots: &[usize],
     count: usize,
 ) -> Result<Domain, AllocError>
-    requires { length places.now ≤ length u.now.domain.dims }
+    requires { length spots.now ≤ length u.now.domain.dims }
     ensures { IfOk result (λ domain. domain ≡ record {
-      dims = map (λ position. axis_by u.now.domain.dims (place_in places.now position)) (range_with_len 0 count);
-      labels = map (λ position. axis_label_by u.now.domain.labels (place_in places.now position)) (range_with_len 0 count);
+      dims = map (λ position. axis_by u.now.domain.dims (spot_in spots.now position)) (range_with_len 0 count);
+      labels = map (λ position. axis_label_by u.now.domain.labels (spot_in spots.now position)) (range_with_len 0 count);
     }) }
 {
-    let dims = axes(alloc, u.domain().dims.items(), places, count)?;
-    let labels = axis_labels(alloc, u.domain().labels.items(), places, count)?;
+    let dims = axes(alloc, u.domain().dims.items(), spots, count)?;
+    let labels = axis_labels(alloc, u.domain().labels.items(), spots, count)?;
     Ok(Domain {
         dims: List::wrap(dims),
         labels: List::wrap(labels),
@@ -112,15 +107,14 @@ fn axis_domain(
 
 // The transform with new dimensions at positions of the result, 32 at most in all.
 fn with_axes(alloc: Global, u: &Transform, added: &[usize]) -> Result<Transform, Fault>
-    requires bounds { (i : ℕ) → i < length u.now.domain.dims → AreBounds (slice_index_or u.now.domain.dims i point) }
     requires known { All (λ dim. dim < length u.now.domain.dims + length added.now) added.now }
     requires once { has_repeat added.now ≡ false }
     requires few { length u.now.domain.dims + length added.now ≤ 32 }
     ensures { Gives u.now (newaxis_view u.now added.now) (over u.now (newaxis_view u.now added.now)) result }
 {
     let count = u.domain().dims.items().len() + added.len();
-    let places = others(alloc, added, count)?;
-    axes_between(alloc, u, added, &places, count)
+    let spots = others(alloc, added, count)?;
+    axes_between(alloc, u, added, &spots, count)
 }
 
 // The same with the positions of the old dimensions.
@@ -128,20 +122,19 @@ fn axes_between(
     alloc: Global,
     u: &Transform,
     added: &[usize],
-    places: &[usize],
+    spots: &[usize],
     count: usize,
 ) -> Result<Transform, Fault>
     requires well_formed { IsTransform u.now }
-    requires bounds { (i : ℕ) → i < length u.now.domain.dims → AreBounds (slice_index_or u.now.domain.dims i point) }
     requires known { All (λ dim. dim < length u.now.domain.dims + length added.now) added.now }
     requires once { has_repeat added.now ≡ false }
     requires few { length u.now.domain.dims + length added.now ≤ 32 }
     requires count { count ≡ length u.now.domain.dims + length added.now }
-    requires places { places.now ≡ others added.now count }
+    requires spots { spots.now ≡ others added.now count }
     ensures { Gives u.now (newaxis_view u.now added.now) (over u.now (newaxis_view u.now added.now)) result }
 {
-    let domain = axis_domain(alloc, u, places, count)?;
-    let maps = passed_each(alloc, places)?;
+    let domain = axis_domain(alloc, u, spots, count)?;
+    let maps = passed_each(alloc, spots)?;
     stepped(alloc, u, domain, maps)
 }
 
@@ -154,7 +147,6 @@ fn axes_between(
 /// - `Rank` where there would be more than 32 dimensions.
 /// - `Memory`, which may come before another is seen.
 pub(crate) fn newaxis(alloc: Global, u: &Transform, added: &[usize]) -> Result<Transform, Fault>
-    requires bounds { (i : ℕ) → i < length u.now.domain.dims → AreBounds (slice_index_or u.now.domain.dims i point) }
     requires known { All (λ dim. dim < length u.now.domain.dims + length added.now) added.now }
     requires once { has_repeat added.now ≡ false }
     ensures { Gives u.now (newaxis_view u.now added.now) (newaxis_answer u.now added.now) result }

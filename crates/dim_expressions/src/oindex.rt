@@ -1,16 +1,14 @@
 // The step that takes the indices of lists.
 ghost use Rattle.std.specs.List.{All, range_with_len};
-ghost use Rattle.std.specs.Prelude.{◌<◌, ◌≡◌, ◌≤◌, IfOk, None, length, map, slice_index_or, ℕ};
-ghost use Rattle.index_intervals.specs.Bounds.{AreBounds};
-ghost use Rattle.transform_composition.specs.Reading.{point};
+ghost use Rattle.std.specs.Prelude.{◌<◌, ◌≡◌, ◌≤◌, IfOk, None, length, map};
 ghost use Rattle.dim_changes.specs.Causes.{Gives, first_cause, over};
 ghost use Rattle.dim_expressions.specs.Arrays.{array_causes};
-ghost use Rattle.dim_expressions.specs.Oindex.{indexed_dim, indexed_label, indexed_map, oindex_answer, oindex_view};
+ghost use Rattle.dim_expressions.specs.Oindex.{built_map, indexed_dim, indexed_label, oindex_answer, oindex_view};
 
-use crate::arrays::{array_causes, array_dim, array_map};
-use crate::left::passed;
+use crate::arrays::{array_causes, array_dim, short_map};
+use crate::left::{look_at_dims, passed};
 use cells::{Index, List, Name};
-use dim_changes::{Cause, Fault, copied_label, place_in, stepped};
+use dim_changes::{Cause, Fault, copied_label, spot_in, stepped};
 use index_intervals::Interval;
 use index_transform::{Domain, OutMap, Transform};
 use std::alloc::{AllocError, Global};
@@ -18,11 +16,10 @@ use std::alloc::{AllocError, Global};
 fn indexed_dim(dims: &[Interval], selected: &[usize], arrays: &[Index], dim: usize) -> Interval
     requires within { dim < length dims.now }
     requires same { length arrays.now ≡ length selected.now }
-    requires few { All (λ entries. length entries ≤ 4194304) arrays.now }
     ensures { result ≡ indexed_dim dims.now selected.now arrays.now dim }
 {
-    match place_in(selected, dim) {
-        Some(place) => array_dim(arrays[place].items()),
+    match spot_in(selected, dim) {
+        Some(spot) => array_dim(arrays[spot].items()),
         None => dims[dim],
     }
 }
@@ -35,7 +32,6 @@ fn indexed_dims(
     arrays: &[Index],
 ) -> Result<Vec<Interval>, AllocError>
     requires same { length arrays.now ≡ length selected.now }
-    requires few { All (λ entries. length entries ≤ 4194304) arrays.now }
     ensures { IfOk result (λ v. v.items ≡ map (indexed_dim dims.now selected.now arrays.now) (range_with_len 0 (length dims.now))) }
 {
     let mut news = Vec::with_capacity(alloc, dims.len())?;
@@ -54,7 +50,7 @@ fn indexed_label(
     requires { dim < length labels.now }
     ensures { IfOk result (λ label. label ≡ indexed_label labels.now selected.now dim) }
 {
-    match place_in(selected, dim) {
+    match spot_in(selected, dim) {
         Some(_) => Ok(Name::wrap(String::new(alloc))),
         None => copied_label(alloc, &labels[dim]),
     }
@@ -75,7 +71,7 @@ fn indexed_labels(
     Ok(news)
 }
 
-fn indexed_map(
+fn built_map(
     alloc: Global,
     rank: usize,
     selected: &[usize],
@@ -85,16 +81,16 @@ fn indexed_map(
     requires few { rank ≤ 32 }
     requires within { dim < rank }
     requires same { length arrays.now ≡ length selected.now }
-    ensures { IfOk result (λ m. m ≡ indexed_map rank selected.now arrays.now dim) }
+    ensures { IfOk result (λ m. m ≡ built_map rank selected.now arrays.now dim) }
 {
-    match place_in(selected, dim) {
-        Some(place) => array_map(alloc, rank, dim, arrays[place].items()),
+    match spot_in(selected, dim) {
+        Some(spot) => short_map(alloc, rank, dim, arrays[spot].items()),
         None => Ok(passed(dim)),
     }
 }
 
 #[tactic(auto, using(dim_changes::proofs::Laws::listed_more))]
-fn indexed_maps(
+fn built_maps(
     alloc: Global,
     rank: usize,
     selected: &[usize],
@@ -102,11 +98,11 @@ fn indexed_maps(
 ) -> Result<Vec<OutMap>, AllocError>
     requires few { rank ≤ 32 }
     requires same { length arrays.now ≡ length selected.now }
-    ensures { IfOk result (λ v. v.items ≡ map (indexed_map rank selected.now arrays.now) (range_with_len 0 rank)) }
+    ensures { IfOk result (λ v. v.items ≡ map (built_map rank selected.now arrays.now) (range_with_len 0 rank)) }
 {
     let mut maps = Vec::with_capacity(alloc, rank)?;
     for dim in 0..rank {
-        maps.push(indexed_map(alloc, rank, selected, arrays, dim)?)?;
+        maps.push(built_map(alloc, rank, selected, arrays, dim)?)?;
     }
     Ok(maps)
 }
@@ -119,7 +115,6 @@ fn indexed_domain(
     arrays: &[Index],
 ) -> Result<Domain, AllocError>
     requires same { length arrays.now ≡ length selected.now }
-    requires few { All (λ entries. length entries ≤ 4194304) arrays.now }
     ensures { IfOk result (λ domain. domain ≡ record {
       dims = map (indexed_dim u.now.domain.dims selected.now arrays.now) (range_with_len 0 (length u.now.domain.dims));
       labels = map (indexed_label u.now.domain.labels selected.now) (range_with_len 0 (length u.now.domain.labels));
@@ -140,25 +135,25 @@ fn indexed(
     selected: &[usize],
     arrays: &[Index],
 ) -> Result<Transform, Fault>
-    requires bounds { (i : ℕ) → i < length u.now.domain.dims → AreBounds (slice_index_or u.now.domain.dims i point) }
     requires same { length arrays.now ≡ length selected.now }
-    requires good { first_cause (array_causes arrays.now u.now.domain.dims selected.now) ≡ None }
+    requires good { first_cause (array_causes u.now arrays.now selected.now) ≡ None }
     ensures { Gives u.now (oindex_view u.now selected.now arrays.now) (over u.now (oindex_view u.now selected.now arrays.now)) result }
 {
     let domain = indexed_domain(alloc, u, selected, arrays)?;
-    let maps = indexed_maps(alloc, u.domain().dims.items().len(), selected, arrays)?;
+    look_at_dims(&domain);
+    let maps = built_maps(alloc, u.domain().dims.items().len(), selected, arrays)?;
     stepped(alloc, u, domain, maps)
 }
 
 /// The transform over a dimension of its own, from 0 on and without a label, in place of each selected one: its index is
-/// the place in that dimension's list.
+/// the spot in that dimension's list.
 ///
 /// # Errors
 ///
 /// The first that holds:
 /// - `Count` where lists and selected dimensions differ in number.
 /// - `OutOfRange` where an entry lies outside the effective interval, with that of the first such selected dimension.
-/// - `TooLarge` where a list or an index array of the result has more than 2^22 entries.
+/// - `TooLarge` where an index array of the result has more than 2^22 entries, or a list that an output needs.
 /// - `Memory`, which may come before another is seen.
 pub(crate) fn oindex(
     alloc: Global,
@@ -167,7 +162,6 @@ pub(crate) fn oindex(
     arrays: &[Index],
 ) -> Result<Transform, Fault>
     requires known { All (λ dim. dim < length u.now.domain.dims) selected.now }
-    requires bounds { (i : ℕ) → i < length u.now.domain.dims → AreBounds (slice_index_or u.now.domain.dims i point) }
     ensures { Gives u.now (oindex_view u.now selected.now arrays.now) (oindex_answer u.now selected.now arrays.now) result }
 {
     if arrays.len() != selected.len() {
@@ -175,7 +169,7 @@ pub(crate) fn oindex(
             cause: Cause::Count,
         });
     }
-    match array_causes(u.domain().dims.items(), selected, arrays) {
+    match array_causes(u, selected, arrays) {
         Some(cause) => Err(Fault::Refused { cause }),
         None => indexed(alloc, u, selected, arrays),
     }

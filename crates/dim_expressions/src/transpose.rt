@@ -1,47 +1,45 @@
 // The step that puts dimensions in another order.
 ghost use Rattle.std.specs.List.{All, range_with_len};
-ghost use Rattle.std.specs.Prelude.{◌<◌, ◌≡◌, IfOk, IfSome, OnOk, Some, [], false, length, map, option_map, pos, slice_index_or, unwrap_or, ℕ};
-ghost use Rattle.index_intervals.specs.Bounds.{AreBounds};
-ghost use Rattle.transform_composition.specs.Reading.{point};
+ghost use Rattle.std.specs.Prelude.{◌<◌, ◌≡◌, IfOk, IfSome, OnOk, Some, [], false, length, map, option_map, pos, slice_index_or, unwrap_or};
 ghost use Rattle.index_transform.specs.Transforms.{IsTransform};
 ghost use Rattle.json_forms.specs.Lists.{all_of};
 ghost use Rattle.dim_changes.specs.Causes.{Gives, over};
-ghost use Rattle.dim_changes.specs.Dims.{others, place_in, position_of};
+ghost use Rattle.dim_changes.specs.Dims.{others, spot_in, position_of};
 ghost use Rattle.dim_expressions.specs.Left.{passed};
 ghost use Rattle.dim_expressions.specs.Transpose.{AreInverse, carried, carried_by, to_targets, transpose_answer, transpose_view};
 ghost use Rattle.step_forms.specs.Selection.{has_repeat};
 
 use crate::left::{left_domain, passed_each};
-use dim_changes::{Cause, Fault, others, place_in, position_of, stepped};
+use dim_changes::{Cause, Fault, others, position_of, spot_in, stepped};
 use index_transform::{OutMap, Transform};
 use std::alloc::{AllocError, Global};
 use step_forms::has_repeat;
 
-fn number_at(numbers: &[usize], place: usize) -> usize
-    ensures { result ≡ slice_index_or numbers.now place 0 }
+fn number_at(numbers: &[usize], spot: usize) -> usize
+    ensures { result ≡ slice_index_or numbers.now spot 0 }
 {
-    match numbers.get(place) {
+    match numbers.get(spot) {
         Some(number) => *number,
         None => 0,
     }
 }
 
-fn place_or_first(dims: &[usize], dim: usize) -> usize
-    ensures { result ≡ unwrap_or (place_in dims.now dim) 0 }
+fn spot_or_first(dims: &[usize], dim: usize) -> usize
+    ensures { result ≡ unwrap_or (spot_in dims.now dim) 0 }
 {
-    match place_in(dims, dim) {
-        Some(place) => place,
+    match spot_in(dims, dim) {
+        Some(spot) => spot,
         None => 0,
     }
 }
 
-// Where a number goes: what stands in `from` to the same place of `to`, another from its place in `rest` to that of `free`.
+// Where a number goes: what stands in `from` to the same spot of `to`, another from its spot in `rest` to that of `free`.
 fn carried(from: &[usize], rest: &[usize], to: &[usize], free: &[usize], x: usize) -> usize
-    ensures { result ≡ carried_by rest.now to.now free.now x (place_in from.now x) }
+    ensures { result ≡ carried_by rest.now to.now free.now x (spot_in from.now x) }
 {
-    match place_in(from, x) {
-        Some(place) => number_at(to, place),
-        None => number_at(free, place_or_first(rest, x)),
+    match spot_in(from, x) {
+        Some(spot) => number_at(to, spot),
+        None => number_at(free, spot_or_first(rest, x)),
     }
 }
 
@@ -80,12 +78,12 @@ fn carried_all(
 }
 
 // The position that a target of a list is.
-fn target_at(rank: usize, targets: &[i64], place: usize) -> Option<usize>
-    requires { place < length targets.now }
-    ensures value { result ≡ position_of rank (slice_index_or targets.now place (pos 0)) }
+fn target_at(rank: usize, targets: &[i64], spot: usize) -> Option<usize>
+    requires { spot < length targets.now }
+    ensures value { result ≡ position_of rank (slice_index_or targets.now spot (pos 0)) }
     ensures bound { IfSome result (λ dim. dim < rank) }
 {
-    position_of(rank, targets[place])
+    position_of(rank, targets[spot])
 }
 
 // The positions of a list, where each is one.
@@ -128,7 +126,6 @@ fn transposed(
     selected: &[usize],
     targets: &[usize],
 ) -> Result<Transform, Fault>
-    requires bounds { (i : ℕ) → i < length u.now.domain.dims → AreBounds (slice_index_or u.now.domain.dims i point) }
     requires known { All (λ dim. dim < length u.now.domain.dims) selected.now }
     requires once { has_repeat selected.now ≡ false }
     requires known_targets { All (λ dim. dim < length u.now.domain.dims) targets.now }
@@ -150,7 +147,6 @@ fn transposed_from(
     from: &[usize],
 ) -> Result<Transform, Fault>
     requires well_formed { IsTransform u.now }
-    requires bounds { (i : ℕ) → i < length u.now.domain.dims → AreBounds (slice_index_or u.now.domain.dims i point) }
     requires known { All (λ dim. dim < length u.now.domain.dims) selected.now }
     requires once { has_repeat selected.now ≡ false }
     requires known_targets { All (λ dim. dim < length u.now.domain.dims) targets.now }
@@ -171,7 +167,6 @@ fn to_targets(
     selected: &[usize],
     targets: &[usize],
 ) -> Result<Transform, Fault>
-    requires bounds { (i : ℕ) → i < length u.now.domain.dims → AreBounds (slice_index_or u.now.domain.dims i point) }
     requires known { All (λ dim. dim < length u.now.domain.dims) selected.now }
     requires once { has_repeat selected.now ≡ false }
     requires known_targets { All (λ dim. dim < length u.now.domain.dims) targets.now }
@@ -201,7 +196,6 @@ pub(crate) fn transpose(
     selected: &[usize],
     targets: &[i64],
 ) -> Result<Transform, Fault>
-    requires bounds { (i : ℕ) → i < length u.now.domain.dims → AreBounds (slice_index_or u.now.domain.dims i point) }
     requires known { All (λ dim. dim < length u.now.domain.dims) selected.now }
     requires once { has_repeat selected.now ≡ false }
     ensures { Gives u.now (transpose_view u.now selected.now (unwrap_or (all_of (position_of (length u.now.domain.dims)) targets.now) [])) (transpose_answer u.now selected.now targets.now) result }

@@ -1,18 +1,16 @@
 // The step that takes the indices of several lists at once.
 ghost use Rattle.std.specs.List.{All, list_all, range_with_len};
-ghost use Rattle.std.specs.Prelude.{◌+◌, ◌<◌, ◌==◌, ◌≡◌, ◌≤◌, IfOk, None, length, map, slice_index_or, true, ℕ};
-ghost use Rattle.index_intervals.specs.Bounds.{AreBounds};
-ghost use Rattle.transform_composition.specs.Reading.{point};
+ghost use Rattle.std.specs.Prelude.{◌+◌, ◌<◌, ◌==◌, ◌≡◌, ◌≤◌, IfOk, None, length, map, true};
 ghost use Rattle.dim_changes.specs.Causes.{Gives, first_cause, over};
 ghost use Rattle.dim_changes.specs.Dims.{others};
 ghost use Rattle.dim_expressions.specs.Arrays.{array_at, array_causes, array_dim};
 ghost use Rattle.dim_expressions.specs.Left.{left_map};
-ghost use Rattle.dim_expressions.specs.Vindex.{are_joined, vindex_answer, vindex_map, vindex_view};
+ghost use Rattle.dim_expressions.specs.Vindex.{are_joined, built_map, vindex_answer, vindex_view};
 
-use crate::arrays::{array_causes, array_dim, array_map};
-use crate::left::{front_domain, left_place, passed};
+use crate::arrays::{array_causes, array_dim, short_map};
+use crate::left::{front_domain, left_spot, look_at_dims, passed};
 use cells::Index;
-use dim_changes::{Cause, Fault, others, place_in, stepped};
+use dim_changes::{Cause, Fault, others, spot_in, stepped};
 use index_intervals::Interval;
 use index_transform::{OutMap, Transform};
 use std::alloc::{AllocError, Global};
@@ -39,7 +37,7 @@ fn are_joined(arrays: &[Index], count: usize) -> bool
     count != 0 && arrays.len() == count && have_length(arrays, first_length(arrays))
 }
 
-fn vindex_map(
+fn built_map(
     alloc: Global,
     selected: &[usize],
     rest: &[usize],
@@ -48,16 +46,16 @@ fn vindex_map(
 ) -> Result<OutMap, AllocError>
     requires few { 1 + length rest.now ≤ 32 }
     requires same { length arrays.now ≡ length selected.now }
-    ensures { IfOk result (λ m. m ≡ left_map selected.now rest.now 1 (vindex_map (length rest.now) arrays.now) dim) }
+    ensures { IfOk result (λ m. m ≡ left_map selected.now rest.now 1 (built_map (length rest.now) arrays.now) dim) }
 {
-    match place_in(selected, dim) {
-        Some(place) => array_map(alloc, 1 + rest.len(), 0, arrays[place].items()),
-        None => Ok(passed(left_place(rest, 1, dim))),
+    match spot_in(selected, dim) {
+        Some(spot) => short_map(alloc, 1 + rest.len(), 0, arrays[spot].items()),
+        None => Ok(passed(left_spot(rest, 1, dim))),
     }
 }
 
 #[tactic(auto, using(dim_changes::proofs::Laws::listed_more))]
-fn vindex_maps(
+fn built_maps(
     alloc: Global,
     rank: usize,
     selected: &[usize],
@@ -66,19 +64,18 @@ fn vindex_maps(
 ) -> Result<Vec<OutMap>, AllocError>
     requires few { 1 + length rest.now ≤ 32 }
     requires same { length arrays.now ≡ length selected.now }
-    ensures { IfOk result (λ v. v.items ≡ map (left_map selected.now rest.now 1 (vindex_map (length rest.now) arrays.now)) (range_with_len 0 rank)) }
+    ensures { IfOk result (λ v. v.items ≡ map (left_map selected.now rest.now 1 (built_map (length rest.now) arrays.now)) (range_with_len 0 rank)) }
 {
     let mut maps = Vec::with_capacity(alloc, rank)?;
     for dim in 0..rank {
-        maps.push(vindex_map(alloc, selected, rest, arrays, dim)?)?;
+        maps.push(built_map(alloc, selected, rest, arrays, dim)?)?;
     }
     Ok(maps)
 }
 
 // The dimension of the lists.
 fn first_dim(arrays: &[Index]) -> Interval
-    requires some { 0 < length arrays.now }
-    requires few { length (array_at arrays.now 0) ≤ 4194304 }
+    requires { 0 < length arrays.now }
     ensures { result ≡ array_dim (array_at arrays.now 0) }
 {
     array_dim(arrays[0].items())
@@ -91,10 +88,9 @@ fn joined(
     selected: &[usize],
     arrays: &[Index],
 ) -> Result<Transform, Fault>
-    requires bounds { (i : ℕ) → i < length u.now.domain.dims → AreBounds (slice_index_or u.now.domain.dims i point) }
     requires known { All (λ dim. dim < length u.now.domain.dims) selected.now }
     requires joined { are_joined arrays.now (length selected.now) ≡ true }
-    requires good { first_cause (array_causes arrays.now u.now.domain.dims selected.now) ≡ None }
+    requires good { first_cause (array_causes u.now arrays.now selected.now) ≡ None }
     ensures { Gives u.now (vindex_view u.now selected.now arrays.now) (over u.now (vindex_view u.now selected.now arrays.now)) result }
 {
     let rest = others(alloc, selected, u.domain().dims.items().len())?;
@@ -109,27 +105,27 @@ fn joined_before(
     rest: &[usize],
     arrays: &[Index],
 ) -> Result<Transform, Fault>
-    requires bounds { (i : ℕ) → i < length u.now.domain.dims → AreBounds (slice_index_or u.now.domain.dims i point) }
     requires known { All (λ dim. dim < length u.now.domain.dims) selected.now }
     requires joined { are_joined arrays.now (length selected.now) ≡ true }
-    requires good { first_cause (array_causes arrays.now u.now.domain.dims selected.now) ≡ None }
+    requires good { first_cause (array_causes u.now arrays.now selected.now) ≡ None }
     requires rest { rest.now ≡ others selected.now (length u.now.domain.dims) }
     ensures { Gives u.now (vindex_view u.now selected.now arrays.now) (over u.now (vindex_view u.now selected.now arrays.now)) result }
 {
     let domain = front_domain(alloc, first_dim(arrays), u, rest)?;
-    let maps = vindex_maps(alloc, u.domain().dims.items().len(), selected, rest, arrays)?;
+    look_at_dims(&domain);
+    let maps = built_maps(alloc, u.domain().dims.items().len(), selected, rest, arrays)?;
     stepped(alloc, u, domain, maps)
 }
 
 /// The transform over one first dimension, from 0 on and without a label, in place of all selected ones: its index is the
-/// place in the lists.
+/// spot in the lists.
 ///
 /// # Errors
 ///
 /// The first that holds:
 /// - `Count` where no dimension is selected, lists and selected dimensions differ in number, or lists differ in length.
 /// - `OutOfRange` where an entry lies outside the effective interval, with that of the first such selected dimension.
-/// - `TooLarge` where a list or an index array of the result has more than 2^22 entries.
+/// - `TooLarge` where an index array of the result has more than 2^22 entries, or a list that an output needs.
 /// - `Memory`, which may come before another is seen.
 pub(crate) fn vindex(
     alloc: Global,
@@ -138,7 +134,6 @@ pub(crate) fn vindex(
     arrays: &[Index],
 ) -> Result<Transform, Fault>
     requires known { All (λ dim. dim < length u.now.domain.dims) selected.now }
-    requires bounds { (i : ℕ) → i < length u.now.domain.dims → AreBounds (slice_index_or u.now.domain.dims i point) }
     ensures { Gives u.now (vindex_view u.now selected.now arrays.now) (vindex_answer u.now selected.now arrays.now) result }
 {
     if !are_joined(arrays, selected.len()) {
@@ -146,7 +141,7 @@ pub(crate) fn vindex(
             cause: Cause::Count,
         });
     }
-    if let Some(cause) = array_causes(u.domain().dims.items(), selected, arrays) {
+    if let Some(cause) = array_causes(u, selected, arrays) {
         return Err(Fault::Refused { cause });
     }
     joined(alloc, u, selected, arrays)

@@ -9,7 +9,8 @@ use Rattle.step_forms.specs.declared.act.Act.{Act}
 use Rattle.dim_changes.specs.declared.cause.Cause.{Cause}
 use Rattle.dim_changes.specs.declared.cut.Cut.{Cut}
 use Rattle.dim_changes.specs.Causes.{with_cause, first_cause}
-use Rattle.dim_changes.specs.Cuts.{cause_at, cut_for}
+use Rattle.dim_changes.specs.Cuts.{cut_for}
+use Rattle.dim_changes.specs.CutViews.{cause_at}
 use Rattle.dim_changes.specs.Dims.{dim_at}
 use Rattle.dim_changes.proofs.cutting.cut_causes.Goals as goal
 

@@ -1,11 +1,12 @@
 use Rattle.std.proofs.Common.{◌≡◌, ◌≤◌, length, map, drop}
 use Rattle.std.specs.List.{enumerate_from}
 use Rattle.dim_changes.specs.Causes.{first_cause}
-use Rattle.dim_changes.specs.Cuts.{cause_at, cut_for}
+use Rattle.dim_changes.specs.Cuts.{cut_for}
+use Rattle.dim_changes.specs.CutViews.{cause_at}
 use Rattle.dim_changes.specs.Dims.{dim_at}
 use Rattle.dim_changes.proofs.cutting.cut_causes.Given as goal
 
--- the cause that counts of the selected dimensions from this place on
+-- the cause that counts of the selected dimensions from this spot on
 abbrev pub invariant-loop-k : goal.invariant-loop-k
 invariant-loop-k l =
     (l.k ≤ length l.selected)

@@ -1,6 +1,6 @@
 use Rattle.std.proofs.Common.{◌≡◌, map}
 use Rattle.std.specs.List.{range_with_len}
-use Rattle.dim_changes.specs.Cuts.{cut_map}
+use Rattle.dim_changes.specs.CutViews.{cut_map}
 use Rattle.dim_changes.proofs.cutting.cut_maps.Given as goal
 
 abbrev pub invariant-loop-dim : goal.invariant-loop-dim

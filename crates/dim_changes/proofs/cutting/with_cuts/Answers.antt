@@ -1,17 +1,11 @@
-use Rattle.std.proofs.Common.{◌∙◌, ℕ, ◌<◌, List, length, sym, ap, subst}
-use Rattle.index_intervals.specs.Bounds.{Bounds, AreBounds}
+use Rattle.std.proofs.Common.{◌∙◌, List, sym, ap}
+use Rattle.index_intervals.specs.Bounds.{Bounds}
 use Rattle.index_transform.specs.declared.domain.Domain.{Domain}
 use Rattle.dim_changes.specs.Causes.{first_cause, over}
-use Rattle.dim_changes.specs.Cuts.{cut_causes, cut_view, cut_answer}
-use Rattle.dim_changes.specs.Dims.{dim_at}
+use Rattle.dim_changes.specs.CutViews.{cut_causes, cut_view, cut_answer}
 use Rattle.dim_changes.proofs.CutViews.{cut_answer-over}
 use Rattle.dim_changes.proofs.OverLaws.{gives-same}
 use Rattle.dim_changes.proofs.cutting.with_cuts.Goals as goal
-
-pub cut_over-requires-clause-bounds : goal.cut_over-requires-clause-bounds
-cut_over-requires-clause-bounds c =
-    let dims = c.items-dims.ensures ∙ ap (λ (d : Domain). d.dims) c.domain.ensures.value in
-    subst (λ (ds : List Bounds). (k : ℕ) → k < length ds → AreBounds (dim_at ds k)) dims c.look_at_all.ensures
 
 pub returns : goal.returns
 returns c =

@@ -8,5 +8,4 @@ returns-in-Ok c =
     let e : to_z w64 (of_z w64 c.args.s) ≡ c.args.s = omega (arith, ints) in
     let nonzero = rw e at (c.in-Ok.ensures.succeeds.0 refl) in
     let dim = rw e at c.in-Ok.ensures.value in
-    let result = rw e at c.placed.ensures in
-    strided_by-is c.args.dim.now c.in-Ok.dim c.args.s c.placed.result nonzero dim result
+    rw e (strided_by-is c.args.dim.now c.in-Ok.dim c.args.s nonzero dim)

@@ -5,8 +5,8 @@ use Rattle.dim_expressions.proofs.applying.stepped_by.Goals as goal
 
 pub returns-in-Label : goal.returns-in-Label
 returns-in-Label c =
-    let is : act.Label c.items-in-Label.result.now ≡ c.args.act.now = ap act.Label c.items-in-Label.ensures ∙ sym c.in-Label.is in
-    outcome-label c.args.t.now c.args.dims.now c.items-in-Label.result.now c.args.act.now c.labelled.result is c.labelled.ensures.ok c.labelled.ensures.err
+    let is : act.Label c.items.result.now ≡ c.args.act.now = ap act.Label c.items.ensures ∙ sym c.in-Label.is in
+    outcome-label c.args.t.now c.args.dims.now c.items.result.now c.args.act.now c.labelled.result is c.labelled.ensures.ok c.labelled.ensures.err
 
 pub returns-in-Transpose : goal.returns-in-Transpose
 returns-in-Transpose c =

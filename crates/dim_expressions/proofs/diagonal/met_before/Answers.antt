@@ -1,7 +1,7 @@
 use Rattle.std.proofs.Common.{◌∙◌, [], ◌∷◌, length, sym, ap, subst, arith}
 use Rattle.index_transform.specs.declared.domain.Domain.{Domain}
 use Rattle.index_transform.specs.Transforms.{DomainAndMaps, KeepsRules}
-use Rattle.dim_changes.proofs.Laws.{others_known, gives-tightened}
+use Rattle.dim_changes.proofs.Laws.{AreBounds-each, gives-tightened, others_known}
 use Rattle.dim_changes.specs.Causes.{or_cause, Gives}
 use Rattle.transform_composition.specs.Composing.{composed}
 use Rattle.dim_expressions.specs.Diagonal.{unbounded, diagonal_map, diagonal_view}
@@ -24,7 +24,7 @@ stepped-requires c =
     let front = front-is c.args.u.now c.args.rest.now c.unbounded.result unbounded c.in_ok-domain.domain c.in_ok-domain.ensures c.unbounded.ensures in
     let made = without-made c.args.u.now c.args.selected.now c.args.rest.now (unbounded ∷ []) diagonal_map c.in_ok-domain.domain c.items.result.now c.in_ok-maps.maps.items
     c.requires.rest olds front c.in_ok-maps.ensures in
-    subst KeepsRules (sym made) (IsTransform-diagonal c.args.u.now c.args.selected.now c.domain.ensures.well_formed c.requires.bounds c.requires.known c.requires.some)
+    subst KeepsRules (sym made) (IsTransform-diagonal c.args.u.now c.args.selected.now c.domain.ensures.well_formed (AreBounds-each c.args.u.now.domain.dims c.domain.ensures.well_formed.bounds) c.requires.known c.requires.some)
 
 pub returns : goal.returns
 returns c =
@@ -34,6 +34,6 @@ returns c =
     let made = without-made u c.args.selected.now c.args.rest.now (unbounded ∷ []) diagonal_map c.in_ok-domain.domain c.items.result.now c.in_ok-maps.maps.items
     c.requires.rest olds front c.in_ok-maps.ensures in
     gives-tightened u (diagonal_built u c.args.selected.now) (diagonal_view u c.args.selected.now) c.stepped.result
-    (tight-diagonal u c.args.selected.now c.domain.ensures.well_formed c.requires.bounds c.requires.known c.requires.some)
+    (tight-diagonal u c.args.selected.now c.domain.ensures.well_formed (AreBounds-each c.args.u.now.domain.dims c.domain.ensures.well_formed.bounds) c.requires.known c.requires.some)
     (λ t follows. agrees_diagonal t u c.args.selected.now follows)
     (subst (λ (b : DomainAndMaps). Gives u b (or_cause (composed u b)) c.stepped.result) made c.stepped.ensures)

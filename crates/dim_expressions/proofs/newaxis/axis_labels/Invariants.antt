@@ -1,8 +1,8 @@
 use Rattle.std.proofs.Common.{◌≡◌, map}
 use Rattle.std.specs.List.{range_with_len}
-use Rattle.dim_changes.specs.Dims.{place_in}
+use Rattle.dim_changes.specs.Dims.{spot_in}
 use Rattle.dim_expressions.specs.Newaxis.{axis_label_by}
 use Rattle.dim_expressions.proofs.newaxis.axis_labels.Given as goal
 
 abbrev pub invariant-loop-position : goal.invariant-loop-position
-invariant-loop-position l = l.news.items ≡ map (λ position. axis_label_by l.labels (place_in l.olds position)) (range_with_len 0 l.position)
+invariant-loop-position l = l.news.items ≡ map (λ position. axis_label_by l.labels (spot_in l.olds position)) (range_with_len 0 l.position)

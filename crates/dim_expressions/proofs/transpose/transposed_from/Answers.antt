@@ -5,7 +5,7 @@ use Rattle.index_transform.specs.declared.domain.Domain.{Domain}
 use Rattle.index_transform.specs.declared.map.OutMap.{OutMap}
 use Rattle.index_transform.specs.Transforms.{DomainAndMaps, IsTransform, KeepsRules}
 use Rattle.dim_changes.specs.Dims.{dim_at, label_at}
-use Rattle.dim_changes.proofs.Laws.{gives-over, tighten_answer-same}
+use Rattle.dim_changes.proofs.Laws.{AreBounds-each, gives-over, tighten_answer-same}
 use Rattle.dim_expressions.specs.Left.{passed}
 use Rattle.dim_expressions.specs.Transpose.{carried, transpose_view}
 use Rattle.dim_expressions.proofs.CarriedLaws.{AreDims}
@@ -19,14 +19,14 @@ positions-are selected targets olds dims e = ap (λ (os : List Bounds). map (car
 
 pub left_domain-requires : goal.left_domain-requires
 left_domain-requires c =
-    olds-below c.args.u.now c.args.selected.now c.args.targets.now c.requires.well_formed c.requires.bounds
+    olds-below c.args.u.now c.args.selected.now c.args.targets.now c.requires.well_formed (AreBounds-each c.args.u.now.domain.dims c.requires.well_formed.bounds)
     (record { once = c.requires.once; below = c.requires.known }) (record { once = c.requires.once_targets; below = c.requires.known_targets }) c.requires.same
     c.args.from.now (length c.args.u.now.domain.dims) refl c.requires.from
 
 pub positions_passed-requires : goal.positions_passed-requires
 positions_passed-requires c =
     let olds = c.items.ensures ∙ ap (λ (d : Domain). d.dims) c.domain.ensures.value in
-    news-below c.args.u.now c.args.selected.now c.args.targets.now c.requires.well_formed c.requires.bounds
+    news-below c.args.u.now c.args.selected.now c.args.targets.now c.requires.well_formed (AreBounds-each c.args.u.now.domain.dims c.requires.well_formed.bounds)
     (record { once = c.requires.once; below = c.requires.known }) (record { once = c.requires.once_targets; below = c.requires.known_targets }) c.requires.same
     (map (carried (length c.items.result.now) c.args.selected.now c.args.targets.now) (range_with_len 0 (length c.items.result.now)))
     (positions-are c.args.selected.now c.args.targets.now c.items.result.now c.args.u.now.domain.dims olds)
@@ -50,9 +50,9 @@ stepped-requires c =
     let f : AreDims (length u.domain.dims) c.args.selected.now = record { once = c.requires.once; below = c.requires.known } in
     let g : AreDims (length u.domain.dims) c.args.targets.now = record { once = c.requires.once_targets; below = c.requires.known_targets } in
     let olds = c.items.ensures ∙ ap (λ (d : Domain). d.dims) c.domain.ensures.value in
-    let made = built u c.args.selected.now c.args.targets.now c.args.from.now c.in_ok-domain.domain c.items.result.now c.in_ok-maps.maps.items c.requires.well_formed c.requires.bounds f g
+    let made = built u c.args.selected.now c.args.targets.now c.args.from.now c.in_ok-domain.domain c.items.result.now c.in_ok-maps.maps.items c.requires.well_formed (AreBounds-each c.args.u.now.domain.dims c.requires.well_formed.bounds) f g
     c.requires.same olds c.requires.from c.in_ok-domain.ensures c.in_ok-maps.ensures in
-    subst KeepsRules (sym made) (IsTransform-transpose u c.args.selected.now c.args.targets.now c.requires.well_formed c.requires.bounds f g c.requires.same)
+    subst KeepsRules (sym made) (IsTransform-transpose u c.args.selected.now c.args.targets.now c.requires.well_formed (AreBounds-each c.args.u.now.domain.dims c.requires.well_formed.bounds) f g c.requires.same)
 
 pub returns : goal.returns
 returns c =
@@ -60,8 +60,8 @@ returns c =
     let f : AreDims (length u.domain.dims) c.args.selected.now = record { once = c.requires.once; below = c.requires.known } in
     let g : AreDims (length u.domain.dims) c.args.targets.now = record { once = c.requires.once_targets; below = c.requires.known_targets } in
     let olds = c.items.ensures ∙ ap (λ (d : Domain). d.dims) c.domain.ensures.value in
-    let made = built u c.args.selected.now c.args.targets.now c.args.from.now c.in_ok-domain.domain c.items.result.now c.in_ok-maps.maps.items c.requires.well_formed c.requires.bounds f g
+    let made = built u c.args.selected.now c.args.targets.now c.args.from.now c.in_ok-domain.domain c.items.result.now c.in_ok-maps.maps.items c.requires.well_formed (AreBounds-each c.args.u.now.domain.dims c.requires.well_formed.bounds) f g
     c.requires.same olds c.requires.from c.in_ok-domain.ensures c.in_ok-maps.ensures in
     let view = transpose_view u c.args.selected.now c.args.targets.now in
-    let tight = tighten_answer-same view u.domain (IsTightTransform-transpose u c.args.selected.now c.args.targets.now c.requires.well_formed c.requires.bounds f g c.requires.same) in
+    let tight = tighten_answer-same view u.domain (IsTightTransform-transpose u c.args.selected.now c.args.targets.now c.requires.well_formed (AreBounds-each c.args.u.now.domain.dims c.requires.well_formed.bounds) f g c.requires.same) in
     gives-over u _ view c.stepped.result made tight c.stepped.ensures
