@@ -1,5 +1,5 @@
 -- What is told by an answer that there is.
-use Rattle.std.proofs.Common.{◌≡◌, ◌<◌, ◌≤◌, ℕ, zero, suc, ◌+◌, ◌&&◌, Bool, true, false, List, [], ◌∷◌, length, take, get_or, subst, Option, Some, None, Result, Ok, Err, refl, ap, ◌∙◌, arith, eqb, leb, cond, sym, inl, inr}
+use Rattle.std.proofs.Common.{◌≡◌, ◌<◌, ◌≤◌, ℕ, zero, suc, ◌+◌, Bool, true, false, List, [], ◌∷◌, length, take, get_or, subst, Option, Some, None, Result, Ok, Err, refl, ap, ◌∙◌, arith, eqb, leb, cond, sym, inl, inr}
 use Rattle.std.specs.Prelude.{option_and_then, option_map}
 use Rattle.std.specs.List.{AllByRecursion, zip}
 use Rattle.std.proofs.lemmas.Bool.Decides.{leb_tells, eqb_tells}
@@ -7,7 +7,6 @@ use Rattle.json_forms.specs.Lists.{all_of}
 use Rattle.transform_json.specs.declared.error.JsonError.{JsonError}
 use Rattle.transform_json.specs.Faults.{◌>>=◌, found_at}
 use Rattle.transform_json.specs.Members.{where_so}
-use Rattle.cells.proofs.Laws.{both, both_true}
 
 -- what is told by either branch is told by the choice
 pub either : {R : Type 0} (P : Type 0) (b : Bool) (x y z : R) → (x ≡ z → P) → (y ≡ z → P) → cond b x y ≡ z → P

@@ -1,15 +1,11 @@
 // The rules that labels and index arrays keep.
 ghost use Rattle.std.specs.Prelude.{◌≡◌};
 ghost use Rattle.std.specs.List.{list_all, zip};
-ghost use Rattle.index_transform.specs.Maps.{size_of, is_fixed, fits_dim, fits, are_labels};
+ghost use Rattle.index_transform.specs.Maps.{is_fixed, fits_dim, fits, are_labels};
 
-use cells::Name;
+use cells::{LONGEST_LABEL, Name};
 use index_intervals::{INFINITY, Interval};
-
-/// The most entries of an index array.
-pub(crate) const MOST_ENTRIES: u64 = 4_194_304;
-
-const LONGEST_LABEL: usize = 64;
+use index_transform::size_of;
 
 /// Whether no label has more than 64 bytes, and none that isn't empty comes twice.
 pub(crate) fn are_labels(labels: &[Name]) -> bool
@@ -52,10 +48,4 @@ fn is_fixed(dim: &Interval) -> bool
     ensures { result ≡ is_fixed dim.now }
 {
     !dim.lo_implicit && !dim.hi_implicit && dim.lo != -INFINITY && dim.hi != INFINITY
-}
-
-fn size_of(dim: &Interval) -> u64
-    ensures { result ≡ size_of dim.now }
-{
-    (dim.hi + 1 - dim.lo) as u64
 }

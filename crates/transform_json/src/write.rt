@@ -11,8 +11,7 @@ ghost use Rattle.index_transform.specs.Transforms.{IsTransform};
 ghost use Rattle.transform_json.specs.Transforms.{transform_of};
 ghost use Rattle.transform_json.specs.Written.{has_entries, has_sizes, HasWords, HasFewLists, before_zero, flagged, lower_data, upper_data, are_unlabelled, with_labels, with_number, domain_data, nested_data, map_data, transform_data};
 
-use crate::rules::MOST_ENTRIES;
-use cells::{Name, count_cells};
+use cells::{MOST_ENTRIES, Name, count_cells};
 use index_intervals::{INFINITY, Interval};
 use index_transform::{Domain, OutMap, Transform};
 use serde_json::{Map, Value, put};
