@@ -96,7 +96,7 @@ upper-strided b (negsuc k) p n =
     (part_negated (greatest_before (pos 0) (negsuc k)) b.lo q (ap (λ (x : ℤ). quotient_down x (pos (suc k))) z)
     (IsIndex-down (neg_ℤ b.lo) (pos (suc k)) q h (IsQuotientDown-quotient_down (neg_ℤ b.lo) (pos (suc k)) h))) refl
 
--- a member of the new interval, whose multiple is an index, was an effective member
+-- a member of the new interval passes no finite bound of the old one
 IsWithin-strided : (b : Bounds) (s x : ℤ) → AreBounds b → s ≢ pos 0 → IsMember (strided b s) x → IsWithin b (x *ℤ s)
 IsWithin-strided b (pos zero) x p n m = absurd (n refl)
 IsWithin-strided b (pos (suc k)) x p n m =
@@ -105,7 +105,9 @@ IsWithin-strided b (pos (suc k)) x p n m =
 IsWithin-strided b (negsuc k) x p n m =
     (IsWithin-facing b (negsuc k) x).0 ((IsMember-contracted (mirrored b) (pos (suc k)) (AreBounds-mirrored b p) (omega (arith, ints)) x m.index).0 m)
 
-IsEffectiveMember-strided : (b : Bounds) (s x : ℤ) → AreBounds b → s ≢ pos 0 → IsMember (strided b s) x → IsIndex (pos 0 +ℤ s *ℤ x)
+-- the old index of a member of the new interval is an effective member, or no finite index, as it may be where the old interval
+-- is infinite on one side
+pub IsEffectiveMember-strided : (b : Bounds) (s x : ℤ) → AreBounds b → s ≢ pos 0 → IsMember (strided b s) x → IsIndex (pos 0 +ℤ s *ℤ x)
     → IsEffectiveMember b (pos 0 +ℤ s *ℤ x)
 IsEffectiveMember-strided b s x p n m i =
     let w = IsWithin-strided b s x p n m in
@@ -246,7 +248,7 @@ finite-before b (negsuc k) n e =
     both_true (is_index b.lo) (is_index b.hi) (index-negated b.lo (index-before m.hi (quotient_down m.hi (pos (suc k))) p.1)) (index-negated b.hi (index-before m.lo (quotient_up m.lo (pos (suc k))) p.0))
 
 -- the multiple of a member was a finite index in a finite interval
-index-reached : (b : Bounds) (s x : ℤ) → AreBounds b → s ≢ pos 0 → is_finite b ≡ true → IsMember (strided b s) x → IsIndex (pos 0 +ℤ s *ℤ x)
+pub index-reached : (b : Bounds) (s x : ℤ) → AreBounds b → s ≢ pos 0 → is_finite b ≡ true → IsMember (strided b s) x → IsIndex (pos 0 +ℤ s *ℤ x)
 index-reached b s x p n f m =
     let w = IsWithin-strided b s x p n m in
     let same : x *ℤ s ≡ pos 0 +ℤ s *ℤ x = *ℤ_comm x s ∙ omega (arith, ints) in

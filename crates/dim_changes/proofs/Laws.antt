@@ -1,5 +1,6 @@
 -- The laws of changed dimensions that other crates rest on.
 pub use Rattle.dim_changes.proofs.CauseLaws.{NoneOf-first, causes-more, none-mapped}
+pub use Rattle.dim_changes.proofs.CutStrides.{IsEffectiveMember-strided, index-reached}
 pub use Rattle.dim_changes.proofs.LabelLaws.{AreLabels-from, AreLabels-taken, are_labels-true}
 pub use Rattle.dim_changes.proofs.LeftLaws.{left_spot, others_few, others_known, spot_distinct, rest_at, rest_distinct, rest_few, rest_fewer}
 pub use Rattle.dim_changes.proofs.Lists.{listed_more}
