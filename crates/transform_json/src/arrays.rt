@@ -3,9 +3,9 @@ ghost use Rattle.std.specs.Prelude.{◌≡◌, ◌++◌, [], Some, None, IfOk, O
 ghost use Rattle.serde_json.specs.View.{view};
 ghost use Rattle.transform_json.specs.Arrays.{nested_sizes, nested_entries, array_of};
 
-use crate::rules::fits;
 use cells::{Index, MOST_ENTRIES, Sizes, count_cells};
 use index_intervals::{Interval, is_index};
+use index_transform::fits;
 use json_forms::{list_items, whole_number};
 use serde_json::Value;
 use std::alloc::{AllocError, Global};

@@ -8,10 +8,9 @@ ghost use Rattle.transform_json.specs.Members.{list_members, has, items_at, item
 
 use crate::bounds::lowers_of;
 use crate::error::{JsonError, bad_member};
-use crate::rules::are_labels;
 use crate::uppers::dims_of;
 use cells::{List, Name};
-use index_transform::Domain;
+use index_transform::{Domain, are_labels};
 use json_forms::list_items;
 use serde_json::Value;
 use std::alloc::{AllocError, Global};

@@ -11,7 +11,6 @@ mod input;
 mod member;
 mod output;
 mod read;
-mod rules;
 mod uppers;
 mod write;
 
