@@ -26,7 +26,12 @@ pub mod LoopLaws
 pub mod PieceLaws
 pub mod RangeLaws
 pub mod RisingLaws
+pub mod RowCells
+pub mod RowParts
+pub mod RowViews
 pub mod RunLaws
+pub mod SlotLaws
+pub mod SlotPieces
 pub mod StepLaws
 pub mod TouchedLaws
 pub mod ViewBoxes

@@ -25,24 +25,24 @@ true_or_false false = inr refl
 abbrev pub IsAmong : List ℕ → List (List ℕ) → Type 0
 IsAmong c cs = list_any (bytes_eq c) cs ≡ true
 
-among_first : (c : List ℕ) (cs : List (List ℕ)) → IsAmong c (c ∷ cs)
+pub among_first : (c : List ℕ) (cs : List (List ℕ)) → IsAmong c (c ∷ cs)
 among_first c cs = ap (λ b. b || list_any (bytes_eq c) cs) ((bytes_eq-Decides c c).1 refl)
 
 or_second : (a b : Bool) → b ≡ true → (a || b) ≡ true
 or_second true b e = refl
 or_second false b e = e
 
-among_rest : (c d : List ℕ) (cs : List (List ℕ)) → IsAmong c cs → IsAmong c (d ∷ cs)
+pub among_rest : (c d : List ℕ) (cs : List (List ℕ)) → IsAmong c cs → IsAmong c (d ∷ cs)
 among_rest c d cs e = or_second (bytes_eq c d) (list_any (bytes_eq c) cs) e
 
-among_cases : (c d : List ℕ) (cs : List (List ℕ)) → IsAmong c (d ∷ cs) → (c ≡ d) ⊎ IsAmong c cs
+pub among_cases : (c d : List ℕ) (cs : List (List ℕ)) → IsAmong c (d ∷ cs) → (c ≡ d) ⊎ IsAmong c cs
 among_cases c d cs e =
     elim (true_or_false (bytes_eq c d)) [
       | inl t ↦ inl ((bytes_eq-Decides c d).0 t)
       | inr f ↦ inr (sym (ap (λ b. b || list_any (bytes_eq c) cs) f) ∙ e)
     ]
 
-none_among : (c : List ℕ) → IsAmong c [] → ⊥
+pub none_among : (c : List ℕ) → IsAmong c [] → ⊥
 none_among c e = cc
 
 or_neither : (a b : Bool) → (a || b) ≡ false → (a ≡ false) × (b ≡ false)

@@ -13,7 +13,7 @@ use Rattle.index_transform.specs.Shapes.{IsInShape}
 use Rattle.index_transform.proofs.Laws.{AreCells, AreCells-cells_of, are_words-in_shape}
 use Rattle.chunk_grid.specs.Grid.{Shapes, IsGrid}
 
-ordered : (ds : List Bounds) → list_all are_bounds ds ≡ true → list_all is_ordered ds ≡ true
+pub ordered : (ds : List Bounds) → list_all are_bounds ds ≡ true → list_all is_ordered ds ≡ true
 ordered [] e = refl
 ordered (d ∷ ds) e =
     let p = both (are_bounds d) (list_all are_bounds ds) e in

@@ -6,4 +6,6 @@ pub mod Growing
 pub mod Loops
 pub mod Once
 pub mod Pieces
+pub mod Rows
 pub mod Runs
+pub mod Slots

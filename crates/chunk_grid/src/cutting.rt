@@ -1,5 +1,6 @@
 ghost use Rattle.std.specs.Prelude.{◌≡◌, ◌≢◌, ◌≤◌, [], IsTrue, IfOk, OnOk, length, map};
 ghost use Rattle.std.specs.List.{All, list_all};
+ghost use Rattle.cells.specs.Places.{cell_count};
 ghost use Rattle.index_transform.specs.Cells.{is_finite, cells_of};
 ghost use Rattle.index_transform.specs.Values.{value_at};
 ghost use Rattle.chunk_grid.specs.Grid.{IsInShape, numbers};
@@ -13,7 +14,8 @@ use crate::boxing::cut_boxes;
 use crate::cuts::{Cuts, add, new_cuts, pieces_of};
 use crate::grid::Grid;
 use crate::piece::RunPiece;
-use cells::{Index, List};
+use crate::rows::{chunk_counts, cut_rows};
+use cells::{Index, List, count_cells};
 use index_transform::{OutMap, Transform, Walk};
 use std::alloc::{AllocError, Global};
 
@@ -66,10 +68,49 @@ pub fn runs(alloc: Global, t: &Transform, grid: &Grid) -> Result<List<RunPiece>,
     ensures cells { IfOk result (λ pieces. map unrolled pieces ≡ pieces_by_chunk grid.now.chunk (map (λ cell. numbers (value_at t.now cell)) (cells_of t.now.domain.dims))) }
     ensures cut { IfOk result (λ pieces. IsCut grid.now.chunk (map (λ cell. numbers (value_at t.now cell)) (cells_of t.now.domain.dims)) pieces) }
 {
-    if are_regular(t.maps()) && has_cells(t) {
+    if !has_cells(t) {
+        return cut_cells(alloc, t, grid);
+    }
+    if are_regular(t.maps()) {
         cut_boxes(alloc, t, grid)
     } else {
+        cut_indexed(alloc, t, grid)
+    }
+}
+
+// The pieces of a view that has cells.
+fn cut_indexed(alloc: Global, t: &Transform, grid: &Grid) -> Result<List<RunPiece>, AllocError>
+    requires finite { IsTrue (list_all is_finite t.now.domain.dims) }
+    requires some { cells_of t.now.domain.dims ≢ [] }
+    requires few { length (cells_of t.now.domain.dims) ≤ 4194304 }
+    requires inside { All (λ cell. IsInShape grid.now.shape (value_at t.now cell)) (cells_of t.now.domain.dims) }
+    ensures { IfOk result (λ pieces. pieces ≡ run_pieces grid.now.chunk (map (λ cell. numbers (value_at t.now cell)) (cells_of t.now.domain.dims))) }
+{
+    let counts = chunk_counts(alloc, grid)?;
+    if are_few(t, &counts) {
+        cut_rows(alloc, t, grid, &counts)
+    } else {
         cut_cells(alloc, t, grid)
+    }
+}
+
+// Whether the array has no more chunks than the view has cells.
+fn are_few(t: &Transform, counts: &[u64]) -> bool
+    requires { length (cells_of t.now.domain.dims) ≤ 4194304 }
+    ensures { IsTrue result → cell_count counts.now ≤ 4194304 }
+{
+    match t.count() {
+        Ok(count) => has_at_most(counts, count),
+        Err(_) => false,
+    }
+}
+
+fn has_at_most(counts: &[u64], most: u64) -> bool
+    ensures { IsTrue result → cell_count counts.now ≤ most }
+{
+    match count_cells(counts, most) {
+        Some(_) => true,
+        None => false,
     }
 }
 

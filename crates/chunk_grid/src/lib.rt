@@ -12,6 +12,8 @@ mod grid;
 mod growing;
 mod lines;
 mod piece;
+mod rows;
+mod slots;
 
 pub use cutting::{runs, runs_of};
 pub use grid::{Grid, is_grid};
