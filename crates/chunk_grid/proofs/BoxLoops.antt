@@ -6,7 +6,7 @@ use Rattle.cells.specs.Places.{cell_count}
 use Rattle.index_intervals.specs.Bounds.{Bounds}
 use Rattle.index_transform.specs.Maps.{size_of}
 use Rattle.index_transform.specs.Walks.{IsCell, lows}
-use Rattle.chunk_grid.specs.Loops.{IsPlace, AllRun, view_reach, ViewsRise, StayPlaces}
+use Rattle.strided_runs.specs.Loops.{IsPlace, AllRun, view_reach, ViewsRise, StayPlaces}
 use Rattle.chunk_grid.specs.Boxes.{IsBoxIn, from_lows, cell_place, view_steps, loops_of}
 use Rattle.chunk_grid.proofs.LoopLaws.{at_chunk}
 use Rattle.chunk_grid.proofs.AffineLaws.{AreAbove}

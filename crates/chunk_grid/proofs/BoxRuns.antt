@@ -13,8 +13,8 @@ use Rattle.index_transform.specs.Values.{map_value}
 use Rattle.index_transform.specs.Walks.{IsCell, lows}
 use Rattle.chunk_grid.specs.Grid.{IsGrid, Shapes, IsInShape, numbers, chunk_index, place_within}
 use Rattle.chunk_grid.specs.Boxes.{is_regular, IsBoxIn, IsOfBox, from_lows, cell_place, view_steps, chunk_steps, looped, loops_of, pair_at_cell, IsSmallStep}
-use Rattle.chunk_grid.specs.Loops.{IsPlace, AllRun, view_reach, ViewsRise, StayPlaces}
-use Rattle.chunk_grid.specs.declared.lines.Loop.{Loop}
+use Rattle.strided_runs.specs.Loops.{IsPlace, AllRun, view_reach, ViewsRise, StayPlaces}
+use Rattle.strided_runs.specs.declared.lines.Loop.{Loop}
 use Rattle.chunk_grid.proofs.GridLaws.{place_within-lt, length-in_shape}
 use Rattle.chunk_grid.proofs.LoopLaws.{at_chunk}
 use Rattle.chunk_grid.proofs.AffineLaws.{EachGoes, ArePositive, length-chunk_steps}

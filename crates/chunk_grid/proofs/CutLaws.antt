@@ -18,10 +18,10 @@ use Rattle.chunk_grid.specs.declared.piece.RunPiece.{RunPiece}
 use Rattle.chunk_grid.specs.Grid.{chunk_index, place_within}
 use Rattle.chunk_grid.specs.Pieces.{Pair, pairs_in, placed, among}
 use Rattle.chunk_grid.specs.Runs.{run_pieces}
-use Rattle.chunk_grid.specs.Growing.{Grown, first_run, grown}
+use Rattle.strided_runs.specs.Growing.{Grown, first_run, grown}
 use Rattle.chunk_grid.specs.Cuts.{Key, Cuts, by_key, at, chunks_of, with_pair, grown_of, IsUpTo, AreCuts, piece_of}
 use Rattle.chunk_grid.proofs.PieceLaws.{pairs_in-more, touched-more, run_piece, run_pieces-are}
-use Rattle.chunk_grid.proofs.GrowingLaws.{runs-grown_of, grown_of-more, up_to-more, up_to-later}
+use Rattle.strided_runs.proofs.Laws.{runs-grown_of, grown_of-more, up_to-more, up_to-later}
 
 true_or_false : (b : Bool) → (b ≡ true) ⊎ (b ≡ false)
 true_or_false true = inl refl

@@ -6,9 +6,9 @@ use Rattle.std.proofs.lemmas.Bool.Decides.{nat_tests}
 use Rattle.std.specs.List.{AllByRecursion, flat_map, range_with_len}
 use Rattle.index_intervals.specs.Bounds.{Bounds}
 use Rattle.index_transform.specs.Maps.{size_of}
-use Rattle.chunk_grid.specs.Loops.{IsPlace, AllRun, view_reach, ViewsRise, StayPlaces}
+use Rattle.strided_runs.specs.Loops.{IsPlace, AllRun, view_reach, ViewsRise, StayPlaces}
 use Rattle.chunk_grid.specs.Boxes.{looped, loops_of, runs_more_than_once, IsSmallStep}
-use Rattle.chunk_grid.specs.declared.lines.Loop.{Loop}
+use Rattle.strided_runs.specs.declared.lines.Loop.{Loop}
 
 abbrev pub kept : List Loop → List Loop
 kept loops = filter runs_more_than_once loops

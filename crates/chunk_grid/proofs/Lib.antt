@@ -14,17 +14,9 @@ pub mod CellLaws
 pub mod CellPairs
 pub mod CutLaws
 pub mod GridLaws
-pub mod GrowingLaws
-pub mod GrowingLines
 pub mod KeptLaws
-pub mod LineJoins
-pub mod LineLaws
-pub mod LinePuts
-pub mod LineSteps
-pub mod LineViews
 pub mod LoopLaws
 pub mod PieceLaws
-pub mod RangeLaws
 pub mod RisingLaws
 pub mod RowCells
 pub mod RowParts

@@ -19,7 +19,7 @@ use Rattle.chunk_grid.specs.Once.{times_in, times, IsPairOf, EndsBefore, AreLong
 use Rattle.chunk_grid.proofs.RisingLaws.{IsAmong, among_at, Rises, fold_rises, fold_has, never_below}
 use Rattle.chunk_grid.proofs.RunLaws.{unrolled-pieces}
 use Rattle.chunk_grid.proofs.PieceLaws.{run_piece, run_pieces-are}
-use Rattle.chunk_grid.proofs.GrowingLines.{second}
+use Rattle.strided_runs.proofs.Laws.{second}
 
 -- chunk indices that rise do so place by place
 rising-of : (cs : List (List ℕ)) → Rises cs → AreRising cs

@@ -9,8 +9,8 @@ use Rattle.cells.specs.declared.run.Run.{Run}
 use Rattle.chunk_grid.specs.declared.piece.RunPiece.{RunPiece}
 use Rattle.chunk_grid.specs.Pieces.{Pair, pair_of, is_of, pairs_in, touched, pieces_by_chunk}
 use Rattle.chunk_grid.specs.Runs.{run_of_one, goes_on, longer, cut_from, runs_of_pairs, run_pieces, pairs_of, unrolled}
-use Rattle.chunk_grid.proofs.RangeLaws.{range-split}
-use Rattle.chunk_grid.proofs.GrowingLines.{second, first-longer, longer-more, follows}
+use Rattle.strided_runs.proofs.Laws.{range-split}
+use Rattle.strided_runs.proofs.Laws.{second, first-longer, longer-more, follows}
 use Rattle.chunk_grid.proofs.PieceLaws.{run_piece, run_pieces-are}
 
 -- the pair of a run at a place

@@ -10,10 +10,10 @@ use Rattle.cells.specs.Places.{c_place, c_index}
 use Rattle.chunk_grid.specs.declared.slots.Located.{Located}
 use Rattle.chunk_grid.specs.Grid.{chunk_index, place_within}
 use Rattle.chunk_grid.specs.Pieces.{Pair, pair_of}
-use Rattle.chunk_grid.specs.Growing.{Grown, runs_of_growing}
+use Rattle.strided_runs.specs.Growing.{Grown, runs_of_growing}
 use Rattle.chunk_grid.specs.Cuts.{with_pair, grown_of, IsUpTo}
 use Rattle.chunk_grid.specs.Slots.{located, together, products, slot_at, AreUpTo, put_at, put_all, pieces_from}
-use Rattle.chunk_grid.proofs.GrowingLaws.{next, up_to-more, up_to-later}
+use Rattle.strided_runs.proofs.Laws.{next, up_to-more, up_to-later}
 
 -- as many slots as before
 pub length-put_at : (slots : List (Option Grown)) (view : ℕ) (c : Located) → length (put_at slots view c) ≡ length slots

@@ -16,10 +16,10 @@ use Rattle.cells.proofs.Laws.{true_or_false, less_or_not, c_index-c_place, c_pla
 use Rattle.chunk_grid.specs.Grid.{chunk_index}
 use Rattle.chunk_grid.specs.Pieces.{Pair, pair_of, is_of, pairs_in, touched}
 use Rattle.chunk_grid.specs.Runs.{run_pieces}
-use Rattle.chunk_grid.specs.Growing.{Grown, first_run, grown}
+use Rattle.strided_runs.specs.Growing.{Grown, first_run, grown}
 use Rattle.chunk_grid.specs.Cuts.{grown_of}
 use Rattle.chunk_grid.specs.Slots.{located, slot_at, put_all, pieces_from}
-use Rattle.chunk_grid.proofs.GrowingLaws.{some-fold, runs-grown_of}
+use Rattle.strided_runs.proofs.Laws.{some-fold, runs-grown_of}
 use Rattle.chunk_grid.proofs.PieceLaws.{run_piece, run_pieces-are}
 use Rattle.chunk_grid.proofs.RisingLaws.{cmp, IsAmong, Rises, among_first, among_rest, among_cases, none_among, fold_rises, fold_has, fold_only, rising-same}
 use Rattle.chunk_grid.proofs.SlotLaws.{numbered, IsNumbered, slot_at-empty, length-put_all}

@@ -1,6 +1,6 @@
 -- A view's cells parted into boxes, each of which lies in one chunk.
-use Rattle.std.specs.Prelude.{◌≡◌, ◌≢◌, ℕ, zero, suc, ◌+◌, ◌*◌, ◌/◌, ◌^◌, ◌<◌, ◌==◌, ℤ, pos, ◌+ℤ◌, ◌-ℤ◌, ◌*ℤ◌, ◌≤ℤ◌, unsigned_abs, IsTrue, Bool, true, false, not, List, [], ◌∷◌, length, map, filter, replicate, slice_index_or}
-use Rattle.std.specs.List.{AllByRecursion, flat_map, range_with_len}
+use Rattle.std.specs.Prelude.{◌≡◌, ◌≢◌, ℕ, zero, suc, ◌/◌, ◌^◌, ◌<◌, ◌==◌, ℤ, pos, ◌+ℤ◌, ◌-ℤ◌, ◌*ℤ◌, ◌≤ℤ◌, unsigned_abs, IsTrue, Bool, true, false, not, List, [], ◌∷◌, length, map, filter, replicate, slice_index_or}
+use Rattle.std.specs.List.{AllByRecursion}
 use Rattle.std.specs.Str.{bytes_eq}
 use Rattle.std.specs.Ordering.{is_lt, nat_cmp}
 use Rattle.std.specs.Cmp.Lexicographic.{slice_cmp}
@@ -17,7 +17,8 @@ use Rattle.chunk_grid.specs.Runs.{runs_of_pairs}
 use Rattle.chunk_grid.specs.declared.piece.RunPiece.{RunPiece}
 use Rattle.chunk_grid.specs.Pieces.{Pair}
 use Rattle.chunk_grid.specs.declared.boxes.Boxed.{Boxed}
-use Rattle.chunk_grid.specs.declared.lines.Loop.{Loop}
+use Rattle.strided_runs.specs.declared.lines.Loop.{Loop}
+pub use Rattle.strided_runs.specs.Loops.{looped}
 
 -- the map has no index array
 abbrev pub is_regular : OutMap → Bool
@@ -65,12 +66,6 @@ abbrev pub cell_place : List Bounds → List ℤ → ℕ
 cell_place dims cell = c_place (map size_of dims) (from_lows dims cell)
 
 -- Places as nested loops.
-
--- the pairs of nested loops, the last of which runs fastest, from a first pair on
-abbrev pub looped : List Loop → ℕ → ℤ → List Pair
-looped [] view chunk = record { view = view; chunk = unsigned_abs chunk } ∷ []
-looped (loop ∷ loops) view chunk =
-    flat_map (λ k. looped loops (view + loop.view_step * k) (chunk +ℤ loop.chunk_step *ℤ pos k)) (range_with_len 0 loop.times)
 
 -- how far the view's place goes with an index along each dimension
 abbrev pub view_steps : List Bounds → List ℕ

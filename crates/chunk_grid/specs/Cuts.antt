@@ -1,13 +1,14 @@
 -- Chunks by their indices, with the runs of the pairs so far.
-use Rattle.std.specs.Prelude.{◌≡◌, ℕ, ◌+◌, ◌≤◌, List, Option, Some, None, Vec, IfSome, map, length, fold}
+use Rattle.std.specs.Prelude.{◌≡◌, ℕ, List, Option, Vec, IfSome, map, length}
 use Rattle.std.specs.declared.alloc.Global.{Global}
 use Rattle.std.specs.declared.cmp.Ordering.{Ordering}
 use Rattle.std.specs.Ordering.{nat_cmp}
 use Rattle.std.specs.Cmp.Lexicographic.{slice_cmp}
 use Rattle.std.specs.BTreeMap.{BTreeMap, get, keys}
 use Rattle.chunk_grid.specs.declared.piece.RunPiece.{RunPiece}
-use Rattle.chunk_grid.specs.Pieces.{Pair, pairs_in, touched}
-use Rattle.chunk_grid.specs.Growing.{Grown, first_run, grown, runs_of_growing}
+use Rattle.chunk_grid.specs.Pieces.{pairs_in, touched}
+use Rattle.strided_runs.specs.Growing.{Grown, runs_of_growing}
+pub use Rattle.strided_runs.specs.Growing.{with_pair, grown_of, IsUpTo}
 
 abbrev pub Key : Type 0
 Key = Vec ℕ Global
@@ -25,19 +26,6 @@ at cuts key = get by_key cuts key
 -- the chunk indices
 abbrev pub chunks_of : Cuts → List (List ℕ)
 chunks_of cuts = map (λ key. key.items) (keys cuts)
-
--- the runs with a pair more
-abbrev pub with_pair : Pair → Option Grown → Grown
-with_pair p None = first_run p
-with_pair p (Some g) = grown g p
-
--- the runs of some pairs, where there are any
-abbrev pub grown_of : List Pair → Option Grown
-grown_of pairs = fold (λ g p. Some (with_pair p g)) None pairs
-
--- the runs reach no further than this place of the view
-abbrev pub IsUpTo : ℕ → Grown → Type 0
-IsUpTo view g = (g.run.view + g.run.len) ≤ view
 
 -- the cuts have the pairs of the index vectors so far
 pub record AreCuts (chunk : List ℕ) (targets : List (List ℕ)) (cuts : Cuts) : Type 0 where

@@ -2,8 +2,6 @@ pub mod BoxSteps
 pub mod Boxes
 pub mod Cuts
 pub mod Grid
-pub mod Growing
-pub mod Loops
 pub mod Once
 pub mod Pieces
 pub mod Rows

@@ -1,44 +1,10 @@
--- Pairs cut into runs of equal steps.
-use Rattle.std.specs.Prelude.{ℕ, ◌+◌, ◌-◌, ◌*◌, ◌==◌, pos, ◌+ℤ◌, ◌-ℤ◌, ◌*ℤ◌, List, [], ◌∷◌, Bool, ◌&&◌, ◌||◌, map, if◌then◌else◌}
+-- The chunks of a view, with its pairs cut into runs.
+use Rattle.std.specs.Prelude.{ℕ, List, map}
 use Rattle.std.specs.List.{flat_map}
-use Rattle.std.specs.Ordering.{int_eq}
-use Rattle.cells.specs.declared.run.Run.{Run}
 pub use Rattle.cells.specs.Runs.{pairs_of}
+pub use Rattle.strided_runs.specs.Runs.{run_of_one, goes_on, longer, cut_from, runs_of_pairs}
 use Rattle.chunk_grid.specs.declared.piece.RunPiece.{RunPiece}
-use Rattle.chunk_grid.specs.Pieces.{Pair, Piece, pieces_by_chunk}
-
--- the run of one pair
-abbrev pub run_of_one : Pair → Run
-run_of_one p = record { view = p.view; view_step = 0; chunk = p.chunk; chunk_step = pos 0; len = 1 }
-
--- the pair goes on with the run: it is the next one by the run's steps, which a second pair sets
-abbrev pub goes_on : Run → Pair → Bool
-goes_on run p =
-    run.len == 1
-    || (p.view == run.view + run.view_step * run.len && int_eq (pos p.chunk) (pos run.chunk +ℤ run.chunk_step *ℤ pos run.len))
-
--- the run with this pair more
-abbrev pub longer : Run → Pair → Run
-longer run p =
-    if run.len == 1
-    then record {
-      view = run.view;
-      view_step = p.view - run.view;
-      chunk = run.chunk;
-      chunk_step = pos p.chunk -ℤ pos run.chunk;
-      len = 2;
-    }
-    else record run { len = run.len + 1 }
-
--- a run takes as many pairs as go on with it, and the rest is cut in the same way
-abbrev pub cut_from : Run → List Pair → List Run
-cut_from run [] = run ∷ []
-cut_from run (p ∷ pairs) = if goes_on run p then cut_from (longer run p) pairs else run ∷ cut_from (run_of_one p) pairs
-
--- the pairs cut into runs
-abbrev pub runs_of_pairs : List Pair → List Run
-runs_of_pairs [] = []
-runs_of_pairs (p ∷ pairs) = cut_from (run_of_one p) pairs
+use Rattle.chunk_grid.specs.Pieces.{Piece, pieces_by_chunk}
 
 -- the chunks that occur, in lexical order, each with its pairs cut into runs
 abbrev pub run_pieces : List ℕ → List (List ℕ) → List RunPiece

@@ -7,7 +7,7 @@ use Rattle.index_transform.specs.Transforms.{DomainAndMaps}
 use Rattle.index_transform.specs.Values.{value_at}
 use Rattle.chunk_grid.specs.Grid.{chunk_index, numbers, place_within}
 use Rattle.chunk_grid.specs.Rows.{all_kept}
-use Rattle.chunk_grid.specs.Growing.{Grown, runs_of_growing}
+use Rattle.strided_runs.specs.Growing.{Grown, runs_of_growing}
 use Rattle.chunk_grid.specs.Cuts.{with_pair, IsUpTo}
 use Rattle.chunk_grid.specs.declared.piece.RunPiece.{RunPiece}
 use Rattle.chunk_grid.specs.declared.slots.Located.{Located}

@@ -14,12 +14,12 @@ ghost use Rattle.chunk_grid.specs.Runs.{runs_of_pairs, run_pieces};
 
 use crate::boxes::{Boxed, boxes_of, size_of};
 use crate::grid::Grid;
-use crate::lines::{Loop, runs_of_loops};
 use crate::piece::RunPiece;
 use cells::{List, Run};
 use index_intervals::Interval;
 use index_transform::{OutMap, Transform};
 use std::alloc::{AllocError, Global};
+use strided_runs::{Loop, runs_of_loops};
 
 // How far the view's place goes with an index along each dimension.
 fn view_steps(alloc: Global, dims: &[Interval]) -> Result<Vec<u64>, AllocError>

@@ -5,14 +5,14 @@ ghost use Rattle.std.specs.BTreeMap.{IsOrdered};
 ghost use Rattle.chunk_grid.specs.Grid.{IsInShape, numbers};
 ghost use Rattle.chunk_grid.specs.Pieces.{among};
 ghost use Rattle.chunk_grid.specs.Cuts.{Key, by_key, AreCuts, IsUpTo, at, chunks_of, with_pair, piece_of};
-ghost use Rattle.chunk_grid.specs.Loops.{ArePlaces};
+ghost use Rattle.strided_runs.specs.Loops.{ArePlaces};
 
 use crate::grid::Grid;
-use crate::growing::Growing;
 use crate::piece::RunPiece;
 use cells::{List, Sizes};
 use std::alloc::{AllocError, Global};
 use std::collections::BTreeMap;
+use strided_runs::Growing;
 
 pub(crate) type Cuts = BTreeMap<Vec<u64>, Growing>;
 

@@ -53,7 +53,8 @@ pub fn runs_of(alloc: Global, targets: &[Index], grid: &Grid) -> Result<List<Run
 /// The same of a view: of the values of its transform at the cells of its finite domain, in C order.
 ///
 /// Without an index array the work goes with the runs: a view is cut into one box for each chunk that it touches, and a
-/// box takes a step for each run. With one it takes a step for each cell.
+/// box takes a step for each run. With one it takes a step for each cell, and where the array has no more chunks than the
+/// view has cells, no step looks for its chunk.
 ///
 /// The view has at most 2^22 cells, and each value lies inside the array.
 ///
@@ -78,7 +79,7 @@ pub fn runs(alloc: Global, t: &Transform, grid: &Grid) -> Result<List<RunPiece>,
     }
 }
 
-// The pieces of a view that has cells.
+// The pieces of a view with index arrays that has cells.
 fn cut_indexed(alloc: Global, t: &Transform, grid: &Grid) -> Result<List<RunPiece>, AllocError>
     requires finite { IsTrue (list_all is_finite t.now.domain.dims) }
     requires some { cells_of t.now.domain.dims ≢ [] }

@@ -9,8 +9,6 @@ mod boxing;
 mod cuts;
 mod cutting;
 mod grid;
-mod growing;
-mod lines;
 mod piece;
 mod rows;
 mod slots;

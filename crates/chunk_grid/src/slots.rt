@@ -2,13 +2,13 @@
 ghost use Rattle.std.specs.Prelude.{◌≡◌, ◌≤◌, ◌<◌, ◌+◌, ◌*◌, ◌^◌, ℕ, None, Option, IfOk, OnOk, IfSome, length, map, replicate, slice_index_or};
 ghost use Rattle.cells.specs.Places.{cell_count, c_index};
 ghost use Rattle.chunk_grid.specs.Cuts.{IsUpTo};
-ghost use Rattle.chunk_grid.specs.Growing.{Grown};
+ghost use Rattle.strided_runs.specs.Growing.{Grown};
 ghost use Rattle.chunk_grid.specs.Slots.{AreUpTo, together, products, slot_at, put_at, put_all, pieces_from};
 
-use crate::growing::Growing;
 use crate::piece::RunPiece;
 use cells::{List, MOST_CELLS, Order, Sizes, count_cells, index_of};
 use std::alloc::{AllocError, Global};
+use strided_runs::Growing;
 
 /// The number of a cell's chunk among all chunks, in C order, and the cell's place in the chunk; or the parts of both that
 /// come from some outputs.

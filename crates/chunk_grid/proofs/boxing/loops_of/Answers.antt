@@ -3,7 +3,7 @@ use mir.Syntax.{w64}
 use Rattle.std.proofs.lemmas.Int.{to_z-of_z}
 use Rattle.index_transform.specs.Maps.{size_of}
 use Rattle.chunk_grid.specs.Boxes.{loops_of, runs_more_than_once, IsSmallStep}
-use Rattle.chunk_grid.specs.declared.lines.Loop.{Loop}
+use Rattle.strided_runs.specs.declared.lines.Loop.{Loop}
 use Rattle.chunk_grid.proofs.KeptLaws.{step-at, loops-more, kept-pushed, kept-passed}
 use Rattle.chunk_grid.proofs.boxing.loops_of.Goals as goal
 use Rattle.chunk_grid.proofs.boxing.loops_of.Goals.{then-times-ne1+in_ok-push, else-times-ne1}

@@ -9,8 +9,8 @@ use Rattle.chunk_grid.specs.Grid.{IsInShape, numbers, place_within}
 use Rattle.chunk_grid.specs.Pieces.{Pair}
 use Rattle.chunk_grid.specs.Runs.{runs_of_pairs}
 use Rattle.chunk_grid.specs.Boxes.{IsSmallStep, loops_of, view_steps, chunk_steps, cell_place, looped}
-use Rattle.chunk_grid.specs.Loops.{AllRun, view_reach, ViewsRise, StayPlaces}
-use Rattle.chunk_grid.specs.declared.lines.Loop.{Loop}
+use Rattle.strided_runs.specs.Loops.{AllRun, view_reach, ViewsRise, StayPlaces}
+use Rattle.strided_runs.specs.declared.lines.Loop.{Loop}
 use Rattle.chunk_grid.proofs.CellLaws.{value-answered}
 use Rattle.chunk_grid.proofs.BoxPieces.{regular-value}
 use Rattle.chunk_grid.proofs.StepLaws.{length-box}

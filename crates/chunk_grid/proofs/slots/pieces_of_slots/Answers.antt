@@ -2,7 +2,7 @@ use Rattle.std.proofs.Common.{◌≡◌, ◌∙◌, ◌+◌, ap, sym, ◌++◌, 
 use Rattle.std.proofs.lemmas.List.{length-append, append-nil}
 use Rattle.cells.specs.Places.{c_index}
 use Rattle.chunk_grid.specs.declared.piece.RunPiece.{RunPiece}
-use Rattle.chunk_grid.specs.Growing.{Grown}
+use Rattle.strided_runs.specs.Growing.{Grown}
 use Rattle.chunk_grid.specs.Slots.{pieces_from}
 use Rattle.chunk_grid.proofs.SlotLaws.{pieces_from-more}
 use Rattle.chunk_grid.proofs.slots.pieces_of_slots.Goals as goal

@@ -1,0 +1,9 @@
+pub mod GrowingLaws
+pub mod GrowingLines
+pub mod Laws
+pub mod LineJoins
+pub mod LineLaws
+pub mod LinePuts
+pub mod LineSteps
+pub mod LineViews
+pub mod RangeLaws
