@@ -18,5 +18,8 @@ while read -r view times; do
 done << 'END'
 contiguous 100
 strided 100
-indexed 2
+indexed 20
+oindex 20
+vindex 20
+random 10
 END

@@ -1,5 +1,5 @@
 //! `bench_views VIEW TIMES`: cuts a view of 1,000,000 cells at chunk edges so many times, and prints how many chunks and runs
-//! it has. The views are `contiguous`, `strided` and `indexed`.
+//! it has. The views are `contiguous`, `strided`, `indexed`, `oindex`, `vindex` and `random`.
 #![tactic(auto)]
 
 mod views;

@@ -10,12 +10,12 @@ use index_intervals::Interval;
 use index_transform::{Domain, OutMap, Transform};
 use std::alloc::{AllocError, Global};
 
-// 1000 by 1000 cells.
-fn domain(alloc: Global) -> Result<Domain, AllocError> {
+// A domain of these sizes, from 0 on.
+fn domain(alloc: Global, sizes: &[i64]) -> Result<Domain, AllocError> {
     let mut dims = Vec::new(alloc);
     let mut labels = Vec::new(alloc);
-    for _ in 0..2 {
-        if let Ok(dim) = Interval::new(0, 999, false, false) {
+    for size in sizes {
+        if let Ok(dim) = Interval::new(0, size.wrapping_sub(1), false, false) {
             dims.push(dim)?;
         }
         labels.push(Name::wrap(String::new(alloc)))?;
@@ -34,33 +34,98 @@ fn strided(offset: i64, stride: i64, dim: u32) -> OutMap {
     }
 }
 
-fn indexed(alloc: Global) -> Result<OutMap, AllocError> {
-    let mut entries = Vec::new(alloc);
-    for k in 0..1000i64 {
-        entries.push(k.wrapping_mul(7) % 1000)?;
-    }
+fn indexed(alloc: Global, sizes: &[u64], entries: Vec<i64>) -> Result<OutMap, AllocError> {
     Ok(OutMap::Indexed {
         offset: 0,
         stride: 1,
-        sizes: Sizes::wrap(vec![in alloc; 1, 1000]?),
+        sizes: Sizes::wrap(Vec::from_slice(alloc, sizes)?),
         entries: Index::wrap(entries),
     })
+}
+
+// The entries `step * k mod 1000` of a list of 1000.
+fn steps(alloc: Global, step: i64) -> Result<Vec<i64>, AllocError> {
+    let mut entries = Vec::new(alloc);
+    for k in 0..1000i64 {
+        entries.push(k.wrapping_mul(step) % 1000)?;
+    }
+    Ok(entries)
+}
+
+// The rows or the columns of 1000 by 1000 points, row after row.
+fn row_order(alloc: Global, is_row: bool) -> Result<Vec<i64>, AllocError> {
+    let mut entries = Vec::new(alloc);
+    for k in 0..1_000_000i64 {
+        entries.push(if is_row { k / 1000 } else { k % 1000 })?;
+    }
+    Ok(entries)
+}
+
+// So many points along a dimension of this size, by a linear congruential generator.
+fn random(alloc: Global, seed: u64, size: u64) -> Result<Vec<i64>, AllocError> {
+    let mut entries = Vec::new(alloc);
+    let mut state = seed;
+    for _ in 0..1_000_000 {
+        state = state
+            .wrapping_mul(6_364_136_223_846_793_005)
+            .wrapping_add(1_442_695_040_888_963_407);
+        entries.push(below(state >> 33, size))?;
+    }
+    Ok(entries)
+}
+
+fn below(x: u64, size: u64) -> i64 {
+    i64::try_from(x.checked_rem(size).unwrap_or(0)).unwrap_or(0)
+}
+
+// The sizes of the domain of a view by its name.
+fn sizes(view: &str) -> &'static [i64] {
+    if view == "vindex" || view == "random" {
+        &[1_000_000]
+    } else {
+        &[1000, 1000]
+    }
+}
+
+// The first output of a view by its name.
+fn first(alloc: Global, view: &str) -> Result<OutMap, AllocError> {
+    if view == "strided" {
+        return Ok(strided(1, 2, 0));
+    }
+    if view == "oindex" {
+        return indexed(alloc, &[1000, 1], steps(alloc, 3)?);
+    }
+    if view == "vindex" {
+        return indexed(alloc, &[1_000_000], row_order(alloc, true)?);
+    }
+    if view == "random" {
+        return indexed(alloc, &[1_000_000], random(alloc, 1, 2000)?);
+    }
+    Ok(strided(0, 1, 0))
+}
+
+// And the second.
+fn second(alloc: Global, view: &str) -> Result<OutMap, AllocError> {
+    if view == "strided" {
+        return Ok(strided(2999, -3, 1));
+    }
+    if view == "indexed" || view == "oindex" {
+        return indexed(alloc, &[1, 1000], steps(alloc, 7)?);
+    }
+    if view == "vindex" {
+        return indexed(alloc, &[1_000_000], row_order(alloc, false)?);
+    }
+    if view == "random" {
+        return indexed(alloc, &[1_000_000], random(alloc, 2, 3000)?);
+    }
+    Ok(strided(0, 1, 1))
 }
 
 // The maps of a view by its name.
 fn maps(alloc: Global, view: &str) -> Result<Vec<OutMap>, AllocError> {
     let mut maps = Vec::new(alloc);
-    if view == "strided" {
-        maps.push(strided(1, 2, 0))?;
-        maps.push(strided(2999, -3, 1))?;
-    } else {
-        maps.push(strided(0, 1, 0))?;
-        if view == "indexed" {
-            maps.push(indexed(alloc)?)?;
-        } else {
-            maps.push(strided(0, 1, 1))?;
-        }
-    }
+    maps.push(first(alloc, view)?)?;
+    maps.push(second(alloc, view)?)?;
     Ok(maps)
 }
 
@@ -120,7 +185,7 @@ pub(crate) fn bench(
     view: &str,
     times: u32,
 ) -> Result<Option<(usize, usize)>, AllocError> {
-    let Ok(t) = Transform::new(domain(alloc)?, maps(alloc, view)?) else {
+    let Ok(t) = Transform::new(domain(alloc, sizes(view))?, maps(alloc, view)?) else {
         return Ok(None);
     };
     let Some(grid) = grid(alloc, &[2000, 3000], &[100, 100])? else {
