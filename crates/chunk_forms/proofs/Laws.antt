@@ -112,6 +112,6 @@ n5_sound m bytes none = by_fault (block_fault m bytes) refl
 -- bytes with nothing wrong spell a chunk
 pub spells_of_no_fault : (form : Form) (bytes : List ℕ) → is_local form ≡ false → ((i : ℕ) → get_or bytes i 0 < 256) → chunk_fault form bytes ≡ None → (word : List ℕ → ℕ) × SpellsChunk form bytes word
 spells_of_no_fault (Zarr meta) bytes stored small none = (chunk.chunk_word meta bytes, SpellsChunk-from_len meta bytes small (zarr_len meta bytes none))
-spells_of_no_fault (N5 meta) bytes stored small none = (_, SpellsBlock-from_no_fault meta bytes small (n5_sound meta bytes none))
+spells_of_no_fault (N5 meta) bytes stored small none = SpellsBlock-from_no_fault meta bytes small (n5_sound meta bytes none)
 spells_of_no_fault (Zarr3 meta) bytes stored small none = (chunk.chunk_word (as_zarr meta) bytes, SpellsChunk-from_len (as_zarr meta) bytes small (zarr_len (as_zarr meta) bytes none))
 spells_of_no_fault Local bytes stored small none = absurd (let no_such : ⊥ = cc in no_such)

@@ -13,7 +13,7 @@ use Rattle.n5_blocks.specs.Metadata.{Metadata}
 use Rattle.n5_blocks.specs.Block.{AreWithin}
 use Rattle.n5_blocks.specs.Faults.{mode_in, rank_in, header_len, size_in, sizes_in, size_fault, length_fault, cells_fault, block_fault}
 use Rattle.n5_blocks.specs.declared.error.BlockError.TheVariants.{WrongLength}
-use Rattle.n5_blocks.proofs.SizeLaws.{none_from_if, within_from_no_fault, cell_count-within}
+use Rattle.n5_blocks.proofs.SizeLaws.{none_from_if, within_from_no_fault}
 
 none_from_or : {A : Type 0} (o p : Option A) → option_or o p ≡ None → (o ≡ None) × (p ≡ None)
 none_from_or None p is = (refl, is)
@@ -62,12 +62,3 @@ whole_from_no_fault m bytes is =
       rank = eqb-true (rank_in bytes) (length m.block) rank.0;
       cells = rank.1;
     }
-
--- the elements are few bytes
-pub elements_small : (dtype : Dtype) (block bytes : List ℕ) → cell_count block ≤ 2 ^ 24 → byte_count dtype ≤ 8 → AreSound dtype block bytes → length (drop (header_len (length block)) bytes) ≤ 2 ^ 27
-elements_small dtype block bytes volume item sound =
-    let few : cell_count (sizes_in (length block) bytes) * byte_count dtype ≤ 2 ^ 24 * 8 = mul-le-mul (≤_trans' (cell_count-within block (sizes_in (length block) bytes) sound.within) volume) item in
-    rw length-drop (omega (arith, few, sound.count))
-  where
-    ≤_trans' : {a b c : ℕ} → a ≤ b → b ≤ c → a ≤ c
-    ≤_trans' one other = omega arith

@@ -8,26 +8,9 @@ use Rattle.std.proofs.lemmas.List.FromFn.{map-range_with_len_more}
 use Rattle.cells.specs.Bytes.{byte_count, word_bytes, word_of_bytes}
 use Rattle.cells.specs.declared.dtype.Dtype.{Dtype}
 use Rattle.cells.specs.declared.dtype.Dtype.TheVariants.{U16, U32}
-use Rattle.cells.proofs.Laws.{word_bytes-word_of_bytes}
+use Rattle.chunk_elements.proofs.Laws.{bytes_of_part}
 use Rattle.n5_blocks.specs.Block.{header}
 use Rattle.n5_blocks.specs.Faults.{mode_in, rank_in, header_len, size_in, sizes_in}
-
-pub small-drop : (k : ℕ) (bytes : List ℕ) → ((i : ℕ) → get_or bytes i 0 < 256) → (i : ℕ) → get_or (drop k bytes) i 0 < 256
-small-drop k bytes small i = rw get_or-drop (small (k + i))
-
-pub small-take : (k : ℕ) (bytes : List ℕ) → ((i : ℕ) → get_or bytes i 0 < 256) → (i : ℕ) → get_or (take k bytes) i 0 < 256
-small-take zero bytes small i = omega arith
-small-take (suc k) [] small i = omega arith
-small-take (suc k) (b ∷ bytes) small zero = small zero
-small-take (suc k) (b ∷ bytes) small (suc i) = small-take k bytes (λ j. small (suc j)) i
-
--- a part of bytes is the bytes of the number that it spells
-pub bytes_of_part : (dtype : Dtype) (bytes : List ℕ) (from : ℕ) → ((i : ℕ) → get_or bytes i 0 < 256) → from + byte_count dtype ≤ length bytes
-    → word_bytes dtype true (word_of_bytes dtype true (take (byte_count dtype) (drop from bytes))) ≡ take (byte_count dtype) (drop from bytes)
-bytes_of_part dtype bytes from small fits =
-    word_bytes-word_of_bytes dtype true (take (byte_count dtype) (drop from bytes))
-    (length-take-le (byte_count dtype) (drop from bytes) (rw length-drop (omega arith)))
-    (small-take (byte_count dtype) (drop from bytes) (small-drop from bytes small))
 
 -- the bytes of the sizes of a header
 size_bytes : (bytes : List ℕ) → ((i : ℕ) → get_or bytes i 0 < 256) → (rank : ℕ) → header_len rank ≤ length bytes → flat_map (word_bytes U32 true) (sizes_in rank bytes) ≡ take (4 * rank) (drop 4 bytes)
@@ -36,7 +19,7 @@ size_bytes bytes small (suc rank) fits =
     let up : suc rank ≡ rank + 1 = omega arith in
     let less : header_len rank ≤ length bytes = omega arith in
     let along : 4 * suc rank ≡ 4 * rank + 4 = omega arith in
-    let one = bytes_of_part U32 bytes (header_len rank) small (omega arith) in
+    let one = bytes_of_part U32 true bytes (header_len rank) small (omega arith) in
     ap (λ n. flat_map (word_bytes U32 true) (sizes_in n bytes)) up
     ∙ ap (flat_map (word_bytes U32 true)) (map-range_with_len_more (size_in bytes) 0 rank rank (zero-add rank))
     ∙ flat_map-append (word_bytes U32 true) (sizes_in rank bytes) (size_in bytes rank ∷ [])
@@ -48,8 +31,8 @@ size_bytes bytes small (suc rank) fits =
 pub bytes-header : (bytes : List ℕ) (rank : ℕ) → ((i : ℕ) → get_or bytes i 0 < 256) → header_len rank ≤ length bytes → mode_in bytes ≡ 0 → rank_in bytes ≡ rank
     → length (sizes_in rank bytes) ≡ rank → bytes ≡ header (sizes_in rank bytes) ++ drop (header_len rank) bytes
 bytes-header bytes rank small fits mode is ranks =
-    let first : take 2 bytes ≡ word_bytes U16 true 0 = sym (bytes_of_part U16 bytes 0 small (omega arith)) ∙ ap (word_bytes U16 true) mode in
-    let second : take 2 (drop 2 bytes) ≡ word_bytes U16 true (length (sizes_in rank bytes)) = sym (bytes_of_part U16 bytes 2 small (omega arith)) ∙ ap (word_bytes U16 true) (is ∙ sym ranks) in
+    let first : take 2 bytes ≡ word_bytes U16 true 0 = sym (bytes_of_part U16 true bytes 0 small (omega arith)) ∙ ap (word_bytes U16 true) mode in
+    let second : take 2 (drop 2 bytes) ≡ word_bytes U16 true (length (sizes_in rank bytes)) = sym (bytes_of_part U16 true bytes 2 small (omega arith)) ∙ ap (word_bytes U16 true) (is ∙ sym ranks) in
     let third : take (4 * rank) (drop 4 bytes) ≡ flat_map (word_bytes U32 true) (sizes_in rank bytes) = sym (size_bytes bytes small rank fits) in
     let front : take (2 + 2 + 4 * rank) bytes ≡ header (sizes_in rank bytes) =
     take-add (2 + 2) (4 * rank) bytes

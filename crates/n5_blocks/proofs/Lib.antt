@@ -1,13 +1,9 @@
-pub mod RowSteps
 pub mod SizeLaws
 pub mod ReadLaws
 pub mod MetadataLaws
-pub mod RowLaws
-pub mod ElementLaws
 pub mod FaultLaws
 pub mod HeaderLaws
 pub mod BlockLaws
-pub mod WriteLaws
 pub mod SpellingLaws
 pub mod CutLaws
 pub mod Laws

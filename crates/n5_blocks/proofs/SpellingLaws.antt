@@ -14,8 +14,8 @@ use Rattle.cells.proofs.Laws.{length-word_bytes, word_of_bytes-word_bytes, then_
 use Rattle.n5_blocks.specs.Metadata.{Metadata, IsMetadata}
 use Rattle.n5_blocks.specs.Block.{element_bytes, header, AreElements, AreWithin, StoresCells, SpellsBlock}
 use Rattle.n5_blocks.specs.Faults.{mode_in, rank_in, header_len, size_in, sizes_in, size_fault, length_fault, block_fault}
-use Rattle.n5_blocks.proofs.SizeLaws.{Fit, fit_from_within, IsWord-U16, IsWord-U32}
-use Rattle.n5_blocks.proofs.RowLaws.{length-rows}
+use Rattle.n5_blocks.proofs.SizeLaws.{IsWord-U16, IsWord-U32}
+use Rattle.chunk_elements.proofs.Laws.{Fit, fit_from_within, length-rows}
 use Rattle.n5_blocks.proofs.FaultLaws.{length-sizes_in}
 
 length-size_bytes : (sizes : List ℕ) → length (flat_map (word_bytes U32 true) sizes) ≡ length sizes * 4

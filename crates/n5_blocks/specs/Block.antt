@@ -1,10 +1,11 @@
 -- The grammar of a block's bytes.
-use Rattle.std.specs.Prelude.{◌≡◌, ℕ, ◌-◌, ◌*◌, ◌<◌, ◌≤◌, ◌++◌, min, true, List, [], ◌∷◌, length, slice_index}
+use Rattle.std.specs.Prelude.{◌≡◌, ℕ, ◌-◌, ◌*◌, ◌<◌, ◌++◌, min, true, List, [], ◌∷◌, length, slice_index}
 use Rattle.std.specs.List.{flat_map}
 use Rattle.cells.specs.Numbers.{IsWord}
 use Rattle.cells.specs.Bytes.{byte_count, word_bytes}
 pub use Rattle.cells.specs.Elements.{element_bytes, word_at}
 use Rattle.cells.specs.Places.{cell_count, IsInside, f_place}
+pub use Rattle.chunk_elements.specs.Blocks.{AreWithin}
 use Rattle.cells.specs.declared.dtype.Dtype.{Dtype}
 use Rattle.cells.specs.declared.dtype.Dtype.TheVariants.{U16, U32}
 use Rattle.n5_blocks.specs.Metadata.{Metadata}
@@ -21,11 +22,6 @@ pub record AreElements (dtype : Dtype) (sizes bytes : List ℕ) (word : List ℕ
   pub elements : (index : List ℕ) → IsInside sizes index
       → element_bytes (byte_count dtype) bytes (f_place sizes index) ≡ word_bytes dtype true (word index)
   pub are_words : (index : List ℕ) → IsInside sizes index → IsWord dtype (word index)
-
--- sizes that may be stored for a block: as many as it has, and none greater
-pub record AreWithin (block sizes : List ℕ) : Type 0 where
-  pub ranks : length sizes ≡ length block
-  pub fit : (k : ℕ) → k < length block → slice_index sizes k ≤ slice_index block k
 
 -- the bytes store cells of these sizes, a header and elements, and give each index vector of the block its word; a cell
 -- that isn't stored has 0

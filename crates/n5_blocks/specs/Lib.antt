@@ -3,7 +3,6 @@ pub mod Want
 pub mod Key
 pub mod Block
 pub mod Faults
-pub mod Rows
 pub mod Written
 pub mod Described
 pub mod Read

@@ -1,17 +1,18 @@
-ghost use Rattle.std.specs.Prelude.{◌≡◌, ◌≢◌, ◌↔◌, ℕ, ◌*◌, ◌≤◌, ◌<◌, ◌^◌, ◌++◌, IfOk, IfErr, OnOk, Some, None, length, reverse, slice_index};
+ghost use Rattle.std.specs.Prelude.{◌≡◌, ◌≢◌, ◌↔◌, ℕ, ◌*◌, ◌≤◌, ◌<◌, ◌^◌, ◌++◌, IfOk, IfErr, OnOk, Some, None, true, drop, length, slice_index};
 ghost use Rattle.cells.specs.Numbers.{IsWord};
+ghost use Rattle.cells.specs.Bytes.{word_bytes};
 ghost use Rattle.cells.specs.Places.{cell_count};
 ghost use Rattle.cells.specs.Shapes.{IsChunkShape};
 ghost use Rattle.n5_blocks.specs.Block.{AreWithin, IsReached, IsZeroOutside, SpellsBlock, WritesBlock, cut_sizes, header, word_at};
-ghost use Rattle.n5_blocks.specs.Faults.{block_fault, cells_fault};
-ghost use Rattle.n5_blocks.specs.Rows.{block_words, elements_of_rows};
+ghost use Rattle.n5_blocks.specs.Faults.{block_fault, cells_fault, header_len, sizes_in};
+ghost use Rattle.chunk_elements.specs.Blocks.{AddsBlock, AreStored};
 ghost use Rattle.n5_blocks.specs.declared.error.BlockError.{BlockError};
 
 use crate::error::BlockError;
-use crate::faults::{block_fault, header_len, sizes_in};
+use crate::faults::{block_fault, cells_of, header_len, sizes_in};
 use crate::metadata::N5Meta;
-use crate::rows::{byte_count, cells_of, put_element, read_rows, write_rows};
-use cells::{Dense, Dtype, Sizes, Words};
+use cells::{Dense, Dtype, Sizes, Words, put_word};
+use chunk_elements::{put_block, words_of_block};
 use std::alloc::{AllocError, Global};
 
 /// The numbers that a block's bytes spell: a header of mode 0 with as many sizes as the array has, none greater than its
@@ -94,22 +95,12 @@ fn read_words(
     requires rank { length block.now ≤ 32 }
     requires block { IsChunkShape block.now }
     requires sound { cells_fault dtype block.now bytes.now ≡ None }
-    ensures { IfOk result (λ words. words.items ≡ block_words dtype block.now bytes.now) }
+    ensures { IfOk result (λ words. AreStored dtype true block.now (sizes_in (length block.now) bytes.now)
+        (drop (header_len (length block.now)) bytes.now) words.items) }
 {
     let elements = &bytes[header_len(block.len())..];
-    let buffer = sizes_in(block.len(), bytes);
-    let sizes = &buffer[..block.len()];
-    let mut words = Vec::with_capacity(alloc, cells_of(block))?;
-    read_rows(
-        dtype,
-        block,
-        sizes,
-        byte_count(dtype),
-        0,
-        elements,
-        &mut words,
-    )?;
-    Ok(words)
+    let sizes = sizes_in(block.len(), bytes);
+    words_of_block(alloc, dtype, true, block, &sizes[..block.len()], elements)
 }
 
 // The bytes of a block, whose words are given in C order, that store the cells of these sizes.
@@ -124,24 +115,12 @@ fn write_block(
     requires block { IsChunkShape block.now }
     requires within { AreWithin block.now sizes.now }
     requires count { length words.now ≡ cell_count block.now }
-    requires words { (place : ℕ) → place < length words.now → IsWord dtype (slice_index words.now place) }
-    ensures { IfOk result (λ bytes. bytes.items
-        ≡ header sizes.now ++ elements_of_rows dtype (reverse block.now) (reverse sizes.now) 1 0 words.now) }
+    ensures { IfOk result (λ bytes. AddsBlock dtype true block.now sizes.now words.now (header sizes.now) bytes.items) }
 {
-    let len = header_len(sizes.len()) + cells_of(sizes) * byte_count(dtype);
+    let len = header_len(sizes.len()) + cells_of(sizes) * dtype.byte_count();
     let mut bytes = Vec::with_capacity(alloc, len)?;
     put_header(sizes, &mut bytes)?;
-    let block = backwards(alloc, block)?;
-    let sizes = backwards(alloc, sizes)?;
-    write_rows(
-        dtype,
-        block.as_slice(),
-        sizes.as_slice(),
-        1,
-        0,
-        words,
-        &mut bytes,
-    )?;
+    put_block(alloc, dtype, true, block, sizes, words, &mut bytes)?;
     Ok(bytes)
 }
 
@@ -159,8 +138,13 @@ fn put_header(sizes: &[u64], out: &mut Vec<u8>) -> Result<(), AllocError>
     Ok(())
 }
 
-fn backwards(alloc: Global, sizes: &[u64]) -> Result<Vec<u64>, AllocError>
-    ensures { IfOk result (λ v. v.items ≡ reverse sizes.now) }
+// Appends the bytes of a word.
+fn put_element(dtype: Dtype, word: u64, out: &mut Vec<u8>) -> Result<(), AllocError>
+    requires { IsWord dtype word }
+    ensures { OnOk result (out.new.items ≡ out.old.items ++ word_bytes dtype true word) }
 {
-    sizes.iter().rev().copied().collect(alloc)
+    let mut buffer = [0; 8];
+    let size = dtype.byte_count();
+    put_word(dtype, true, word, &mut buffer[..size]);
+    out.extend_from_slice(&buffer[..size])
 }

@@ -5,8 +5,7 @@ ghost use Rattle.n5_blocks.specs.Faults.{mode_in, rank_in, header_len, size_in, 
 
 use crate::error::BlockError;
 use crate::metadata::N5Meta;
-use crate::rows::{byte_count, cells_of};
-use cells::{Dtype, LARGEST_RANK, take_word};
+use cells::{Dtype, LARGEST_RANK, MOST_CHUNK_CELLS, count_cells, take_word};
 
 /// The first fault of the bytes, if they have one.
 pub(crate) fn block_fault(m: &N5Meta, bytes: &[u8]) -> Option<BlockError>
@@ -72,7 +71,7 @@ fn length_fault(dtype: Dtype, sizes: &[u64], have: usize) -> Option<BlockError>
     requires volume { cell_count sizes.now ≤ 2 ^ 24 }
     ensures { result ≡ length_fault dtype sizes.now have }
 {
-    let want = header_len(sizes.len()) + cells_of(sizes) * byte_count(dtype);
+    let want = header_len(sizes.len()) + cells_of(sizes) * dtype.byte_count();
     if have == want {
         None
     } else {
@@ -129,4 +128,15 @@ fn size_in(bytes: &[u8], dim: usize) -> u64
 {
     let at = header_len(dim);
     take_word(Dtype::U32, true, &bytes[at..at + 4])
+}
+
+/// The number of cells.
+pub(crate) fn cells_of(sizes: &[u64]) -> usize
+    requires { cell_count sizes.now ≤ 2 ^ 24 }
+    ensures { result ≡ cell_count sizes.now }
+{
+    let Some(count) = count_cells(sizes, MOST_CHUNK_CELLS) else {
+        unreachable!();
+    };
+    count as usize
 }

@@ -12,7 +12,6 @@ mod faults;
 mod key;
 mod metadata;
 mod read;
-mod rows;
 mod write;
 
 pub use block::{cut_sizes, decode, encode};

@@ -1,7 +1,3 @@
-pub mod Elements
-pub mod Gathering
-pub mod Backwards
-pub mod GatheredPlaces
 pub mod ChunkLaws
 pub mod MetadataLaws
 pub mod TypeLaws

@@ -1,17 +1,10 @@
 -- What a chunk's bytes spell.
-use Rattle.std.specs.Prelude.{◌≡◌, ℕ, ◌*◌, ◌<◌, Bool, List, length, slice_index}
+use Rattle.std.specs.Prelude.{◌≡◌, ℕ, ◌*◌, List, length}
 use Rattle.cells.specs.Numbers.{IsWord}
 use Rattle.cells.specs.Bytes.{byte_count, word_bytes, word_of_bytes}
 use Rattle.cells.specs.Places.{cell_count, IsInside, place_of}
-use Rattle.cells.specs.declared.dtype.Dtype.{Dtype}
 use Rattle.zarr_chunks.specs.Metadata.{Metadata}
 pub use Rattle.cells.specs.Elements.{element_bytes, word_at}
-
--- the bytes are these words one after another, and nothing else
-pub record SpellsWords (dtype : Dtype) (big : Bool) (bytes words : List ℕ) : Type 0 where
-  pub count : length bytes ≡ length words * byte_count dtype
-  pub elements : (place : ℕ) → place < length words → element_bytes (byte_count dtype) bytes place ≡ word_bytes dtype big (slice_index words place)
-  pub are_words : (place : ℕ) → place < length words → IsWord dtype (slice_index words place)
 
 -- the bytes are a chunk of the array and nothing else, in which each index vector of the chunk has this word: the
 -- elements stand in the stated order, each in the stated byte order

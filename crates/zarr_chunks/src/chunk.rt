@@ -1,12 +1,13 @@
 ghost use Rattle.std.specs.Prelude.{◌≡◌, ◌≢◌, ◌↔◌, ◌*◌, ◌<◌, ◌≤◌, ◌^◌, ℕ, IfOk, IfErr, length, slice_index};
 ghost use Rattle.cells.specs.Numbers.{IsWord};
 ghost use Rattle.cells.specs.Places.{cell_count, c_place};
+ghost use Rattle.cells.specs.Shapes.{IsChunkShape};
+ghost use Rattle.chunk_elements.specs.Blocks.{StoresWords};
 ghost use Rattle.zarr_chunks.specs.Chunk.{SpellsChunk, chunk_len, word_at};
 
 use crate::metadata::ZarrMeta;
-use crate::reorder::{c_from_f, f_from_c};
-use crate::spelling::{byte_count, bytes_of, words_of};
-use cells::{Dense, Order, Sizes, Words, count_cells};
+use cells::{Dense, Dtype, MOST_CHUNK_CELLS, Order, Sizes, Words, count_cells};
+use chunk_elements::{bytes_of, put_block, words_of, words_of_block};
 use std::alloc::{AllocError, Global};
 use thiserror::Error;
 
@@ -37,7 +38,7 @@ pub fn decode(alloc: Global, m: &ZarrMeta, bytes: &[u8]) -> Result<Dense, ChunkE
         → e ≡ ChunkError.WrongLength (length bytes.now) (chunk_len m.now)) }
 {
     let count = cells_of(m);
-    let want = count * byte_count(m.dtype);
+    let want = count * m.dtype.byte_count();
     if bytes.len() != want {
         return Err(ChunkError::WrongLength {
             have: bytes.len() as u64,
@@ -72,7 +73,7 @@ fn cells_of(m: &ZarrMeta) -> usize
     ensures value { result ≡ cell_count m.now.chunks }
     ensures small { result ≤ 2 ^ 24 }
 {
-    let Some(count) = count_cells(m.chunks.items(), 1 << 24) else {
+    let Some(count) = count_cells(m.chunks.items(), MOST_CHUNK_CELLS) else {
         unreachable!();
     };
     count as usize
@@ -87,14 +88,13 @@ fn read_words(
 ) -> Result<Vec<u64>, AllocError>
     requires count { count ≡ cell_count m.now.chunks }
     requires full { length bytes.now ≡ chunk_len m.now }
-    ensures count { IfOk result (λ words. length words.items ≡ cell_count m.now.chunks) }
-    ensures spells { IfOk result (λ words. SpellsChunk m.now bytes.now
-        (λ index. slice_index words.items (c_place m.now.chunks index))) }
+    ensures { IfOk result (λ words. (length words.items ≡ cell_count m.now.chunks)
+        × SpellsChunk m.now bytes.now (λ index. slice_index words.items (c_place m.now.chunks index))) }
 {
-    let words = words_of(alloc, m.dtype, m.big, count, bytes)?;
+    let chunks = m.chunks.items();
     match m.order {
-        Order::C => Ok(words),
-        Order::F => c_from_f(alloc, m.chunks.items(), words.as_slice()),
+        Order::C => words_of(alloc, m.dtype, m.big, count, bytes),
+        Order::F => words_of_block(alloc, m.dtype, m.big, chunks, chunks, bytes),
     }
 }
 
@@ -107,9 +107,23 @@ fn write_words(alloc: Global, m: &ZarrMeta, words: &[u64]) -> Result<Vec<u8>, Al
 {
     match m.order {
         Order::C => bytes_of(alloc, m.dtype, m.big, words),
-        Order::F => {
-            let stored = f_from_c(alloc, m.chunks.items(), words)?;
-            bytes_of(alloc, m.dtype, m.big, stored.as_slice())
-        }
+        Order::F => bytes_of_block(alloc, m.dtype, m.big, m.chunks.items(), words),
     }
+}
+
+// The bytes of words, given in C order, one after another in F order.
+fn bytes_of_block(
+    alloc: Global,
+    dtype: Dtype,
+    big: bool,
+    chunks: &[u64],
+    words: &[u64],
+) -> Result<Vec<u8>, AllocError>
+    requires chunks { IsChunkShape chunks.now }
+    requires count { length words.now ≡ cell_count chunks.now }
+    ensures { IfOk result (λ bytes. StoresWords dtype big chunks.now chunks.now bytes.items words.now) }
+{
+    let mut bytes = Vec::with_capacity(alloc, words.len() * dtype.byte_count())?;
+    put_block(alloc, dtype, big, chunks, chunks, words, &mut bytes)?;
+    Ok(bytes)
 }

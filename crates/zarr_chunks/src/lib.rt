@@ -9,8 +9,6 @@ mod chunk;
 mod key;
 mod metadata;
 mod read;
-mod reorder;
-mod spelling;
 mod types;
 mod write;
 

@@ -1,10 +1,9 @@
-use Rattle.std.proofs.Common.{◌≡◌, ◌++◌, reverse, ap, sym, subst, ◌∙◌}
+use Rattle.std.proofs.Common.{◌≡◌, ap, sym, subst, ◌∙◌}
 use Rattle.std.proofs.lemmas.Result.{IfOk-weaker}
 use Rattle.n5_blocks.specs.Metadata.{Metadata, IsMetadata}
-use Rattle.n5_blocks.specs.Block.{AreWithin, cut_sizes, header}
-use Rattle.n5_blocks.specs.Rows.{elements_of_rows}
+use Rattle.n5_blocks.specs.Block.{AreWithin, cut_sizes}
 use Rattle.n5_blocks.proofs.CutLaws.{within-cut_sizes}
-use Rattle.n5_blocks.proofs.WriteLaws.{WritesBlock-dense}
+use Rattle.n5_blocks.proofs.BlockLaws.{WritesBlock-same}
 use Rattle.n5_blocks.proofs.block.encode.Goals as goal
 
 pub write_block-requires-clause-within : goal.write_block-requires-clause-within
@@ -27,7 +26,6 @@ returns c =
     let sizes_is : c.as_slice.result.now ≡ cut_sizes m.block m.dimensions c.args.chunk.now =
     c.as_slice.ensures.value ∙ c.in_ok-sizes.ensures ∙ ap (λ b. cut_sizes b c.items-2.result.now c.args.chunk.now) block_is ∙ ap (λ d. cut_sizes m.block d c.args.chunk.now) dimensions_is in
     IfOk-weaker c.write_block.result _ _
-    (λ bytes is. WritesBlock-dense m c.args.chunk.now bytes.items c.items-3.result.now c.as_slice.result.now c.words.result.now c.args.d.now c.words.ensures.well_formed
-    c.requires.dtype c.requires.shape rules c.requires.reached c.requires.outside (c.items-3.ensures ∙ ap (λ (n : Metadata). n.block) c.m.view_is) sizes_is c.words.ensures.value
-    (is ∙ ap (λ (n : Metadata). header c.as_slice.result.now ++ elements_of_rows n.dtype (reverse c.items-3.result.now) (reverse c.as_slice.result.now) 1 0 c.words.result.now) c.m.view_is))
+    (λ bytes adds. WritesBlock-same m c.args.chunk.now bytes.items c.items-3.result.now c.as_slice.result.now c.words.result.now c.m.inside.dtype c.args.d.now c.words.ensures.well_formed
+    c.requires.dtype c.requires.shape rules c.requires.reached c.requires.outside (ap (λ (n : Metadata). n.dtype) c.m.view_is) (c.items-3.ensures ∙ ap (λ (n : Metadata). n.block) c.m.view_is) sizes_is c.words.ensures.value adds)
     c.write_block.ensures

@@ -1,9 +1,7 @@
-use Rattle.std.proofs.Common.{◌*◌, ◌≤◌, ◌^◌, length, reverse, sym, ap, subst, ◌∙◌, arith}
+use Rattle.std.proofs.Common.{◌*◌, ◌≤◌, ◌^◌, length, arith}
 use Rattle.std.proofs.Math.Nat.{mul-le-mul}
-use Rattle.cells.specs.Places.{cell_count}
-use Rattle.cells.proofs.Laws.{cell_count-pos, cell_count-reverse}
-use Rattle.n5_blocks.specs.Block.{AreWithin}
-use Rattle.n5_blocks.proofs.SizeLaws.{cell_count-within, within-reverse}
+use Rattle.cells.proofs.Laws.{cell_count-pos}
+use Rattle.chunk_elements.proofs.Laws.{cell_count-within}
 use Rattle.n5_blocks.proofs.block.write_block.Goals as goal
 
 pub cells_of-requires : goal.cells_of-requires
@@ -24,22 +22,5 @@ overflow_add-len c =
     let rank : length c.args.sizes.now ≤ 32 = omega (arith, c.requires.within.ranks, c.requires.rank) in
     omega (arith, all, rank, c.header_len.ensures)
 
-pub write_rows-requires-clause-within : goal.write_rows-requires-clause-within
-write_rows-requires-clause-within c =
-    subst (λ block. AreWithin block c.as_slice-2.result.now) (sym (c.as_slice.ensures.value ∙ c.in_ok-block.ensures))
-    (subst (λ sizes. AreWithin (reverse c.args.block.now) sizes) (sym (c.as_slice-2.ensures.value ∙ c.in_ok-sizes.ensures)) (within-reverse c.args.block.now c.args.sizes.now c.requires.within))
-
-pub write_rows-requires-clause-cells : goal.write_rows-requires-clause-cells
-write_rows-requires-clause-cells c =
-    let same = ap cell_count (c.as_slice.ensures.value ∙ c.in_ok-block.ensures) ∙ cell_count-reverse c.args.block.now in
-    omega (arith, same, cell_count-pos c.args.block.now c.requires.block.least)
-
-pub write_rows-requires-clause-room : goal.write_rows-requires-clause-room
-write_rows-requires-clause-room c =
-    let same = ap cell_count (c.as_slice.ensures.value ∙ c.in_ok-block.ensures) ∙ cell_count-reverse c.args.block.now in
-    omega (arith, same, c.requires.count)
-
-pub write_rows-requires-clause-stride : goal.write_rows-requires-clause-stride
-write_rows-requires-clause-stride c =
-    let same = ap cell_count (c.as_slice.ensures.value ∙ c.in_ok-block.ensures) ∙ cell_count-reverse c.args.block.now in
-    omega (arith, same, c.requires.block.volume)
+pub put_block-requires-clause-cells : goal.put_block-requires-clause-cells
+put_block-requires-clause-cells c = cell_count-pos c.args.block.now c.requires.block.least

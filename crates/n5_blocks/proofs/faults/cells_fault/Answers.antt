@@ -1,7 +1,8 @@
 use Rattle.std.proofs.Common.{◌≡◌, ◌<◌, ◌^◌, length, take, get_or, sym, ap, subst, ◌∙◌, arith, zero-add}
 use Rattle.std.proofs.lemmas.List.FromFn.{length-map-range_with_len, get_or-map-range_with_len}
 use Rattle.n5_blocks.specs.Faults.{size_in}
-use Rattle.n5_blocks.proofs.SizeLaws.{size_in-lt, within_from_no_fault, cell_count-within}
+use Rattle.n5_blocks.proofs.SizeLaws.{size_in-lt, within_from_no_fault}
+use Rattle.chunk_elements.proofs.Laws.{cell_count-within}
 use Rattle.n5_blocks.proofs.faults.cells_fault.Goals as goal
 
 pub size_fault-requires-clause-small : goal.size_fault-requires-clause-small

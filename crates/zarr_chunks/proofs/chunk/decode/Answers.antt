@@ -10,10 +10,10 @@ new-requires c =
     let shape : c.wrap.result ≡ c.m.inside.chunks = c.wrap.ensures ∙ c.in-Ok-from_slice.ensures.items ∙ c.items.ensures in
     let words : c.wrap-2.result ≡ c.in-Ok.words.items = c.wrap-2.ensures in
     let of_dtype : All (IsWord c.m.inside.dtype) c.in-Ok.words.items =
-    subst (λ m. All (IsWord m.dtype) c.in-Ok.words.items) (sym c.m.view_is) (All-from_chunk c.args.m.now c.args.bytes.now c.in-Ok.words.items c.in-Ok.ensures.count c.in-Ok.ensures.spells) in
+    subst (λ m. All (IsWord m.dtype) c.in-Ok.words.items) (sym c.m.view_is) (All-from_chunk c.args.m.now c.args.bytes.now c.in-Ok.words.items c.in-Ok.ensures.0 c.in-Ok.ensures.1) in
     record {
       rank = omega (arith, ap length shape, c.m.invariant.ranks, c.m.invariant.shape.rank);
       small = rw shape c.m.invariant.chunks.volume;
-      full = ap length words ∙ c.in-Ok.ensures.count ∙ ap (λ m. cell_count m.chunks) (sym c.m.view_is) ∙ ap cell_count (sym shape);
+      full = ap length words ∙ c.in-Ok.ensures.0 ∙ ap (λ m. cell_count m.chunks) (sym c.m.view_is) ∙ ap cell_count (sym shape);
       of_dtype = rw words of_dtype;
     }

@@ -1,0 +1,5 @@
+-- The laws of elements that other crates rest on.
+pub use Rattle.chunk_elements.proofs.BlockLaws.{AreStored-words_of_rows}
+pub use Rattle.chunk_elements.proofs.FitLaws.{Fit, IsWord-zero, cell_count-within, fit_from_within, within-same, within_from_fit}
+pub use Rattle.chunk_elements.proofs.PartLaws.{bytes_of_part, small-drop, small-take}
+pub use Rattle.chunk_elements.proofs.RowLaws.{inside-fit, length-rows}

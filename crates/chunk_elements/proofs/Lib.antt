@@ -1,0 +1,9 @@
+pub mod BlockLaws
+pub mod ElementLaws
+pub mod FitLaws
+pub mod Laws
+pub mod LongLaws
+pub mod PartLaws
+pub mod RowLaws
+pub mod RowSteps
+pub mod WordLaws

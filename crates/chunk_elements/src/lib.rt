@@ -1,0 +1,16 @@
+//! Elements of chunks: words of the eight dtypes as bytes, in either byte order, one after another or as a block of which some
+//! cells are stored with the first index fastest.
+//!
+//! Other crates rest on two relations. `SpellsWords` ties bytes to the words that they are one after another; `StoresWords` ties
+//! the bytes of stored cells to the words of their block in C order.
+#![tactic(auto)]
+
+mod block;
+mod element;
+mod long;
+mod row;
+mod rows;
+mod words;
+
+pub use block::{put_block, words_of_block};
+pub use words::{bytes_of, words_of};
