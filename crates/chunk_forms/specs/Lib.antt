@@ -4,4 +4,5 @@ pub mod Names
 pub mod Metadata
 pub mod Wants
 pub mod Made
+pub mod Members
 pub mod Answers
