@@ -17,9 +17,15 @@ bin/bench_views: crates.txt $(wildcard crates/*/src/*.rt crates/*/specs/*.antt c
 	mkdir -p bin
 	cp crates/bench_views/out/bench_views bin/bench_views
 
-bench: bin/tensor_run bin/bench_views
+bin/bench_chunks: crates.txt $(wildcard crates/*/src/*.rt crates/*/specs/*.antt crates/*/proofs/*.antt)
+	cd crates/bench_chunks && rt run -- zarr_little decode 1 > "$(CURDIR)/build.log" 2>&1
+	mkdir -p bin
+	cp crates/bench_chunks/out/bench_chunks bin/bench_chunks
+
+bench: bin/tensor_run bin/bench_views bin/bench_chunks
 	bench/run.sh bin/tensor_run
 	bench/views.sh bin/bench_views
+	bench/chunks.sh bin/bench_chunks
 
 test:
 	rt ci
