@@ -21,7 +21,7 @@ pub(crate) fn answer(alloc: Global, call: &str, v: &Value) -> Result<String, Fau
 
 // Why no metadata was read.
 #[derive(Drop)]
-enum Unread {
+pub(crate) enum Unread {
     Meta { cause: MetaError },
     Line,
 }
@@ -32,7 +32,7 @@ impl From<MetaError> for Unread {
     }
 }
 
-fn read(alloc: Global, format: &str, meta: &str) -> Result<Form, Unread>
+pub(crate) fn read(alloc: Global, format: &str, meta: &str) -> Result<Form, Unread>
     ensures { IfOk result (λ form. is_local form ≡ false) }
 {
     match format {
@@ -77,7 +77,7 @@ fn of_form(alloc: Global, call: &str, form: &Form, v: &Value) -> Result<String, 
 }
 
 // The written metadata.
-fn written(alloc: Global, form: &Form) -> Result<String, Fault> {
+pub(crate) fn written(alloc: Global, form: &Form) -> Result<String, Fault> {
     let bytes = match form {
         Form::Zarr { meta } => zarr_chunks::write_meta(alloc, meta)?,
         Form::N5 { meta } => n5_blocks::write_meta(alloc, meta)?,

@@ -3,6 +3,7 @@
 //! The lines stand in the file `stdin` and what they must give in `stdout`, worked out by hand or by another program.
 #![tactic(auto)]
 
+mod asking;
 mod caching;
 mod cases;
 mod casts;
