@@ -16,7 +16,7 @@ use Rattle.history.specs.Chunks.{Chunk, chunk_of}
 use Rattle.history.specs.Touch.{touches, touches_by, generation_of}
 use Rattle.history.specs.Writes.{Content, puts_of, written, shown_in}
 use Rattle.history.specs.Content.{content_after}
-use Rattle.history.specs.Reads.{target_cell, is_put, unwritten, first_reads, mark_of, marked_world}
+use Rattle.history.specs.Reads.{target_cell, is_put, unwritten, first_reads, footprint_of, mark_of, marked_world}
 use Rattle.history.specs.Legal.{IsLegal, AreReads, is_present_in}
 use Rattle.history.specs.Commit.{Key, Transaction, IsConflict, read_generation}
 use Rattle.history.proofs.Histories.{each_history}
@@ -62,7 +62,7 @@ first_reads_words f before (Write view words ∷ ops) reads = first_reads_words 
 first_reads_words f before (Read view words ∷ ops) reads =
     all_with (HasWord f) (unwritten before view) (first_reads (before ++ Read view words ∷ []) ops) (unwritten_words f before (targets_of view) words reads.0) (first_reads_words f (before ++ Read view words ∷ []) ops reads.1)
 
-among_mapped : (f : Cell → Chunk) (P : Cell → Type 0) (xs : List Cell) (c : Chunk) → AllByRecursion P xs → Contains (map f xs) c → (x : Cell) × P x × (f x ≡ c)
+pub among_mapped : (f : Cell → Chunk) (P : Cell → Type 0) (xs : List Cell) (c : Chunk) → AllByRecursion P xs → Contains (map f xs) c → (x : Cell) × P x × (f x ≡ c)
 among_mapped f P [] c all (k, lt, e) = absurd (omega arith)
 among_mapped f P (x ∷ xs) c all (zero, lt, e) = (x, all.0, e)
 among_mapped f P (x ∷ xs) c all (suc k, lt, e) = among_mapped f P xs c all.1 (k, omega arith, e)
@@ -90,7 +90,7 @@ present_known : (o : Option Known) (x : Cell) → is_present_in o x ≡ true →
 present_known None x e = absurd (cc)
 present_known (Some k) x e = (k, refl)
 
-itself : (o : Option Known) (k : Known) → o ≡ Some k → IsOpenedAs k.info k.opened o
+pub itself : (o : Option Known) (k : Known) → o ≡ Some k → IsOpenedAs k.info k.opened o
 unfolding IsOpenedAs
 itself o k is = subst (IsOpenedAs k.info k.opened) (sym is) (refl, refl)
 
@@ -99,20 +99,28 @@ unfolding IsOpenedAs
 opened_of_known i n None opened = absurd opened
 opened_of_known i n (Some k) opened = (k, refl, opened.1)
 
-pub conflict_is_real : (start : Contents) (events : History) (t : Transaction) (key : Key) (read now : ℕ) → IsLegal start events → IsTransaction start events t → (is : IsConflict events t key read now) → IsRealConflict events is.chunk read now
-conflict_is_real start events t key read now legal tx is =
-    let c = is.chunk in
+-- the array of a chunk that was read is known at the chunk's mark
+pub known_at_mark : (start : Contents) (events : History) (t : Transaction) (c : Chunk) → IsTransaction start events t → Contains (footprint_of events t.ops) c → (k : Known) × (known_after (take (mark_of t.marks c) events) c.array ≡ Some k)
+known_at_mark start events t c tx read =
     let m = mark_of t.marks c in
     let early = take m events in
     let f = marked_world start events (mark_of t.marks) in
-    let found = among_mapped (chunk_of events) (HasWord f) (first_reads [] t.ops) c (first_reads_words f [] t.ops tx.seen) is.conflict.was_read in
+    let found = among_mapped (chunk_of events) (HasWord f) (first_reads [] t.ops) c (first_reads_words f [] t.ops tx.seen) read in
     let x = found.0 in
     let here : f x ≡ Some found.1.0 = found.1.1 in
     let at : known_after (take (mark_of t.marks (chunk_of events x)) events) x.array ≡ known_after early x.array = ap (λ d. known_after (take (mark_of t.marks d) events) x.array) found.2 in
     let present = (world_some (known_after (take (mark_of t.marks (chunk_of events x)) events) x.array) x (content_after start (take (mark_of t.marks (chunk_of events x)) events) x) found.1.0 here).0 in
     let number : x.array ≡ c.array = sym (chunk_array (known_after events x.array) x) ∙ ap (λ (d : Chunk). d.array) found.2 in
     let first = present_known (known_after early x.array) x (ap (λ o. is_present_in o x) (sym at) ∙ present) in
-    let then : known_after early c.array ≡ Some first.0 = ap (known_after early) (sym number) ∙ first.1 in
+    (first.0, ap (known_after early) (sym number) ∙ first.1)
+
+pub conflict_is_real : (start : Contents) (events : History) (t : Transaction) (key : Key) (read now : ℕ) → IsLegal start events → IsTransaction start events t → (is : IsConflict events t key read now) → IsRealConflict events is.chunk read now
+conflict_is_real start events t key read now legal tx is =
+    let c = is.chunk in
+    let m = mark_of t.marks c in
+    let early = take m events in
+    let first = known_at_mark start events t c tx is.conflict.was_read in
+    let then : known_after early c.array ≡ Some first.0 = first.1 in
     let low : first.0.opened ≤ generation_of early c = opening_touches c early first.0 then in
     let parts : early ++ drop m events ≡ events = take-append-drop m events in
     let last : IsOpenedAs first.0.info first.0.opened (known_after events c.array) =

@@ -31,3 +31,11 @@ pub mod Counted
 pub mod Grids
 pub mod Conflicts
 pub mod Staged
+pub mod ActFits
+pub mod StepsLonger
+pub mod StepsKept
+pub mod Quiet
+pub mod Settled
+pub mod ForeignConflicts
+pub mod Shrinks
+pub mod Meetings

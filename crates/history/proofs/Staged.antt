@@ -24,14 +24,14 @@ use Rattle.history.specs.Staged.{IsTransaction}
 use Rattle.history.proofs.Presence.{world_some}
 use Rattle.history.proofs.Written.{puts_elsewhere}
 
-same_cell : (x : Cell) → is_cell x x ≡ true
+pub same_cell : (x : Cell) → is_cell x x ≡ true
 same_cell x = both_true (x.array == x.array) (bytes_eq x.index x.index) (eq-eqb x.array x.array refl) ((bytes_eq-Decides x.index x.index).1 refl)
 
-or_left : (a b : Bool) → a ≡ true → (a || b) ≡ true
+pub or_left : (a b : Bool) → a ≡ true → (a || b) ≡ true
 or_left true b e = refl
 or_left false b e = absurd (cc)
 
-or_right : (a b : Bool) → b ≡ true → (a || b) ≡ true
+pub or_right : (a b : Bool) → b ≡ true → (a || b) ≡ true
 or_right true b e = refl
 or_right false b e = e
 
@@ -39,12 +39,12 @@ or_assoc : (a b c : Bool) → (a || (b || c)) ≡ ((a || b) || c)
 or_assoc true b c = refl
 or_assoc false b c = refl
 
-or_parted : (a b : Bool) → (a || b) ≡ true → (a ≡ true) ⊎ (b ≡ true)
+pub or_parted : (a b : Bool) → (a || b) ≡ true → (a ≡ true) ⊎ (b ≡ true)
 or_parted true b e = inl refl
 or_parted false b e = inr e
 
 -- what some puts and others put
-put_either : (ps qs : List Put) (x : Cell) → is_put (ps ++ qs) x ≡ (is_put ps x || is_put qs x)
+pub put_either : (ps qs : List Put) (x : Cell) → is_put (ps ++ qs) x ≡ (is_put ps x || is_put qs x)
 put_either [] qs x = refl
 put_either (p ∷ ps) qs x = ap (λ b. is_cell p.0 x || b) (put_either ps qs x) ∙ or_assoc (is_cell p.0 x) (is_put ps x) (is_put qs x)
 

@@ -1,4 +1,4 @@
--- A cell's word after a history, and the arrays then. No chunk but those at the start, no generation and no cache occur here.
+-- A cell's word after a history, and the arrays then. No chunk bytes but those at the start, no generation and no cache occur here.
 use Rattle.std.specs.Prelude.{ℕ, ◌+◌, List, [], length, Option, Some, None, if◌then◌else◌}
 use Rattle.kv_face.specs.Store.{Contents}
 use Rattle.chunk_forms.specs.Words.{is_inside}

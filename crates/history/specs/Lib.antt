@@ -24,3 +24,16 @@ pub mod Refs
 pub mod Generations
 pub mod Stored
 pub mod Staged
+pub mod Answers
+pub mod Lines
+pub mod Sessions
+pub mod Viewing
+pub mod Acts
+pub mod Own
+pub mod OpenRows
+pub mod ReadRows
+pub mod CommitRows
+pub mod ResizeRows
+pub mod Steps
+pub mod SingleOpen
+pub mod Single

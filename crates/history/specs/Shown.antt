@@ -1,6 +1,6 @@
 -- What a read shows a transaction, and the marks that it leaves.
 use Rattle.std.specs.Prelude.{◌≡◌, ◌≤◌, ℕ, List, [], ◌∷◌, ◌++◌, length, map, false, Some, IsTrue, if◌then◌else◌}
-use Rattle.std.specs.List.{list_any, AllByRecursion}
+use Rattle.std.specs.List.{list_any, AllByRecursion, IsDistinct}
 use Rattle.stack_driver.specs.declared.view.View.{View}
 use Rattle.history.specs.declared.event.Op.TheVariants.{Read}
 use Rattle.history.specs.History.{History}
@@ -12,14 +12,15 @@ use Rattle.history.specs.Commit.{Fixed, Transaction}
 abbrev pub IsMarkWithin : ℕ → ℕ → Chunk × ℕ → Type 0
 IsMarkWithin low high m = (low ≤ m.1) × (m.1 ≤ high)
 
--- each chunk that the view needs has a mark; each new one is of such a chunk that had none, and lies between what was seen before
--- and what is seen now
+-- each chunk that the view needs has a mark; new ones are of such chunks that had none, one for each, and lie between what was seen
+-- before and what is seen now
 pub record AreMarked (events : History) (seen : ℕ) (t : Transaction) (view : View) (marks : Marks) : Type 0 where
   pub fresh : Marks
   pub marked : marks ≡ t.marks ++ fresh
   pub within : AllByRecursion (IsMarkWithin seen (length events)) fresh
   pub needed : AllByRecursion (λ m. IsTrue (list_any (λ x. is_chunk (chunk_of events x) m.0) (unwritten t.ops view))) fresh
   pub new : AllByRecursion (λ m. has_mark t.marks m.0 ≡ false) fresh
+  pub once : IsDistinct is_chunk (map (λ (m : Chunk × ℕ). m.0) fresh)
   pub each : AllByRecursion (λ x. IsTrue (has_mark marks (chunk_of events x))) (unwritten t.ops view)
 
 -- a read gives what the transaction sees

@@ -1,5 +1,5 @@
 -- The operations of a transaction before they are committed.
-use Rattle.std.specs.Prelude.{◌≡◌, ◌≤◌, ℕ, List, [], length, true, Result, Ok, Err, IsTrue}
+use Rattle.std.specs.Prelude.{◌≡◌, ◌≤◌, ℕ, List, [], length, true, Option, Some, None, Result, Ok, Err, IsTrue}
 use Rattle.kv_face.specs.Store.{Contents}
 use Rattle.std.specs.List.{AllByRecursion, list_all}
 use Rattle.index_transform.specs.Cells.{is_finite}
@@ -36,3 +36,8 @@ AreWithin n marks = AllByRecursion (λ m. m.1 ≤ n) marks
 pub record IsTransaction (start : Contents) (events : History) (t : Transaction) : Type 0 where
   pub seen : AreReads (marked_world start events (mark_of t.marks)) [] t.ops
   pub within : AreWithin (length events) t.marks
+
+-- the same of a transaction, where there is one
+abbrev pub HasTransaction : Contents → History → Option Transaction → Type 0
+HasTransaction start events None = Unit {0}
+HasTransaction start events (Some t) = IsTransaction start events t
