@@ -3,9 +3,11 @@ ghost use Rattle.stack_driver.specs.Conditions.{IsView};
 
 use crate::args::{member, numbers};
 use crate::fault::Fault;
+use cells::{List, Words};
+use history::{Op, Ops};
 use serde_json::Value;
 use stack_driver::{
-    TargetError, View, array_of, casts, contains, depth, dtype, leaves, target, transform_of,
+    TargetError, View, array_of, casts, contains, copy, depth, dtype, leaves, target, transform_of,
 };
 use std::alloc::Global;
 use std::fmt::Debug;
@@ -20,6 +22,7 @@ pub(crate) fn asked(alloc: Global, view: &View, call: &str, v: &Value) -> Result
         "counts" => told(alloc, &(leaves(view), depth(view))),
         "casts" => told(alloc, &casts(alloc, view)?),
         "array" => told(alloc, &array_of(view)),
+        "ops" => shared(&one_write(alloc, view)?, alloc),
         _ => Err(Fault::Line),
     }
 }
@@ -59,6 +62,22 @@ fn target_told(alloc: Global, view: &View, index: &[i64]) -> Result<String, Faul
         Err(TargetError::Memory) => Err(Fault::Memory),
         Err(e) => told(alloc, &e),
     }
+}
+
+// A list of one operation, a write of no words.
+fn one_write(alloc: Global, view: &View) -> Result<Ops, Fault> {
+    let mut ops = Vec::with_capacity(alloc, 1)?;
+    ops.push(Op::Write {
+        view: copy(alloc, view)?,
+        words: Words::wrap(Vec::new(alloc)),
+    })?;
+    Ok(Ops::wrap(alloc, List::wrap(ops))?)
+}
+
+// How many operations a list has, and how many its share has.
+fn shared(ops: &Ops, alloc: Global) -> Result<String, Fault> {
+    let again = ops.share()?;
+    told(alloc, &(ops.items().len(), again.items().len()))
 }
 
 // Any answer, by its Debug.
