@@ -31,9 +31,11 @@ pub mod Counted
 pub mod Grids
 pub mod Conflicts
 pub mod Staged
+pub mod Asking
 pub mod ActFits
 pub mod StepsLonger
 pub mod StepsKept
+pub mod StepsStaged
 pub mod Quiet
 pub mod Settled
 pub mod ForeignConflicts
