@@ -9,7 +9,7 @@ use Rattle.history.specs.declared.event.Op.{Op}
 use Rattle.history.specs.declared.event.Kind.{Kind}
 use Rattle.history.specs.declared.event.Kind.TheVariants.{Opened, Done, Resized, Fault}
 use Rattle.history.specs.History.{History}
-use Rattle.history.specs.Arrays.{Known, known_after, known_step, reshaped}
+use Rattle.history.specs.Arrays.{Known, known_after, known_step, known_reshaped}
 use Rattle.history.specs.Chunks.{Chunk, is_chunk, chunk_of, chunk_in}
 use Rattle.kv_face.specs.Store.{Contents}
 use Rattle.history.specs.Content.{content_after, world_after}
@@ -34,7 +34,7 @@ opened_below start h a i n (Some k) is legal opened = known_below start a h lega
 stays_opened : (i : ArrayInfo) (n : ℕ) (b : Bool) (k : Known) (known : Option Known) → b ≡ false → IsOpenedAs i n known → IsOpenedAs i n (cond b (Some k) known)
 stays_opened i n b k known e opened = subst (λ t. IsOpenedAs i n (cond t (Some k) known)) (sym e) opened
 
-stays_shaped : (i : ArrayInfo) (n : ℕ) (shape : List ℕ) (b : Bool) (known : Option Known) → IsOpenedAs i n known → IsOpenedAs i n (cond b (reshaped shape known) known)
+stays_shaped : (i : ArrayInfo) (n : ℕ) (shape : List ℕ) (b : Bool) (known : Option Known) → IsOpenedAs i n known → IsOpenedAs i n (cond b (known_reshaped shape known) known)
 unfolding IsOpenedAs
 stays_shaped i n shape true None opened = opened
 stays_shaped i n shape true (Some k) opened = opened

@@ -17,10 +17,10 @@ use Rattle.history.specs.declared.event.Kind.{Kind}
 use Rattle.history.specs.declared.event.Kind.TheVariants.{Opened, Done, Resized, Fault}
 use Rattle.history.specs.declared.event.Event.{Event}
 use Rattle.history.specs.History.{History}
-use Rattle.history.specs.Arrays.{Known, known_after, known_step, reshaped, form_of}
+use Rattle.history.specs.Arrays.{Known, known_after, known_step, known_reshaped, form_of}
 use Rattle.history.specs.Chunks.{home_text, keys_text}
 use Rattle.history.specs.Touch.{is_key}
-use Rattle.history.specs.Legal.{IsLegal, IsLegalKind, IsLegalOpening, IsLegalResize, IsNewShape, IsApartFrom, AreApart, IsPlaced, IsMount, IsAsKept, begins, is_opening}
+use Rattle.history.specs.Legal.{IsLegal, IsLegalKind, IsLegalOpening, IsLegalResize, MayTake, IsApartFrom, AreApart, IsPlaced, IsMount, IsAsKept, begins, is_opening}
 use Rattle.history.specs.Places.{location, location_of, opened_array, arrays_of, locations, is_below, clashes, taken, array_at, at_step, reshaped_at}
 use Rattle.history.specs.Outcomes.{Outcome, path_taken, mismatch, there, exists, found, made, home_of, new_info, unless_taken, unless_differs, outcome_at, opening_outcome}
 use Rattle.chunk_forms.specs.Wants.{mismatch_of}
@@ -90,7 +90,7 @@ module _ (start : Contents) (here : List ℕ) where
       known_after-more h e k.info.number ∙ ap (λ kind. known_step k.info.number h kind (known_after h k.info.number)) is
       ∙ ap (λ t. cond t (Some (opened_as h info)) (known_after h k.info.number)) (fresh_number start h info k.info.number k legal opening old) ∙ old
 
-  reshaped_known : (b n : ℕ) (t : Bool) (shape : List ℕ) (l k : Known) → cond t (Some (record l { shape = shape })) (Some l) ≡ Some k → (k.info.number ≡ l.info.number) × (cond t (reshaped shape (Some l)) (Some l) ≡ Some k)
+  reshaped_known : (b n : ℕ) (t : Bool) (shape : List ℕ) (l k : Known) → cond t (Some (record l { shape = shape })) (Some l) ≡ Some k → (k.info.number ≡ l.info.number) × (cond t (known_reshaped shape (Some l)) (Some l) ≡ Some k)
   reshaped_known b n true shape l k e = (ap (λ (m : Known). m.info.number) (sym (some_inj (record l { shape = shape }) k e)), e)
   reshaped_known b n false shape l k e = (ap (λ (m : Known). m.info.number) (sym (some_inj l k e)), e)
 
@@ -100,7 +100,7 @@ module _ (start : Contents) (here : List ℕ) where
       let old = before l refl in
       let parts = reshaped_known b l.info.number (b == l.info.number) shape l k at in
       ap (known_after (h ++ e ∷ [])) parts.0 ∙ known_after-more h e l.info.number ∙ ap (λ kind. known_step l.info.number h kind (known_after h l.info.number)) is
-      ∙ ap (λ o. cond (b == l.info.number) (reshaped shape o) o) old ∙ parts.1
+      ∙ ap (λ o. cond (b == l.info.number) (known_reshaped shape o) o) old ∙ parts.1
 
   kept_there : (h : History) (e : Event) (kind : Kind) (k : Known) → e.kind ≡ kind → IsLegal start h → IsLegalKind start h kind → ((l : Known) → array_at h here ≡ Some l → known_after h l.info.number ≡ Some l) → at_step here h kind (array_at h here) ≡ Some k
       → known_after (h ++ e ∷ []) k.info.number ≡ Some k
@@ -341,5 +341,5 @@ opening_legal start events owner leaf meta legal free mount valid at =
     (stored_opening start events (new_info (count_by is_opening events) leaf meta) (location_of_leaf leaf) legal refl at free (placed_form leaf meta mount) (kept_form (count_by is_opening events) leaf meta valid (location_of_leaf leaf) at))
 
 -- a new shape of a stored array keeps the history legal
-pub resize_legal : (start : Contents) (events : History) (owner a : ℕ) (shape : List ℕ) (k : Known) → IsLegal start events → known_after events a ≡ Some k → IsNewShape k shape → IsLegal start (events ++ record { owner = owner; kind = Resized a shape } ∷ [])
+pub resize_legal : (start : Contents) (events : History) (owner a : ℕ) (shape : List ℕ) (k : Known) → IsLegal start events → known_after events a ≡ Some k → MayTake k shape → IsLegal start (events ++ record { owner = owner; kind = Resized a shape } ∷ [])
 resize_legal start events owner a shape k legal is new = legal_more start events (record { owner = owner; kind = Resized a shape }) legal (subst (λ o. IsLegalResize o shape) (sym is) new)

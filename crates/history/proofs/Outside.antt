@@ -12,7 +12,7 @@ use Rattle.history.specs.declared.event.Kind.{Kind}
 use Rattle.history.specs.declared.event.Kind.TheVariants.{Opened, Done, Resized, Fault}
 use Rattle.history.specs.declared.event.Event.{Event}
 use Rattle.history.specs.History.{History}
-use Rattle.history.specs.Arrays.{Known, known_after, known_step, reshaped, chunk_shape, form_of}
+use Rattle.history.specs.Arrays.{Known, known_after, known_step, known_reshaped, chunk_shape, form_of}
 use Rattle.history.specs.Chunks.{chunk_of, chunk_index, within_chunk, chunk_key}
 use Rattle.history.specs.Resizes.{is_cut_in}
 use Rattle.history.specs.Touch.{touches, touches_by}
@@ -58,7 +58,7 @@ IsOutsideWord known x word = (k : Known) → known ≡ Some k → is_inside k.sh
 opened_now : (h : History) (info : ArrayInfo) (a : ℕ) (known : Option Known) (k : Known) → (info.number == a) ≡ true → cond (info.number == a) (Some (opened_as h info)) known ≡ Some k → opened_as h info ≡ k
 opened_now h info a known k here is = some_inj (opened_as h info) k (ap (λ b. cond b (Some (opened_as h info)) known) (sym here) ∙ is)
 
-resized_outside : (shape : List ℕ) (x : Cell) (word : Option ℕ) (known : Option Known) (k : Known) → reshaped shape known ≡ Some k → is_inside k.shape x.index ≡ false → cut_to known shape x word ≡ word_outside k.info.home k.info.fill
+resized_outside : (shape : List ℕ) (x : Cell) (word : Option ℕ) (known : Option Known) (k : Known) → known_reshaped shape known ≡ Some k → is_inside k.shape x.index ≡ false → cut_to known shape x word ≡ word_outside k.info.home k.info.fill
 resized_outside shape x word None k is out = absurd (none_is_none k is)
 resized_outside shape x word (Some old) k is out =
     let same : record old { shape = shape } ≡ k = some_inj (record old { shape = shape }) k is in
@@ -75,7 +75,7 @@ touched_outside h (Done line mode ops key) x word legal t k is out =
     ap (λ o. cut_to o (present_shape o) x (written ops (λ y. word) x)) is ∙ cut_outside k k.shape x (written ops (λ y. word) x) out
 touched_outside h (Resized a shape) x word legal t k is out =
     let here : (a == x.array) ≡ true = ap (λ n. a == n) (sym (chunk_array (known_after h x.array) x)) ∙ (both (a == (chunk_of h x).array) (is_cut_in (known_after h (chunk_of h x).array) shape (chunk_of h x).index) t).0 in
-    resized_outside shape x word (known_after h x.array) k (ap (λ b. cond b (reshaped shape (known_after h x.array)) (known_after h x.array)) (sym here) ∙ is) out
+    resized_outside shape x word (known_after h x.array) k (ap (λ b. cond b (known_reshaped shape (known_after h x.array)) (known_after h x.array)) (sym here) ∙ is) out
 touched_outside h (Fault mount) x word legal t k is out = absurd (cc)
 
 module _ (h : History) (e : Event) (x : Cell) (legal : IsLegal finmap.empty h) (next : IsLegalKind finmap.empty h e.kind) (t : touches h e (chunk_of h x) ≡ false) (k : Known) (is : known_after (h ++ e ∷ []) x.array ≡ Some k) (out : is_inside k.shape x.index ≡ false) where

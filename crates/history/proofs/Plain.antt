@@ -17,7 +17,7 @@ use Rattle.history.specs.declared.event.Kind.{Kind}
 use Rattle.history.specs.declared.event.Kind.TheVariants.{Opened, Done, Resized, Fault}
 use Rattle.history.specs.declared.event.Event.{Event}
 use Rattle.history.specs.History.{History}
-use Rattle.history.specs.Arrays.{Known, known_after, known_step, reshaped, is_local}
+use Rattle.history.specs.Arrays.{Known, known_after, known_step, known_reshaped, is_local}
 use Rattle.history.specs.Chunks.{chunk_of}
 use Rattle.history.specs.Resizes.{is_cut_in}
 use Rattle.history.specs.Touch.{touches_by, writes_chunk}
@@ -42,7 +42,7 @@ opened_shape : (b : Bool) (k : Known) (o : Option (List ℕ)) (known : Option Kn
 opened_shape true k o known e = refl
 opened_shape false k o known e = e
 
-resized_shape : (b : Bool) (shape : List ℕ) (o : Option (List ℕ)) (known : Option Known) → o ≡ shape_in known → cond b (new_shape o shape) o ≡ shape_in (cond b (reshaped shape known) known)
+resized_shape : (b : Bool) (shape : List ℕ) (o : Option (List ℕ)) (known : Option Known) → o ≡ shape_in known → cond b (new_shape o shape) o ≡ shape_in (cond b (known_reshaped shape known) known)
 resized_shape true shape o None e = ap (λ p. new_shape p shape) e
 resized_shape true shape o (Some k) e = ap (λ p. new_shape p shape) e
 resized_shape false shape o known e = e
@@ -69,7 +69,7 @@ unfolding HasFill
 opened_fill true k fill known e = refl
 opened_fill false k fill known e = e
 
-resized_fill : (b : Bool) (shape : List ℕ) (fill : ℕ) (known : Option Known) → HasFill known fill → HasFill (cond b (reshaped shape known) known) fill
+resized_fill : (b : Bool) (shape : List ℕ) (fill : ℕ) (known : Option Known) → HasFill known fill → HasFill (cond b (known_reshaped shape known) known) fill
 unfolding HasFill
 resized_fill true shape fill None e = e
 resized_fill true shape fill (Some k) e = e
@@ -155,7 +155,7 @@ module _ (h : History) (x : Cell) (w p : Option ℕ) (e : p ≡ world_in (known_
 
 -- a resize, the array being known or not
 resized_here : (x : Cell) (w p : Option ℕ) (shape : List ℕ) (fill : ℕ) (t : Bool) (known : Option Known) (o : Option (List ℕ)) → o ≡ shape_in known → p ≡ world_in known x w → IsOutsideWord known x w → HasFill known fill → IsLegalResize known shape
-    → resized_word o shape fill x p ≡ world_in (reshaped shape known) x (cond t (cut_to known shape x w) w)
+    → resized_word o shape fill x p ≡ world_in (known_reshaped shape known) x (cond t (cut_to known shape x w) w)
 unfolding HasFill
 resized_here x w p shape fill t None o so e outside has legal = absurd legal
 resized_here x w p shape fill t (Some k) o so e outside has legal =
@@ -178,7 +178,7 @@ resized_here x w p shape fill t (Some k) o so e outside has legal =
 
 by_resize : (h : History) (x : Cell) (w p : Option ℕ) (a : ℕ) (shape : List ℕ) (arrays : PlainArrays) (b : Bool) → (a == x.array) ≡ b → arrays.words x ≡ p → p ≡ world_in (known_after h x.array) x w → arrays.shape x.array ≡ shape_in (known_after h x.array) → HasFill (known_after h x.array) (arrays.fill x.array)
     → IsOutsideWord (known_after h x.array) x w → IsLegalResize (known_after h a) shape
-    → cond b (resized_word (arrays.shape x.array) shape (arrays.fill x.array) x (arrays.words x)) (arrays.words x) ≡ world_in (cond b (reshaped shape (known_after h x.array)) (known_after h x.array)) x (cond (b && is_cut_in (known_after h x.array) shape (chunk_of h x).index) (cut_to (known_after h x.array) shape x w) w)
+    → cond b (resized_word (arrays.shape x.array) shape (arrays.fill x.array) x (arrays.words x)) (arrays.words x) ≡ world_in (cond b (known_reshaped shape (known_after h x.array)) (known_after h x.array)) x (cond (b && is_cut_in (known_after h x.array) shape (chunk_of h x).index) (cut_to (known_after h x.array) shape x w) w)
 by_resize h x w p a shape arrays true same is e so has outside legal =
     ap (resized_word (arrays.shape x.array) shape (arrays.fill x.array) x) is
     ∙ resized_here x w p shape (arrays.fill x.array) (is_cut_in (known_after h x.array) shape (chunk_of h x).index) (known_after h x.array) (arrays.shape x.array) so e outside has (subst (λ n. IsLegalResize (known_after h n) shape) (eqb-true a x.array same) legal)

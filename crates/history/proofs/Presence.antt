@@ -8,7 +8,7 @@ use Rattle.stack_driver.specs.Targets.{Cell}
 use Rattle.history.specs.declared.event.Kind.{Kind}
 use Rattle.history.specs.declared.event.Kind.TheVariants.{Opened, Done, Resized, Fault}
 use Rattle.history.specs.History.{History}
-use Rattle.history.specs.Arrays.{Known, known_after, known_step, reshaped, chunk_shape}
+use Rattle.history.specs.Arrays.{Known, known_after, known_step, known_reshaped, chunk_shape}
 use Rattle.history.specs.Chunks.{chunk_of, chunk_in, chunk_index}
 use Rattle.history.specs.Resizes.{is_shorter, is_cut_in}
 use Rattle.history.specs.Touch.{touches, touches_by, generation_of}
@@ -27,7 +27,7 @@ IsLegal-front start early =
     (λ late e before legal. before (legal_step start (early ++ late) e (subst (IsLegal start) (sym (append_assoc early late (e ∷ []))) legal)).0)
 
 resized_present : (start : Contents) (x : Cell) (a : ℕ) (shape : List ℕ) (h : History) (test : Bool) → (a == x.array) ≡ test → (known : Option Known) → known ≡ known_after h x.array → IsLegal start h → IsLegalResize (known_after h a) shape
-    → (test && is_cut_in known shape (chunk_in known x).index) ≡ false → is_present_in known x ≡ true → is_present_in (cond test (reshaped shape known) known) x ≡ true
+    → (test && is_cut_in known shape (chunk_in known x).index) ≡ false → is_present_in known x ≡ true → is_present_in (cond test (known_reshaped shape known) known) x ≡ true
 resized_present start x a shape h false same known is legal resize uncut present = present
 resized_present start x a shape h true same None is legal resize uncut present = present
 resized_present start x a shape h true same (Some k) is legal resize uncut present =

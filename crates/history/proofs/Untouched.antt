@@ -8,7 +8,7 @@ use Rattle.history.specs.declared.event.Kind.{Kind}
 use Rattle.history.specs.declared.event.Kind.TheVariants.{Opened, Done, Resized, Fault}
 use Rattle.history.specs.declared.event.Event.{Event}
 use Rattle.history.specs.History.{History}
-use Rattle.history.specs.Arrays.{Known, known_after, known_step, reshaped}
+use Rattle.history.specs.Arrays.{Known, known_after, known_step, known_reshaped}
 use Rattle.history.specs.Chunks.{Chunk, chunk_of, chunk_in}
 use Rattle.history.specs.Touch.{touches, touches_by, generation_of}
 use Rattle.history.specs.Start.{opening_word}
@@ -33,7 +33,7 @@ pub chunk_array : (known : Option Known) (x : Cell) → (chunk_in known x).array
 chunk_array None x = refl
 chunk_array (Some k) x = refl
 
-maybe_reshaped : (b : Bool) (known : Option Known) (shape : List ℕ) (x : Cell) → chunk_in (cond b (reshaped shape known) known) x ≡ chunk_in known x
+maybe_reshaped : (b : Bool) (known : Option Known) (shape : List ℕ) (x : Cell) → chunk_in (cond b (known_reshaped shape known) known) x ≡ chunk_in known x
 maybe_reshaped true None shape x = refl
 maybe_reshaped true (Some k) shape x = refl
 maybe_reshaped false known shape x = refl

@@ -17,7 +17,7 @@ use Rattle.history.specs.declared.event.Op.TheVariants.{Write, Read}
 use Rattle.history.specs.History.{History}
 use Rattle.history.specs.Arrays.{Known, known_after, chunk_shape, chunk_shape_in, is_local}
 use Rattle.history.specs.Chunks.{Chunk, is_chunk, chunk_of, chunk_in, chunk_index, AreStarts, IsIndexOf, IsWholeIfLocal}
-use Rattle.history.specs.Resizes.{reaches, is_cut}
+use Rattle.history.specs.Resizes.{reaches_into, is_cut}
 use Rattle.history.specs.Writes.{Put, put_at, puts_of, puts_of_op}
 use Rattle.history.specs.Touch.{writes_chunk}
 use Rattle.history.specs.Legal.{IsLegal, IsAsKept, IsLegalOp, HasTarget, is_present, is_present_in}
@@ -139,27 +139,27 @@ valid_of_cell start a events k xs legal is inside =
           }
     ]
 
-reached_rank : (ns shape cs : List ℕ) → reaches ns shape cs ≡ true → length cs ≡ length ns
+reached_rank : (ns shape cs : List ℕ) → reaches_into ns shape cs ≡ true → length cs ≡ length ns
 reached_rank [] [] [] e = refl
 reached_rank [] [] (c ∷ cs) e = absurd (cc)
 reached_rank [] (s ∷ shape) cs e = absurd (cc)
 reached_rank (n ∷ ns) [] cs e = absurd (cc)
 reached_rank (n ∷ ns) (s ∷ shape) [] e = absurd (cc)
-reached_rank (n ∷ ns) (s ∷ shape) (c ∷ cs) e = ap suc (reached_rank ns shape cs (and_right (nat_lt (c * n) s) (reaches ns shape cs) e))
+reached_rank (n ∷ ns) (s ∷ shape) (c ∷ cs) e = ap suc (reached_rank ns shape cs (and_right (nat_lt (c * n) s) (reaches_into ns shape cs) e))
 
-reached_starts : (ns shape cs : List ℕ) → AreSizes shape → reaches ns shape cs ≡ true → AreStarts ns cs
+reached_starts : (ns shape cs : List ℕ) → AreSizes shape → reaches_into ns shape cs ≡ true → AreStarts ns cs
 reached_starts [] shape cs sizes e = tt
 reached_starts (n ∷ ns) shape [] sizes e = tt
 reached_starts (n ∷ ns) [] (c ∷ cs) sizes e = absurd (cc)
 reached_starts (n ∷ ns) (s ∷ shape) (c ∷ cs) sizes e =
-    let low = less (c * n) s (and_left (nat_lt (c * n) s) (reaches ns shape cs) e) in
+    let low = less (c * n) s (and_left (nat_lt (c * n) s) (reaches_into ns shape cs) e) in
     let most : s ≤ 2 ^ 62 - 2 = sizes.0 in
-    (omega arith, reached_starts ns shape cs sizes.1 (and_right (nat_lt (c * n) s) (reaches ns shape cs) e))
+    (omega arith, reached_starts ns shape cs sizes.1 (and_right (nat_lt (c * n) s) (reaches_into ns shape cs) e))
 
 -- a chunk that a new shape cuts is one of the array's
 pub valid_of_cut : (start : Contents) (a : ℕ) (events : History) (k : Known) (new index : List ℕ) → IsLegal start events → known_after events a ≡ Some k → is_local k.info.home ≡ false → is_cut (chunk_shape k.info) k.shape new index ≡ true → IsIndexOf k.info index
 valid_of_cut start a events k new index legal is stored cut =
-    let reached = and_left (reaches (chunk_shape k.info) k.shape index) _ cut in
+    let reached = and_left (reaches_into (chunk_shape k.info) k.shape index) _ cut in
     record {
       rank = reached_rank (chunk_shape k.info) k.shape index reached;
       starts = reached_starts (chunk_shape k.info) k.shape index (known_sizes start a events legal k is stored) reached;

@@ -30,15 +30,15 @@ pub record Known : Type 0 where
   pub opened : ℕ
   pub shape : List ℕ
 
-abbrev pub reshaped : List ℕ → Option Known → Option Known
-reshaped shape None = None
-reshaped shape (Some k) = Some (record k { shape = shape })
+abbrev pub known_reshaped : List ℕ → Option Known → Option Known
+known_reshaped shape None = None
+known_reshaped shape (Some k) = Some (record k { shape = shape })
 
 -- the array of this number after one event more
 abbrev pub known_step : ℕ → History → Kind → Option Known → Option Known
 known_step a before (Opened info) known = if info.number == a then Some (record { info = info; opened = length before + 1; shape = info.shape }) else known
 known_step a before (Done line mode ops key) known = known
-known_step a before (Resized b shape) known = if b == a then reshaped shape known else known
+known_step a before (Resized b shape) known = if b == a then known_reshaped shape known else known
 known_step a before (Fault mount) known = known
 
 -- the array with this number after a history

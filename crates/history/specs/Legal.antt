@@ -132,7 +132,7 @@ pub record IsLegalDone (start : Contents) (before : History) (ops : List Op) : T
   pub reads : AreReads (world_after start before) [] ops
 
 -- a stored array gets sizes of its rank, each at most 2^62 - 2, which cut at most 65,536 chunks
-pub record IsNewShape (k : Known) (shape : List ℕ) : Type 0 where
+pub record MayTake (k : Known) (shape : List ℕ) : Type 0 where
   pub stored : is_local k.info.home ≡ false
   pub rank : length shape ≡ length k.info.shape
   pub sizes : AllByRecursion (λ s. s ≤ 2 ^ 62 - 2) shape
@@ -140,7 +140,7 @@ pub record IsNewShape (k : Known) (shape : List ℕ) : Type 0 where
 
 abbrev pub IsLegalResize : Option Known → List ℕ → Type 0
 IsLegalResize None shape = ⊥
-IsLegalResize (Some k) shape = IsNewShape k shape
+IsLegalResize (Some k) shape = MayTake k shape
 
 abbrev pub IsLegalKind : Contents → History → Kind → Type 0
 IsLegalKind start before (Opened info) = IsLegalOpening before info

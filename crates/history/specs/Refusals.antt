@@ -52,7 +52,7 @@ pub record IsShrunkRead (events : History) (marks : Marks) (t : Transaction) (vi
   pub least : (x : Cell) → Contains (cells_outside events marks t view) x → (k : Key) → metadata_key_at events x ≡ Some k → is_before k key ≡ false
 
 -- a cell that a commit writes lies outside its array's shape
-pub record IsOutside (events : History) (t : Transaction) (x : Cell) (key : Key) : Type 0 where
+pub record IsWrittenOutside (events : History) (t : Transaction) (x : Cell) (key : Key) : Type 0 where
   pub written : IsTrue (is_put (puts_of t.ops) x)
   pub outside : is_present events x ≡ false
   pub named : metadata_key_at events x ≡ Some key
@@ -60,9 +60,9 @@ pub record IsOutside (events : History) (t : Transaction) (x : Cell) (key : Key)
 -- the least metadata key of an array of which a written cell lies outside, and the number of its last resize
 pub record IsShrunkCommit (events : History) (t : Transaction) (key : Key) (now : ℕ) : Type 0 where
   pub cell : Cell
-  pub is_outside : IsOutside events t cell key
+  pub is_outside : IsWrittenOutside events t cell key
   pub number : now ≡ resized_after events cell.array
-  pub least : (x : Cell) (k : Key) → IsOutside events t x k → is_before k key ≡ false
+  pub least : (x : Cell) (k : Key) → IsWrittenOutside events t x k → is_before k key ≡ false
 
 -- all changes were asked to be made together, and the store can't; so many keys change that aren't local
 pub record IsNotAtomic (fixed : Fixed) (events : History) (t : Transaction) (keys : ℕ) : Type 0 where
