@@ -49,19 +49,19 @@ write_in (Some u) v words = refl
 pub act_of-in : (names : Names) (t : Option Transaction) (line : Line) → IsAskedIn t (act_of names t line)
 act_of-in names t (refused error) = tt
 act_of-in names t (opening name leaves build) = outside_in t (Ok (opens name leaves build)) refl
-act_of-in names t (viewing name of changes) = named_by (IsActIn t) of (names of) _ (λ v. changes_by (IsActIn t) (changed (Ok v) changes) _ (λ made. tt))
+act_of-in names t (viewing name of changes) = named_by (IsActIn t) of (names of) _ (λ v there. changes_by (IsActIn t) (changed (Ok v) changes) _ (λ made of_these. tt))
 act_of-in names t (joining name of join changes) =
-    all_named_by (IsActIn t) names of _ (λ views. join_by (IsActIn t) (join views) _ (λ v. changes_by (IsActIn t) (changed (Ok v) changes) _ (λ made. tt)))
+    all_named_by (IsActIn t) (λ v. Unit {0}) names (λ name v there. tt) of _ (λ views all. join_by (IsActIn t) (join views) _ (λ v joined. changes_by (IsActIn t) (changed (Ok v) changes) _ (λ made of_these. tt)))
 act_of-in names t (reading name changes down) =
     named_by (IsActIn t) name (names name) _
-    (λ v. changes_by (IsActIn t) (changed (Ok v) changes) (read_of down)
-    (λ w. factors_by (IsActIn t) down w _ (without_by (IsActIn t) (view_fault w) _ (λ fits. without_by (IsActIn t) (cell_fault w) (Ok (reads w down)) (λ found. tt)))))
+    (λ v there. changes_by (IsActIn t) (changed (Ok v) changes) (read_of down)
+    (λ w of_these. factors_by (IsActIn t) down w _ (without_by (IsActIn t) (view_fault w) _ (λ fits. without_by (IsActIn t) (cell_fault w) (Ok (reads w down)) (λ found. tt)))))
 act_of-in names t (writing name changes values) =
     named_by (IsActIn t) name (names name) _
-    (λ v. changes_by (IsActIn t) (changed (Ok v) changes) (write_of t values)
-    (λ w. without_by (IsActIn t) (view_fault w) _ (λ fits. values_by (IsActIn t) (values (look_of w).dtype (shape_of w)) _ (λ words given. without_by (IsActIn t) (cell_fault w) (Ok (write_act t w words)) (λ found. write_in t w words)))))
+    (λ v there. changes_by (IsActIn t) (changed (Ok v) changes) (write_of t values)
+    (λ w of_these. without_by (IsActIn t) (view_fault w) _ (λ fits. values_by (IsActIn t) (values (look_of w).dtype (shape_of w)) _ (λ words given. without_by (IsActIn t) (cell_fault w) (Ok (write_act t w words)) (λ found. write_in t w words)))))
 act_of-in names t (beginning mode) = outside_in t (Ok (begins mode)) refl
 act_of-in names t committing = inside_in t commits (λ u. refl)
 act_of-in names t aborting = inside_in t (λ u. aborts) (λ u. tt)
-act_of-in names t (resizing name shape) = outside_in t _ (named_by (IsActIn None) name (names name) _ (λ v. leaf_by (IsActIn None) (array_of v) _ (λ array. stored_in array shape)))
-act_of-in names t (resolving name) = outside_in t _ (named_by (IsActIn None) name (names name) _ (λ v. leaf_by (IsActIn None) (array_of v) (λ array. Ok (resolves name v array)) (λ array. refl)))
+act_of-in names t (resizing name shape) = outside_in t _ (named_by (IsActIn None) name (names name) _ (λ v there. leaf_by (IsActIn None) (array_of v) _ (λ array leaf. stored_in array shape)))
+act_of-in names t (resolving name) = outside_in t _ (named_by (IsActIn None) name (names name) _ (λ v there. leaf_by (IsActIn None) (array_of v) (λ array. Ok (resolves name v array)) (λ array leaf. refl)))

@@ -1,6 +1,7 @@
 -- What holds of whatever a line does.
 use Rattle.std.proofs.Common.{◌≡◌, ℕ, List, [], ◌∷◌, length, Bool, true, false, cond, Option, Some, None, Result, Ok, Err, refl}
 use Rattle.std.specs.Prelude.{◌==◌}
+use Rattle.std.specs.List.{AllByRecursion}
 use Rattle.transform_composition.specs.declared.error.ComposeError.TheVariants as compose
 use Rattle.stack_driver.specs.References.{Reference}
 use Rattle.stack_driver.specs.Views.{look_of}
@@ -16,21 +17,21 @@ IsAskedBy P (Ok act) = P act
 IsAskedBy P (Err answer) = Unit {0}
 
 module _ (P : Act → Type 0) where
-  pub named_by : (name : Text) (o : Option View) (next : View → Asked) → ((v : View) → IsAskedBy P (next v)) → IsAskedBy P (named name o next)
+  pub named_by : (name : Text) (o : Option View) (next : View → Asked) → ((v : View) → o ≡ Some v → IsAskedBy P (next v)) → IsAskedBy P (named name o next)
   named_by name None next fits = tt
-  named_by name (Some v) next fits = fits v
+  named_by name (Some v) next fits = fits v refl
 
-  pub all_named_by : (names : Names) (of : List Text) (next : List View → Asked) → ((views : List View) → IsAskedBy P (next views)) → IsAskedBy P (all_named names of next)
-  all_named_by names [] next fits = fits []
-  all_named_by names (name ∷ more) next fits = named_by name (names name) _ (λ v. all_named_by names more (λ views. next (v ∷ views)) (λ views. fits (v ∷ views)))
+  pub all_named_by : (Q : View → Type 0) (names : Names) → ((name : Text) (v : View) → names name ≡ Some v → Q v) → (of : List Text) (next : List View → Asked) → ((views : List View) → AllByRecursion Q views → IsAskedBy P (next views)) → IsAskedBy P (all_named names of next)
+  all_named_by Q names each [] next fits = fits [] tt
+  all_named_by Q names each (name ∷ more) next fits = named_by name (names name) _ (λ v there. all_named_by Q names each more (λ views. next (v ∷ views)) (λ views all. fits (v ∷ views) (each name v there, all)))
 
-  pub join_by : (r : Result View JoinCause) (next : View → Asked) → ((v : View) → IsAskedBy P (next v)) → IsAskedBy P (with_join r next)
+  pub join_by : (r : Result View JoinCause) (next : View → Asked) → ((v : View) → r ≡ Ok v → IsAskedBy P (next v)) → IsAskedBy P (with_join r next)
   join_by (Err cause) next fits = tt
-  join_by (Ok v) next fits = fits v
+  join_by (Ok v) next fits = fits v refl
 
-  pub changes_by : (r : Result View ChangeError) (next : View → Asked) → ((v : View) → IsAskedBy P (next v)) → IsAskedBy P (with_changes r next)
+  pub changes_by : (r : Result View ChangeError) (next : View → Asked) → ((v : View) → r ≡ Ok v → IsAskedBy P (next v)) → IsAskedBy P (with_changes r next)
   changes_by (Err e) next fits = tt
-  changes_by (Ok v) next fits = fits v
+  changes_by (Ok v) next fits = fits v refl
 
   pub without_by : (fault : Option Body) (asked : Asked) → (fault ≡ None → IsAskedBy P asked) → IsAskedBy P (without fault asked)
   without_by None asked fits = fits refl
@@ -40,9 +41,9 @@ module _ (P : Act → Type 0) where
   values_by (Err path) next fits = tt
   values_by (Ok words) next fits = fits words refl
 
-  pub leaf_by : (o : Option Reference) (next : Reference → Asked) → ((a : Reference) → IsAskedBy P (next a)) → IsAskedBy P (on_leaf o next)
+  pub leaf_by : (o : Option Reference) (next : Reference → Asked) → ((a : Reference) → o ≡ Some a → IsAskedBy P (next a)) → IsAskedBy P (on_leaf o next)
   leaf_by None next fits = tt
-  leaf_by (Some a) next fits = fits a
+  leaf_by (Some a) next fits = fits a refl
 
   pub cond_by : (b : Bool) (x y : Asked) → IsAskedBy P x → IsAskedBy P y → IsAskedBy P (cond b x y)
   cond_by true x y p q = p

@@ -36,6 +36,8 @@ pub mod ActFits
 pub mod StepsLonger
 pub mod StepsKept
 pub mod StepsStaged
+pub mod KnownViews
+pub mod StepsKnown
 pub mod Quiet
 pub mod Settled
 pub mod ForeignConflicts

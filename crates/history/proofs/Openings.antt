@@ -1,5 +1,5 @@
 -- Which openings and resizes keep a history legal.
-use Rattle.std.proofs.Common.{◌≡◌, ◌≢◌, ℕ, ◌+◌, ◌<◌, ◌^◌, List, [], ◌∷◌, ◌++◌, length, Bool, true, false, cond, Option, Some, None, ◌⊎◌, inl, inr, refl, sym, ap, subst, ◌∙◌, arith, append_assoc, append-nil, eqb-true, eq-eqb, codes}
+use Rattle.std.proofs.Common.{◌≡◌, ◌≢◌, ℕ, ◌+◌, ◌<◌, ◌^◌, List, [], ◌∷◌, ◌++◌, length, Bool, true, false, cond, Option, Some, None, ◌⊎◌, inl, inr, refl, sym, ap, subst, ◌∙◌, arith, append_assoc, append-nil, eqb-true, eq-eqb, codes, Result, Ok, Err}
 use Rattle.std.specs.Prelude.{◌==◌, ◌&&◌, count_by, decimal, filter, filter_map}
 use Rattle.std.specs.List.{AllByRecursion, cons_option}
 use Rattle.std.proofs.lemmas.Slice.Eq.{bytes_eq-Decides}
@@ -9,7 +9,7 @@ use Rattle.cells.specs.Dense.{DenseCells}
 use Rattle.kv_face.specs.Store.{Contents}
 use Rattle.chunk_forms.specs.declared.form.Form.{Form}
 use Rattle.chunk_forms.specs.declared.form.Form.TheVariants as form
-use Rattle.chunk_forms.specs.Metadata.{IsMetadata}
+use Rattle.chunk_forms.specs.Metadata.{IsMetadata, shape_of}
 use Rattle.history.specs.declared.array.ArrayInfo.{ArrayInfo}
 use Rattle.history.specs.declared.array.Home.{Home}
 use Rattle.history.specs.declared.array.Home.TheVariants.{Zarr, N5, Zarr3, Local}
@@ -22,9 +22,10 @@ use Rattle.history.specs.Chunks.{home_text, keys_text}
 use Rattle.history.specs.Touch.{is_key}
 use Rattle.history.specs.Legal.{IsLegal, IsLegalKind, IsLegalOpening, IsLegalResize, MayTake, IsApartFrom, AreApart, IsPlaced, IsMount, IsAsKept, begins, is_opening}
 use Rattle.history.specs.Places.{location, location_of, opened_array, arrays_of, locations, is_below, clashes, taken, array_at, at_step, reshaped_at}
-use Rattle.history.specs.Outcomes.{Outcome, path_taken, mismatch, there, exists, found, made, home_of, new_info, unless_taken, unless_differs, outcome_at, opening_outcome}
+use Rattle.history.specs.Outcomes.{Outcome, path_taken, mismatch, there, exists, found, not_found, made, making_outcome, home_of, new_info, unless_taken, unless_differs, outcome_at, opening_outcome}
+use Rattle.chunk_forms.specs.Made.{form_made}
 use Rattle.chunk_forms.specs.Wants.{mismatch_of}
-use Rattle.history.specs.Leaves.{Leaf, Stored, location_of_leaf}
+use Rattle.history.specs.Leaves.{Leaf, Stored, nothing, unreadable, readable, location_of_leaf}
 use Rattle.history.proofs.Tests.{true_or_false}
 use Rattle.history.proofs.Histories.{after-more, each_history, known_after-more, legal_step, legal_more}
 use Rattle.history.proofs.Known.{known_split, opened_as, opening_of, fresh_number, some_inj, none_is_none, no_array, opened_le}
@@ -332,6 +333,32 @@ pub free_of_found : (events : History) (leaf : Leaf) (stored : Stored) (meta : F
 free_of_found events leaf stored meta e =
     let parts = taken_free (taken events (location_of_leaf leaf)) (outcome_at leaf stored (array_at events (location_of_leaf leaf))) (found meta) (λ other h. cc) e in
     record { alone = parts.0; empty = at_free leaf stored (array_at events (location_of_leaf leaf)) (found meta) (λ member h. cc) (λ k h. cc) (λ h. cc) parts.1 }
+
+making_not : (r : Result Form (List ℕ)) (k : Known) → making_outcome r ≡ there k → ⊥
+making_not (Ok meta) k e = absurd (cc)
+making_not (Err member) k e = absurd (cc)
+
+differs_not : (o : Option (List ℕ)) (outcome : Outcome) (k : Known) → unless_differs o outcome ≡ there k → outcome ≡ there k
+differs_not None outcome k e = e
+differs_not (Some member) outcome k e = absurd (cc)
+
+at_there : (leaf : Leaf) (stored : Stored) (o : Option Known) (k : Known) → outcome_at leaf stored o ≡ there k → o ≡ Some k
+at_there leaf nothing None k e = absurd (opened_if leaf.may_create (making_outcome (form_made leaf.want)) not_found (there k) (making_not (form_made leaf.want) k) (λ h. cc) e)
+at_there leaf (unreadable bytes) None k e = absurd (cc)
+at_there leaf (readable meta) None k e =
+    absurd (opened_if leaf.may_open (unless_differs (mismatch_of leaf.want meta (shape_of meta)) (found meta)) exists (there k)
+    (λ h. let same = differs_not (mismatch_of leaf.want meta (shape_of meta)) (found meta) k h in absurd (cc)) (λ h. cc) e)
+at_there leaf stored (Some l) k e = told leaf.may_open e
+  where
+    told : (b : Bool) → cond b (unless_differs (mismatch_of leaf.want (form_of l.info.home) l.shape) (there l)) exists ≡ there k → Some l ≡ Some k
+    told true h = let same = differs_not (mismatch_of leaf.want (form_of l.info.home) l.shape) (there l) k h in cc
+    told false h = absurd (cc)
+
+-- an array that is found in the history is one of it
+pub known_there : (start : Contents) (events : History) (leaf : Leaf) (stored : Stored) (k : Known) → IsLegal start events → opening_outcome events leaf stored ≡ there k → known_after events k.info.number ≡ Some k
+known_there start events leaf stored k legal e =
+    let parts = taken_free (taken events (location_of_leaf leaf)) (outcome_at leaf stored (array_at events (location_of_leaf leaf))) (there k) (λ other h. cc) e in
+    array_at-known start (location_of_leaf leaf) events legal k (at_there leaf stored (array_at events (location_of_leaf leaf)) k parts.1)
 
 -- the opening of a leaf at a free location keeps the history legal
 pub opening_legal : (start : Contents) (events : History) (owner : ℕ) (leaf : Leaf) (meta : Form) → IsLegal start events → IsFree events (location_of_leaf leaf) → IsMount leaf.mount → IsMetadata meta → location (home_of leaf.mount leaf.path meta) ≡ Some (location_of_leaf leaf)

@@ -105,25 +105,25 @@ inside_whole (Some t) act whole = whole t
 pub act_of-whole : (names : Names) (t : Option Transaction) (line : Line) → HasFittingValues line → IsAskedBy IsActWhole (act_of names t line)
 act_of-whole names t (refused error) fitting = tt
 act_of-whole names t (opening name leaves build) fitting = outside_whole t (Ok (opens name leaves build)) tt
-act_of-whole names t (viewing name of changes) fitting = named_by IsActWhole of (names of) _ (λ v. changes_by IsActWhole (changed (Ok v) changes) _ (λ made. tt))
+act_of-whole names t (viewing name of changes) fitting = named_by IsActWhole of (names of) _ (λ v there. changes_by IsActWhole (changed (Ok v) changes) _ (λ made of_these. tt))
 act_of-whole names t (joining name of join changes) fitting =
-    all_named_by IsActWhole names of _ (λ views. join_by IsActWhole (join views) _ (λ v. changes_by IsActWhole (changed (Ok v) changes) _ (λ made. tt)))
+    all_named_by IsActWhole (λ v. Unit {0}) names (λ name v there. tt) of _ (λ views all. join_by IsActWhole (join views) _ (λ v joined. changes_by IsActWhole (changed (Ok v) changes) _ (λ made of_these. tt)))
 act_of-whole names t (reading name changes down) fitting =
     named_by IsActWhole name (names name) _
-    (λ v. changes_by IsActWhole (changed (Ok v) changes) (read_of down)
-    (λ w. factors_by IsActWhole down w _ (without_by IsActWhole (view_fault w) _ (λ fits. without_by IsActWhole (cell_fault w) (Ok (reads w down)) (λ found. whole_view w fits found)))))
+    (λ v there. changes_by IsActWhole (changed (Ok v) changes) (read_of down)
+    (λ w of_these. factors_by IsActWhole down w _ (without_by IsActWhole (view_fault w) _ (λ fits. without_by IsActWhole (cell_fault w) (Ok (reads w down)) (λ found. whole_view w fits found)))))
 act_of-whole names t (writing name changes values) fitting =
     named_by IsActWhole name (names name) _
-    (λ v. changes_by IsActWhole (changed (Ok v) changes) (write_of t values)
-    (λ w. without_by IsActWhole (view_fault w) _ (λ fits. values_by IsActWhole (values (look_of w).dtype (shape_of w)) _
+    (λ v there. changes_by IsActWhole (changed (Ok v) changes) (write_of t values)
+    (λ w of_these. without_by IsActWhole (view_fault w) _ (λ fits. values_by IsActWhole (values (look_of w).dtype (shape_of w)) _
     (λ words given. without_by IsActWhole (cell_fault w) (Ok (write_act t w words)) (λ found. write_whole t w words (staged_write w values words fitting given (whole_view w fits found)))))))
 act_of-whole names t (beginning mode) fitting = outside_whole t (Ok (begins mode)) tt
 act_of-whole names t committing fitting = inside_whole t commits (λ u. tt)
 act_of-whole names t aborting fitting = inside_whole t (λ u. aborts) (λ u. tt)
 act_of-whole names t (resizing name shape) fitting =
-    outside_whole t _ (named_by IsActWhole name (names name) _ (λ v. leaf_by IsActWhole (array_of v) _
-    (λ array. cond_by IsActWhole array.local _ _ tt (cond_by IsActWhole (length shape == length array.shape) _ _ tt tt))))
-act_of-whole names t (resolving name) fitting = outside_whole t _ (named_by IsActWhole name (names name) _ (λ v. leaf_by IsActWhole (array_of v) (λ array. Ok (resolves name v array)) (λ array. tt)))
+    outside_whole t _ (named_by IsActWhole name (names name) _ (λ v there. leaf_by IsActWhole (array_of v) _
+    (λ array leaf. cond_by IsActWhole array.local _ _ tt (cond_by IsActWhole (length shape == length array.shape) _ _ tt tt))))
+act_of-whole names t (resolving name) fitting = outside_whole t _ (named_by IsActWhole name (names name) _ (λ v there. leaf_by IsActWhole (array_of v) (λ array. Ok (resolves name v array)) (λ array leaf. tt)))
 
 -- a read has a word for each of its view's cells
 staged_read : (fixed : Fixed) (events : History) (seen : ℕ) (t : Transaction) (view : View) (words : List ℕ) (marks : Marks) → IsRead fixed events seen t view words marks → IsWholeView view → IsStaged (Read view words)

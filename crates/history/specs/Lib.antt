@@ -24,6 +24,7 @@ pub mod Refs
 pub mod Generations
 pub mod Stored
 pub mod Staged
+pub mod Bound
 pub mod Answers
 pub mod Lines
 pub mod Sessions
