@@ -11,7 +11,7 @@ use Rattle.stack_driver.specs.Arrays.{array_domain}
 use Rattle.stack_driver.specs.References.{Reference}
 use Rattle.stack_driver.specs.Renewed.{array_of, opened, reshaped, leaf_of, cast_renewed, renewed}
 use Rattle.stack_driver.specs.declared.error.RenewError.{RenewError}
-use Rattle.stack_driver.specs.declared.error.RenewError.TheVariants.{NotArray}
+use Rattle.stack_driver.specs.declared.error.RenewError.TheVariants.{NotArray, Memory}
 use Rattle.stack_driver.specs.declared.view.View.{View, ind-View, roll-View, map-View, every_here-View, every_made-View}
 use Rattle.stack_driver.specs.declared.view.View.TheOpen.{View-F}
 use Rattle.stack_driver.specs.declared.view.View.TheVariants as view
@@ -146,3 +146,43 @@ named_step events x (View-F.Stack ys u) e =
 pub array_known : (events : History) (v : View) (r : Reference) → HasKnownRefs events v → array_of v ≡ Some r → IsKnownRef events r
 unfolding Named
 array_known events v = ind-View (Named events) (named_step events) v
+
+-- a view of an array has one of another shape, or its transform is refused
+module _ (shape : List ℕ) where
+  abbrev IsNone : Result View RenewError → Type 0
+  IsNone r = (r ≡ Err NotArray) ⊎ (r ≡ Err Memory)
+
+  Renewable : View → Type 0
+  Renewable v = (r : Reference) → array_of v ≡ Some r → IsNone (renewed shape v) → ⊥
+
+  renewable_leaf : (array : Reference) (t : DomainAndMaps) → Renewable (view.Leaf array t)
+  unfolding Renewable
+  renewable_leaf array t r is none = told (tighten_answer (opened t) (array_domain (reshaped shape array))) (subst IsNone (renewed-Leaf shape array t) none)
+    where
+      told : (answer : Result DomainAndMaps ComposeError) → IsNone (leaf_of (reshaped shape array) answer) → ⊥
+      told (Ok u) (inl e) = absurd (cc)
+      told (Ok u) (inr e) = absurd (cc)
+      told (Err cause) (inl e) = absurd (cc)
+      told (Err cause) (inr e) = absurd (cc)
+
+  renewable_cast : (to : Dtype) (base : View) → Renewable base → Renewable (view.Cast to base)
+  unfolding Renewable
+  renewable_cast to base rest r is none = told (renewed shape base) (λ e. rest r (sym (array-Cast to base) ∙ is) e) (subst IsNone (renewed-Cast shape to base) none)
+    where
+      told : (answer : Result View RenewError) → (IsNone answer → ⊥) → IsNone (cast_renewed to answer) → ⊥
+      told (Ok inner) never (inl e) = absurd (cc)
+      told (Ok inner) never (inr e) = absurd (cc)
+      told (Err cause) never e = never e
+
+  renewable_step : (x : View-F View) (y : View-F ((z : View) × Renewable z)) → map-View ((z : View) × Renewable z) View (λ e. e.0) y ≡ x → Renewable (roll-View x)
+  unfolding Renewable
+  renewable_step x (View-F.Leaf array u) e = subst (λ z. Renewable (roll-View z)) e (subst Renewable (sym (view.rolls-Leaf array u)) (renewable_leaf array u))
+  renewable_step x (View-F.Cast to p) e = subst (λ z. Renewable (roll-View z)) e (subst Renewable (sym (view.rolls-Cast to p.0)) (renewable_cast to p.0 p.1))
+  renewable_step x (View-F.Stack ys u) e =
+      subst (λ z. Renewable (roll-View z)) e
+      (subst Renewable (sym (view.rolls-Stack (map (λ (y : (z : View) × Renewable z). y.0) ys) u))
+      (λ r is none. let never : None ≡ Some r = sym (array-Stack (map (λ (y : (z : View) × Renewable z). y.0) ys) u) ∙ is in absurd (cc)))
+
+  pub never_renewed : (v : View) (r : Reference) → array_of v ≡ Some r → (renewed shape v ≡ Err NotArray) ⊎ (renewed shape v ≡ Err Memory) → ⊥
+  unfolding Renewable
+  never_renewed v = ind-View Renewable renewable_step v

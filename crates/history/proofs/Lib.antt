@@ -43,3 +43,16 @@ pub mod Settled
 pub mod ForeignConflicts
 pub mod Shrinks
 pub mod Meetings
+pub mod Alone
+pub mod AloneReads
+pub mod AloneShrunk
+pub mod AloneKeys
+pub mod AloneCommits
+pub mod AloneOpens
+pub mod AloneSteps
+pub mod AloneMount
+pub mod AloneRows
+pub mod AloneRuns
+pub mod Words
+pub mod AloneMarks
+pub mod Found

@@ -1,6 +1,7 @@
--- What a line is refused with before anything is done is no conflict.
-use Rattle.std.proofs.Common.{ℕ, ℤ, List, [], ◌∷◌, length, Bool, true, false, cond, Option, Some, None, Result, Ok, Err, sym, subst}
+-- What a line is refused with before anything is done is no conflict and no want of memory.
+use Rattle.std.proofs.Common.{ℕ, ℤ, List, [], ◌∷◌, length, Bool, true, false, cond, Option, Some, None, Result, Ok, Err, refl, sym, subst}
 use Rattle.std.specs.Prelude.{◌==◌}
+use Rattle.std.specs.List.{AllByRecursion}
 use Rattle.transform_composition.specs.declared.error.ComposeError.TheVariants as compose
 use Rattle.index_transform.specs.Cells.{cells_of}
 use Rattle.stack_driver.specs.References.{Reference}
@@ -20,10 +21,12 @@ use Rattle.history.specs.Lines.{FormError, ChangeError, Downsampling, Line, refu
 use Rattle.history.specs.OpenRows.{IsRefusal}
 use Rattle.history.specs.Outcomes.{Outcome, path_taken, bad_metadata, exists, mismatch, there, found, not_found, bad_want, made}
 use Rattle.history.specs.Sessions.{Names}
+use Rattle.history.proofs.Found.{IsTold, all_told}
 use Rattle.history.specs.Viewing.{shape_of, first_infinite, too_many, size_fault, view_fault, first_fault, cell_fault}
 
 abbrev pub IsSettled : Body → Type 0
 IsSettled (body.conflict key read now) = ⊥
+IsSettled body.memory = ⊥
 IsSettled answer = Unit {0}
 
 abbrev pub IsAskedSettled : Asked → Type 0
@@ -51,13 +54,13 @@ size_settled (Some dim) b = tt
 size_settled None (Some dim) = tt
 size_settled None None = tt
 
-cells_settled : (xs : List (List ℤ)) (ts : List (Result Target TargetError)) → IsFaultSettled (first_fault xs ts)
-cells_settled [] ts = tt
-cells_settled (x ∷ xs) [] = tt
-cells_settled (x ∷ xs) (Ok t ∷ ts) = cells_settled xs ts
-cells_settled (x ∷ xs) (Err (target.OutOfRange dim) ∷ ts) = tt
-cells_settled (x ∷ xs) (Err target.Uncovered ∷ ts) = tt
-cells_settled (x ∷ xs) (Err target.Memory ∷ ts) = tt
+cells_settled : (xs : List (List ℤ)) (ts : List (Result Target TargetError)) → AllByRecursion IsTold ts → IsFaultSettled (first_fault xs ts)
+cells_settled [] ts told = tt
+cells_settled (x ∷ xs) [] told = tt
+cells_settled (x ∷ xs) (Ok t ∷ ts) told = cells_settled xs ts told.1
+cells_settled (x ∷ xs) (Err (target.OutOfRange dim) ∷ ts) told = tt
+cells_settled (x ∷ xs) (Err target.Uncovered ∷ ts) told = tt
+cells_settled (x ∷ xs) (Err target.Memory ∷ ts) told = absurd (told.0 refl)
 
 outside_settled : (t : Option Transaction) (asked : Asked) → IsAskedSettled asked → IsAskedSettled (outside t asked)
 outside_settled None asked p = p
@@ -107,7 +110,7 @@ fault_settled : (v : View) → IsFaultSettled (view_fault v)
 fault_settled v = size_settled (first_infinite 0 (look_of v).dims) (too_many (shape_of v))
 
 cell_settled : (v : View) → IsFaultSettled (cell_fault v)
-cell_settled v = cells_settled (cells_of (look_of v).dims) (targets_of v)
+cell_settled v = cells_settled (cells_of (look_of v).dims) (targets_of v) (all_told v)
 
 pub act_of-settled : (names : Names) (t : Option Transaction) (asked : Line) → IsAskedSettled (act_of names t asked)
 act_of-settled names t (refused error) = form_settled error

@@ -145,7 +145,7 @@ known_still start events a seen k legal is =
     (all.0, all.1, all.2)
 
 -- a cell that lay in its array's shape and doesn't now is of a stored array
-absent_stored : (start : Contents) (events : History) (x : Cell) → IsLegal start events → WasInside events x → is_present events x ≡ false → (key : Key) × (metadata_key_at events x ≡ Some key)
+pub absent_stored : (start : Contents) (events : History) (x : Cell) → IsLegal start events → WasInside events x → is_present events x ≡ false → (key : Key) × (metadata_key_at events x ≡ Some key)
 absent_stored start events x legal was absent =
     let now = known_still start events x.array was.seen was.array legal was.known in
     let early : IsLegal start (take was.seen events) = IsLegal-front start (take was.seen events) (drop was.seen events) (subst (IsLegal start) (sym (take-append-drop was.seen events)) legal) in
@@ -170,7 +170,7 @@ absent_stored start events x legal was absent =
         let clash : true ≡ false = sym inside ∙ absent in
         absurd (cc)
 
-abbrev LiesOf : History → Result Target TargetError → Type 0
+abbrev pub LiesOf : History → Result Target TargetError → Type 0
 LiesOf events (Ok t) = WasInside events t.cell
 LiesOf events (Err e) = Unit {0}
 
@@ -182,7 +182,7 @@ all_lie : (events : History) (view : View) → HasKnownRefs events view → (cel
 all_lie events view refs [] = tt
 all_lie events view refs (x ∷ xs) = (lie_of events view refs x (target_of view x) refl, all_lie events view refs xs)
 
-targets_lie : (events : History) (view : View) → HasKnownRefs events view → AllByRecursion (LiesOf events) (targets_of view)
+pub targets_lie : (events : History) (view : View) → HasKnownRefs events view → AllByRecursion (LiesOf events) (targets_of view)
 unfolding targets_of
 targets_lie events view refs = all_lie events view refs (cells_of (look_of view).dims)
 

@@ -90,7 +90,7 @@ new_known events owner at info stands =
       same = refl;
     }
 
-legal_take : (start : Contents) (events : History) (n : ℕ) → IsLegal start events → IsLegal start (take n events)
+pub legal_take : (start : Contents) (events : History) (n : ℕ) → IsLegal start events → IsLegal start (take n events)
 legal_take start events n legal = IsLegal-front start (take n events) (drop n events) (subst (IsLegal start) (sym (take-append-drop n events)) legal)
 
 opened_known : {start : Contents} {owner : ℕ} {events : History} {seen : ℕ} {leaves : List SpecLeaf} {refs : List Reference} {own : List Numbered} {now : ℕ} {rest : List SpecLeaf} → IsLegal start events → AreOpened start owner events seen leaves refs own now rest

@@ -60,7 +60,7 @@ generation_step early late e c small =
     below (touches (early ++ late) e c) (length (early ++ late)) (generation_of (early ++ late) c) (length early) (subst (λ g. g ≤ length early) (generation_of-more (early ++ late) e c) at_end) (omega (arith, length-append early late))
 
 -- the opening event touches the array's cells
-opens_cell : (h : History) (e : Event) (info : ArrayInfo) (x : Cell) → e.kind ≡ Opened info → info.number ≡ x.array → touches h e (chunk_of h x) ≡ true
+pub opens_cell : (h : History) (e : Event) (info : ArrayInfo) (x : Cell) → e.kind ≡ Opened info → info.number ≡ x.array → touches h e (chunk_of h x) ≡ true
 opens_cell h e info x is same = ap (λ k. touches_by h k (chunk_of h x)) is ∙ eq-eqb info.number (chunk_of h x).array (same ∙ sym (chunk_array (known_after h x.array) x))
 
 -- the word that a known array had when it was opened doesn't depend on its present shape

@@ -37,4 +37,6 @@ pub mod CommitRows
 pub mod ResizeRows
 pub mod Steps
 pub mod SingleOpen
+pub mod Alone
 pub mod Single
+pub mod Worked

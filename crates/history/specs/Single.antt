@@ -9,6 +9,7 @@ use Rattle.stack_driver.specs.declared.error.RenewError.TheVariants as renew
 use Rattle.stack_driver.specs.declared.view.View.{View}
 use Rattle.history.specs.History.{History}
 use Rattle.history.specs.Arrays.{Known, known_after}
+use Rattle.history.specs.Alone.{single_store}
 use Rattle.history.specs.Answers as body
 use Rattle.history.specs.Answers.{Body, Text, BuildCause, Answer}
 use Rattle.history.specs.Acts.{Act, Asked, opens, binds, reads, stages, writes, begins, commits, aborts, resizes, resolves, act_of}
@@ -149,4 +150,4 @@ begun_run = record { session = record { names = λ name. None; events = []; tran
 
 -- the answers to the lines of a script, and the events that they add, over one mount whose name is given
 abbrev pub single_session : Text → ℕ → List (Option Line) → Run
-single_session mount owner lines = fold (after_line (record { start = finmap.empty; prefixes = (mount ++ 47 ∷ []) ∷ [] }) owner) begun_run lines
+single_session mount owner lines = fold (after_line (single_store mount) owner) begun_run lines

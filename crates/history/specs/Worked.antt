@@ -1,0 +1,166 @@
+-- Histories worked out by hand: two sessions over one array in memory, as docs/transactions.md tells them, and what befalls
+-- commits over stores that fail, or that can't change several keys at once.
+use Rattle.std.specs.Prelude.{ℕ, List, [], ◌∷◌, ◌++◌, take, codes, pos, true, false, Option, Some, None, Ok}
+use Rattle.std.specs.FinMap as finmap
+use Rattle.cells.specs.declared.dtype.Dtype.TheVariants.{I32}
+use Rattle.cells.specs.declared.order.Order.TheVariants.{C}
+use Rattle.index_transform.specs.Transforms.{DomainAndMaps}
+use Rattle.index_transform.specs.declared.map.OutMap.TheVariants.{Constant, Strided}
+use Rattle.stack_driver.specs.References.{Reference}
+use Rattle.stack_driver.specs.Targets.{Cell}
+use Rattle.stack_driver.specs.declared.view.View.{View}
+use Rattle.stack_driver.specs.declared.view.View.TheVariants.{Leaf}
+use Rattle.history.specs.declared.array.ArrayInfo.{ArrayInfo}
+use Rattle.history.specs.declared.array.Home.TheVariants.{Zarr}
+use Rattle.history.specs.declared.event.Event.{Event}
+use Rattle.history.specs.declared.event.Kind.TheVariants.{Opened, Done, Resized, Fault}
+use Rattle.history.specs.declared.event.Mode.{Mode}
+use Rattle.history.specs.declared.event.Op.{Op}
+use Rattle.history.specs.declared.event.Op.TheVariants.{Write, Read}
+use Rattle.history.specs.History.{History}
+use Rattle.history.specs.Alone.{single_store}
+use Rattle.history.specs.Chunks.{Chunk}
+use Rattle.history.specs.Commit.{Key, Fixed, Transaction}
+use Rattle.history.specs.Lines.{Values}
+use Rattle.history.specs.Reads.{Marks}
+use Rattle.history.specs.Sessions.{Names, SessionState, plain_mode}
+
+-- an empty store at `memory` that changes all its keys together, and one that changes each alone
+abbrev pub joint : Fixed
+joint = single_store (codes "memory")
+
+abbrev pub split : Fixed
+split = record { start = finmap.empty; prefixes = [] }
+
+-- four cells of int32 in two chunks
+abbrev pub array : ArrayInfo
+array = record {
+  number = 0;
+  home = Zarr (codes "memory") (codes "a") (record { shape = 4 ∷ []; chunks = 2 ∷ []; dtype = I32; big = false; fill = None; order = C; slash = false });
+  dtype = I32;
+  shape = 4 ∷ [];
+  fill = 0;
+}
+
+abbrev pub metadata : Key
+metadata = codes "memory/a/.zarray"
+
+abbrev pub first_key : Key
+first_key = codes "memory/a/0"
+
+abbrev pub second_key : Key
+second_key = codes "memory/a/1"
+
+abbrev pub chunk : ℕ → Chunk
+chunk index = record { array = 0; index = index ∷ [] }
+
+abbrev pub cell : ℕ → Cell
+cell index = record { array = 0; index = index ∷ [] }
+
+abbrev pub of_shape : ℕ → Reference
+of_shape size = record { number = 0; dtype = I32; shape = size ∷ []; chunk = 2 ∷ []; local = false }
+
+-- the whole array, and one cell of it, as a view knows them that was opened when it had four cells
+abbrev pub first_cells : ℕ → DomainAndMaps
+first_cells last = record {
+  domain = record { dims = record { lo = pos 0; hi = pos last; lo_implicit = false; hi_implicit = true } ∷ []; labels = [] ∷ [] };
+  maps = Strided (pos 0) (pos 1) 0 ∷ [];
+}
+
+abbrev pub one_cell : ℕ → DomainAndMaps
+one_cell index = record { domain = record { dims = []; labels = [] }; maps = Constant (pos index) ∷ [] }
+
+abbrev pub whole : View
+whole = Leaf (of_shape 4) (first_cells 3)
+
+abbrev pub at : ℕ → View
+at index = Leaf (of_shape 4) (one_cell index)
+
+abbrev pub repeatable : Mode
+repeatable = record { atomic = false; repeatable_read = true }
+
+-- the events of both sessions
+abbrev pub event1 : Event
+event1 = record { owner = 0; kind = Opened array }
+
+abbrev pub event2 : Event
+event2 = record { owner = 0; kind = Done 2 plain_mode (Write whole (1 ∷ 2 ∷ 3 ∷ 4 ∷ []) ∷ []) None }
+
+abbrev pub event3 : Event
+event3 = record { owner = 1; kind = Done 2 plain_mode (Write (at 1) (7 ∷ []) ∷ []) None }
+
+abbrev pub event4 : Event
+event4 = record { owner = 1; kind = Done 3 plain_mode (Write (at 1) (8 ∷ []) ∷ []) None }
+
+abbrev pub event5 : Event
+event5 = record { owner = 0; kind = Done 8 repeatable (Write (at 0) (5 ∷ []) ∷ []) None }
+
+abbrev pub event6 : Event
+event6 = record { owner = 1; kind = Resized 0 (3 ∷ []) }
+
+abbrev pub event7 : Event
+event7 = record { owner = 1; kind = Resized 0 (4 ∷ []) }
+
+abbrev pub events : History
+events = event1 ∷ event2 ∷ event3 ∷ event4 ∷ event5 ∷ event6 ∷ event7 ∷ []
+
+abbrev pub first_events : ℕ → History
+first_events n = take n events
+
+-- a name bound to the whole array
+abbrev pub names : Names
+names name = Some whole
+
+-- a session that has seen so many events, and stands in this transaction or in none
+abbrev pub within : ℕ → Transaction → SessionState
+within seen t = record { names = names; seen = seen; transaction = Some t }
+
+abbrev pub outside : ℕ → SessionState
+outside seen = record { names = names; seen = seen; transaction = None }
+
+-- session 0's first transaction: begun at line 3, with cell 0 read at line 4, cell 1 at line 5 and cell 3 written at line 6
+abbrev pub mark2 : Marks
+mark2 = (chunk 0, 2) ∷ []
+
+abbrev pub begun3 : Transaction
+begun3 = record { line = 3; mode = repeatable; ops = []; marks = [] }
+
+abbrev pub read4 : Transaction
+read4 = record { line = 3; mode = repeatable; ops = Read (at 0) (1 ∷ []) ∷ []; marks = mark2 }
+
+abbrev pub read5 : Transaction
+read5 = record { line = 3; mode = repeatable; ops = Read (at 0) (1 ∷ []) ∷ Read (at 1) (2 ∷ []) ∷ []; marks = mark2 }
+
+abbrev pub written6 : Transaction
+written6 = record { line = 3; mode = repeatable; ops = Read (at 0) (1 ∷ []) ∷ Read (at 1) (2 ∷ []) ∷ Write (at 3) (9 ∷ []) ∷ []; marks = mark2 }
+
+-- its second: cell 0 written, and nothing read
+abbrev pub written9 : Transaction
+written9 = record { line = 8; mode = repeatable; ops = Write (at 0) (5 ∷ []) ∷ []; marks = [] }
+
+-- its third: cell 3 written
+abbrev pub written12 : Transaction
+written12 = record { line = 11; mode = plain_mode; ops = Write (at 3) (9 ∷ []) ∷ []; marks = [] }
+
+-- its second, over a store that fails once and then commits it, behind events 1 to 4
+abbrev pub fault5 : Event
+fault5 = record { owner = 0; kind = Fault (codes "memory") }
+
+abbrev pub failing : History
+failing = event1 ∷ event2 ∷ event3 ∷ event4 ∷ fault5 ∷ event5 ∷ []
+
+-- a transaction that writes both chunks, all its changes together or not at all, and the same as a write of its own at line 5
+abbrev pub fives : List ℕ
+fives = 5 ∷ 5 ∷ 5 ∷ 5 ∷ []
+
+abbrev pub all_or_none : Transaction
+all_or_none = record { line = 3; mode = record { atomic = true; repeatable_read = false }; ops = Write whole fives ∷ []; marks = [] }
+
+abbrev pub of_key : Key → Event
+of_key key = record { owner = 0; kind = Done 5 plain_mode (Write whole fives ∷ []) (Some key) }
+
+abbrev pub by_key : History
+by_key = event1 ∷ of_key first_key ∷ of_key second_key ∷ []
+
+abbrev pub all_fives : Values
+all_fives dtype shape = Ok fives
