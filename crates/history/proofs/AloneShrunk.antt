@@ -185,7 +185,7 @@ contained P [] all x (k, low, is) = absurd (omega arith)
 contained P (y ∷ ys) all x (zero, low, is) = subst P is all.0
 contained P (y ∷ ys) all x (suc k, low, is) = contained P ys all.1 x (k, omega arith, is)
 
-among_kept : {A : Type 0} (p : A → Bool) (xs : List A) (x : A) → Contains xs x → p x ≡ true → Contains (filter p xs) x
+pub among_kept : {A : Type 0} (p : A → Bool) (xs : List A) (x : A) → Contains xs x → p x ≡ true → Contains (filter p xs) x
 among_kept p [] x (k, low, is) yes_is = absurd (omega arith)
 among_kept p (y ∷ ys) x there yes_is = by_test (p y) refl there (λ rest. among_kept p ys x rest yes_is)
   where
@@ -195,7 +195,7 @@ among_kept p (y ∷ ys) x there yes_is = by_test (p y) refl there (λ rest. amon
     by_test false here (zero, low, is) next = let clash : true ≡ false = sym yes_is ∙ ap p (sym is) ∙ here in absurd (cc)
     by_test false here (suc k, low, is) next = next (k, omega arith, is)
 
-kept_among : {A : Type 0} (p : A → Bool) (xs : List A) (x : A) → Contains (filter p xs) x → Contains xs x × (p x ≡ true)
+pub kept_among : {A : Type 0} (p : A → Bool) (xs : List A) (x : A) → Contains (filter p xs) x → Contains xs x × (p x ≡ true)
 kept_among p [] x (k, low, is) = absurd (omega arith)
 kept_among p (y ∷ ys) x there = by_test (p y) refl there (kept_among p ys x)
   where

@@ -56,3 +56,7 @@ pub mod AloneRuns
 pub mod Words
 pub mod AloneMarks
 pub mod Found
+pub mod AloneLeaves
+pub mod AloneTotal
+pub mod AloneLines
+pub mod AloneSingle

@@ -123,7 +123,7 @@ IsActKnown events (opens name leaves build) = IsBuildWithin build
 IsActKnown events (binds name view) = HasKnownRefs events view
 IsActKnown events (reads view down) = HasKnownRefs events view
 IsActKnown events (stages t view words) = HasKnownRefs events view
-IsActKnown events (writes view words) = Unit {0}
+IsActKnown events (writes view words) = HasKnownRefs events view
 IsActKnown events (begins mode) = Unit {0}
 IsActKnown events (commits t) = Unit {0}
 IsActKnown events aborts = Unit {0}
@@ -131,7 +131,7 @@ IsActKnown events (resizes array shape) = Unit {0}
 IsActKnown events (resolves name view array) = HasKnownRefs events view × (array_of view ≡ Some array)
 
 write_known : (events : History) (t : Option Transaction) (view : View) (words : List ℕ) → HasKnownRefs events view → IsActKnown events (write_act t view words)
-write_known events None view words refs = tt
+write_known events None view words refs = refs
 write_known events (Some t) view words refs = refs
 
 module _ (events : History) where
