@@ -60,3 +60,4 @@ pub mod AloneLeaves
 pub mod AloneTotal
 pub mod AloneLines
 pub mod AloneSingle
+pub mod Worked
