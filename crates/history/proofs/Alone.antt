@@ -29,7 +29,7 @@ numbered_events n (e ∷ es) = ap (λ xs. e ∷ xs) (numbered_events (n + 1) es)
 pub numbered_same : (a b : ℕ) (xs ys : List Event) → numbered a xs ≡ numbered b ys → xs ≡ ys
 numbered_same a b xs ys same = sym (numbered_events a xs) ∙ ap (map (λ (o : Numbered). o.event)) same ∙ numbered_events b ys
 
-abbrev first_number : List Numbered → ℕ
+abbrev pub first_number : List Numbered → ℕ
 first_number [] = 0
 first_number (o ∷ os) = o.number
 

@@ -61,3 +61,4 @@ pub mod AloneTotal
 pub mod AloneLines
 pub mod AloneSingle
 pub mod Worked
+pub mod WorkedWrong

@@ -47,30 +47,30 @@ none_once : IsDistinct is_chunk []
 unfolding IsDistinct
 none_once = tt
 
-abbrev found : ℕ → Result Target TargetError
+abbrev pub found : ℕ → Result Target TargetError
 found i = Ok (record { cell = cell i; casts = [] })
 
-targets_whole : targets_of whole ≡ found 0 ∷ found 1 ∷ found 2 ∷ found 3 ∷ []
+pub targets_whole : targets_of whole ≡ found 0 ∷ found 1 ∷ found 2 ∷ found 3 ∷ []
 targets_whole = targets_by whole _ (look-Leaf _ _)
 
-targets_0 : targets_of (at 0) ≡ found 0 ∷ []
+pub targets_0 : targets_of (at 0) ≡ found 0 ∷ []
 targets_0 = targets_by (at 0) _ (look-Leaf _ _)
 
-targets_1 : targets_of (at 1) ≡ found 1 ∷ []
+pub targets_1 : targets_of (at 1) ≡ found 1 ∷ []
 targets_1 = targets_by (at 1) _ (look-Leaf _ _)
 
-targets_3 : targets_of (at 3) ≡ found 3 ∷ []
+pub targets_3 : targets_of (at 3) ≡ found 3 ∷ []
 targets_3 = targets_by (at 3) _ (look-Leaf _ _)
 
 no_damage : (h : History) (t : Transaction) → HasNoDamage joint h t
 no_damage h t c key why spoiled = no_bytes key _ spoiled.damaged.held
 
 -- one cell of the array, as a line's transform gives it
-abbrev to : ℕ → List line.Change
+abbrev pub to : ℕ → List line.Change
 to i = (λ v. Ok (at i)) ∷ []
 
 -- line 5: cell 1 is shown as it was at the mark of its chunk
-reads_1 : act_of names (Some read4) (line.reading (codes "a") (to 1) None) ≡ Ok (reads (at 1) None)
+pub reads_1 : act_of names (Some read4) (line.reading (codes "a") (to 1) None) ≡ Ok (reads (at 1) None)
 reads_1 = simp (look-Leaf (of_shape 4) (one_cell 1), targets_1)
 
 unwritten_1 : unwritten read4.ops (at 1) ≡ cell 1 ∷ []
@@ -101,19 +101,19 @@ repeats = record {
 }
 
 -- line 7: the commit names the chunk that session 1 wrote since, and both generations
-footprint_6 : footprint_of (first_events 3) written6.ops ≡ chunk 0 ∷ chunk 0 ∷ []
+pub footprint_6 : footprint_of (first_events 3) written6.ops ≡ chunk 0 ∷ chunk 0 ∷ []
 footprint_6 = simp (targets_0, targets_1, targets_3)
 
-read_number : read_generation (first_events 3) mark2 (chunk 0) ≡ 2
+pub read_number : read_generation (first_events 3) mark2 (chunk 0) ≡ 2
 read_number = simp targets_whole
 
-now_number : generation_of (first_events 3) (chunk 0) ≡ 3
+pub now_number : generation_of (first_events 3) (chunk 0) ≡ 3
 now_number = simp (targets_whole, targets_1)
 
-later : read_generation (first_events 3) mark2 (chunk 0) < generation_of (first_events 3) (chunk 0)
+pub later : read_generation (first_events 3) mark2 (chunk 0) < generation_of (first_events 3) (chunk 0)
 later = subst (λ r. r < generation_of (first_events 3) (chunk 0)) (sym read_number) (subst (λ n. 2 < n) (sym now_number) (lit≤ tt))
 
-only_first : (c : Chunk) → Contains (chunk 0 ∷ chunk 0 ∷ []) c → c ≡ chunk 0
+pub only_first : (c : Chunk) → Contains (chunk 0 ∷ chunk 0 ∷ []) c → c ≡ chunk 0
 only_first c (zero, low, is) = sym is
 only_first c (suc zero, low, is) = sym is
 only_first c (suc (suc k), low, is) = absurd (omega arith)
@@ -170,7 +170,7 @@ together_9 h =
     ap (λ ps. are_together joint.prefixes (in_order (filter_map (λ (p : Put). cond (is_stored (known_after h p.0.array)) (key_of h (chunk_of h p.0)) None) ps))) puts_9
     ∙ one_key (cond (is_stored (known_after h 0)) (key_of h (chunk_of h (cell 0))) None)
 
-events_9 : (h : History) → commit_events joint h 0 written9 ≡ event5 ∷ []
+pub events_9 : (h : History) → commit_events joint h 0 written9 ≡ event5 ∷ []
 events_9 h = ap (λ b. cond b (event5 ∷ []) (done_each 0 written9 written9.ops (changed_keys h written9.ops))) (together_9 h)
 
 pub merges_10 : SessionStep joint 0 (first_events 5) (within 3 written9) 10 line.committing (outside 5) (body.committed (5 ∷ []))
@@ -201,7 +201,7 @@ commits_11 = record {
 }
 
 -- line 13: a cell that the transaction wrote lies outside since event 6
-puts_12 : puts_of written12.ops ≡ (cell 3, 9) ∷ []
+pub puts_12 : puts_of written12.ops ≡ (cell 3, 9) ∷ []
 puts_12 = simp targets_3
 
 cut_least : (x : Cell) (k : Key) → IsWrittenOutside (first_events 6) written12 x k → is_before k metadata ≡ false
@@ -223,7 +223,7 @@ cut_13 = record {
 }
 
 -- session 1 cuts the array at its line 4 and lets it grow again at line 5
-resizes_to : (size : ℕ) → act_of names None (line.resizing (codes "a") (size ∷ [])) ≡ Ok (resizes (of_shape 4) (size ∷ []))
+pub resizes_to : (size : ℕ) → act_of names None (line.resizing (codes "a") (size ∷ [])) ≡ Ok (resizes (of_shape 4) (size ∷ []))
 resizes_to size = ap (λ o. on_leaf o (λ r. on_stored r (size ∷ []))) (array-Leaf (of_shape 4) (first_cells 3))
 
 abbrev known_of : ℕ → Known
@@ -269,16 +269,16 @@ grows_5 = record {
 abbrev all_words : List ℕ
 all_words = 5 ∷ 8 ∷ 3 ∷ 0 ∷ []
 
-abbrev marks_14 : Marks
+abbrev pub marks_14 : Marks
 marks_14 = (chunk 0, 7) ∷ (chunk 1, 7) ∷ []
 
-abbrev reading_14 : Transaction
+abbrev pub reading_14 : Transaction
 reading_14 = new_transaction 14 plain_mode
 
-reads_all : act_of names None (line.reading (codes "a") [] None) ≡ Ok (reads whole None)
+pub reads_all : act_of names None (line.reading (codes "a") [] None) ≡ Ok (reads whole None)
 reads_all = simp (look-Leaf (of_shape 4) (first_cells 3), targets_whole)
 
-unwritten_14 : unwritten [] whole ≡ cell 0 ∷ cell 1 ∷ cell 2 ∷ cell 3 ∷ []
+pub unwritten_14 : unwritten [] whole ≡ cell 0 ∷ cell 1 ∷ cell 2 ∷ cell 3 ∷ []
 unwritten_14 = simp targets_whole
 
 shown_14 : map Some all_words ≡ visible_values finmap.empty events (mark_of marks_14) [] whole
@@ -313,7 +313,7 @@ reads_14 = record {
 two_puts : puts_of all_or_none.ops ≡ (cell 0, 5) ∷ (cell 1, 5) ∷ (cell 2, 5) ∷ (cell 3, 5) ∷ []
 two_puts = simp targets_whole
 
-two_keys : stored_keys (first_events 1) all_or_none.ops ≡ first_key ∷ second_key ∷ []
+pub two_keys : stored_keys (first_events 1) all_or_none.ops ≡ first_key ∷ second_key ∷ []
 unfolding digits
 two_keys = simp targets_whole
 
