@@ -62,3 +62,4 @@ pub mod AloneLines
 pub mod AloneSingle
 pub mod Worked
 pub mod WorkedWrong
+pub mod Typed

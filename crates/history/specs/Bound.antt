@@ -3,7 +3,10 @@ use Rattle.std.specs.Prelude.{◌≡◌, List, Option, Some, None, Ok}
 use Rattle.std.specs.List.{AllByRecursion}
 use Rattle.stack_driver.specs.References.{Reference}
 use Rattle.stack_driver.specs.declared.view.View.{View}
-use Rattle.history.specs.History.{History}
+use Rattle.stack_driver.specs.Conditions.{IsView}
+use Rattle.history.specs.declared.event.Kind.{Kind}
+use Rattle.history.specs.declared.event.Kind.TheVariants.{Opened, Done, Resized, Fault}
+use Rattle.history.specs.History.{History, after}
 use Rattle.history.specs.Answers.{Text}
 use Rattle.history.specs.Commit.{Transaction}
 use Rattle.history.specs.Legal.{viewed}
@@ -50,3 +53,14 @@ IsLineWithin (resolving name) = Unit {0}
 abbrev pub IsWithin : Option Line → Type 0
 IsWithin None = Unit {0}
 IsWithin (Some line) = IsLineWithin line
+
+-- what a commit writes or reads, it does through views of known arrays
+abbrev pub IsCommitKnown : History → Kind → Type 0
+IsCommitKnown before (Opened info) = Unit {0}
+IsCommitKnown before (Done line mode ops key) = AllByRecursion (λ op. IsView (viewed op) × HasKnownRefs before (viewed op)) ops
+IsCommitKnown before (Resized a shape) = Unit {0}
+IsCommitKnown before (Fault mount) = Unit {0}
+
+-- so does each commit of the history
+abbrev pub AreCommitsKnown : History → Type 0
+AreCommitsKnown events = after (λ before e known. known × IsCommitKnown before e.kind) (Unit {0}) events
