@@ -26,6 +26,7 @@ use Rattle.history.specs.Chunks.{home_text, keys_text}
 use Rattle.history.specs.Resizes.{cut_chunks}
 use Rattle.history.specs.Writes.{Content, written, read_values}
 use Rattle.history.specs.Content.{world_after}
+pub use Rattle.locations.specs.Paths.{begins}
 
 abbrev pub opens : Kind → Bool
 opens (Opened info) = true
@@ -35,11 +36,6 @@ opens (Fault mount) = false
 
 abbrev pub is_opening : Event → Bool
 is_opening e = opens e.kind
-
-abbrev pub begins : List ℕ → List ℕ → Bool
-begins [] ys = true
-begins (x ∷ xs) [] = false
-begins (x ∷ xs) (y ∷ ys) = x == y && begins xs ys
 
 -- neither text begins with the other
 pub record AreApart (us vs : List ℕ) : Type 0 where

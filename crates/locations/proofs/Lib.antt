@@ -1,0 +1,4 @@
+pub mod Texts
+pub mod Tables
+pub mod Clashes
+pub mod Laws
