@@ -1,12 +1,13 @@
 -- The worked histories: which steps hold of them, and that a wrong answer beside each doesn't.
 use Rattle.std.proofs.Common.{◌≡◌, ℕ, ◌+◌, ◌<◌, ◌≤◌, lit≤, zero, suc, List, [], ◌∷◌, codes, refl, sym, ap, subst, ◌∙◌, Bool, true, false, cond, length, take, map, Option, Some, None, eqb-true, arith}
-use Rattle.std.specs.Prelude.{filter_map, ◌&&◌, ◌||◌, ◌==◌, pos, Result, Ok, Err, Contains, IsTrue}
+use Rattle.std.specs.Prelude.{filter, filter_map, ◌&&◌, ◌||◌, ◌==◌, pos, Result, Ok, Err, Contains, IsTrue}
 use Rattle.std.specs.FinMap as finmap
 use Rattle.std.specs.List.{AllByRecursion, IsDistinct, cons_option, list_any}
 use Rattle.std.specs.Fmt.{digits}
 use Rattle.stack_driver.proofs.Laws.{look-Leaf}
 use Rattle.stack_driver.proofs.Looks.{targets_by}
-use Rattle.stack_driver.proofs.Renewals.{array-Leaf}
+use Rattle.stack_driver.proofs.Renewals.{array-Leaf, renewed-Leaf}
+use Rattle.stack_driver.specs.Renewed.{renewed}
 use Rattle.stack_driver.specs.References.{Reference}
 use Rattle.stack_driver.specs.Targets.{Cell, is_cell, Target}
 use Rattle.stack_driver.specs.declared.error.TargetError.{TargetError}
@@ -17,7 +18,7 @@ use Rattle.history.specs.declared.event.Kind.TheVariants.{Done, Fault}
 use Rattle.history.specs.declared.event.Op.{Op}
 use Rattle.history.specs.declared.event.Op.TheVariants.{Write, Read}
 use Rattle.history.specs.History.{History}
-use Rattle.history.specs.Acts.{act_of, reads, writes, resizes, on_leaf, on_stored}
+use Rattle.history.specs.Acts.{act_of, reads, writes, resizes, resolves, on_leaf, on_stored}
 use Rattle.history.specs.Answers as body
 use Rattle.history.specs.Answers.{Body}
 use Rattle.history.specs.Arrays.{Known, known_after}
@@ -30,15 +31,16 @@ use Rattle.history.specs.Lines as line
 use Rattle.history.specs.Own.{numbered, numbers_of}
 use Rattle.history.specs.Reads.{Marks, footprint_of, first_reads, unwritten, has_mark, mark_of, is_put, visible_values}
 use Rattle.history.specs.ReadRows.{with_read}
-use Rattle.history.specs.Refusals.{IsWrittenOutside, metadata_key_at, resized_keys, all_resized_keys}
+use Rattle.history.specs.Refusals.{was_outside, cells_outside, last_mark, IsShrunkRead, IsWrittenOutside, metadata_key_at, resized_keys, all_resized_keys}
 use Rattle.history.specs.ResizeRows.{MayResize}
-use Rattle.history.specs.Sessions.{SessionState, new_transaction, plain_mode}
+use Rattle.history.specs.Store.{resized_after}
+use Rattle.history.specs.Sessions.{bind, SessionState, new_transaction, plain_mode}
 use Rattle.history.specs.Shown.{AreMarked, IsRead}
 use Rattle.history.specs.Staged.{AreInShapes}
-use Rattle.history.specs.Steps.{write_alone, SessionStep, IsAnswered, done_line, read_done, write_done, commit_done, resize_done}
+use Rattle.history.specs.Steps.{write_alone, SessionStep, IsAnswered, done_line, read_done, read_shrunk, write_done, commit_done, resize_done, resolve_done}
 use Rattle.history.specs.Touch.{generation_of}
-use Rattle.history.specs.Viewing.{values_body}
-use Rattle.history.specs.Worked.{joint, split, array, metadata, first_key, second_key, chunk, cell, of_shape, first_cells, one_cell, whole, at, repeatable, event1, event2, event3, event4, event5, event6, event7, events, first_events, names, within, outside, mark2, begun3, read4, read5, written6, written9, written12, fault5, failing, fives, all_or_none, of_key, by_key, all_fives}
+use Rattle.history.specs.Viewing.{values_body, resolved_body}
+use Rattle.history.specs.Worked.{joint, split, array, metadata, first_key, second_key, chunk, cell, of_shape, first_cells, one_cell, whole, at, repeatable, event1, event2, event3, event4, event5, event6, event7, events, first_events, names, within, outside, mark2, begun3, read4, read5, written6, written9, written12, fault5, failing, fives, all_or_none, of_key, by_key, all_fives, three}
 use Rattle.history.specs.Writes.{Put, puts_of}
 use Rattle.history.proofs.AloneOpens.{no_bytes}
 use Rattle.history.proofs.Written.{same_cells}
@@ -358,4 +360,61 @@ writes_5 = record {
       (write_done
       (subst (λ es. IsCommit split 0 by_key own_write None (body.committed (numbers_of (numbered 2 es))) (numbered 2 es)) keyed_events
       (is_done 1 (record { no_conflict = λ asked. absurd (cc); in_shapes = all_in; whole = λ asked. absurd (cc) }) (no_damage_split (first_events 1) own_write)))));
+}
+
+-- after event 6, a name that knows four cells is told that the array shrank, and resolves to three
+abbrev marks_6 : Marks
+marks_6 = (chunk 0, 6) ∷ (chunk 1, 6) ∷ []
+
+marked_6 : AreMarked (first_events 6) 6 (new_transaction 15 plain_mode) whole marks_6
+marked_6 = record {
+  fresh = marks_6;
+  marked = refl;
+  within = ((lit≤ tt, lit≤ tt), ((lit≤ tt, lit≤ tt), tt));
+  needed = (ap (list_any (λ x. is_chunk (chunk_of (first_events 6) x) (chunk 0))) unwritten_14, (ap (list_any (λ x. is_chunk (chunk_of (first_events 6) x) (chunk 1))) unwritten_14, tt));
+  new = (refl, (refl, tt));
+  once = two_once;
+  each = subst (AllByRecursion (λ x. IsTrue (has_mark marks_6 (chunk_of (first_events 6) x)))) (sym unwritten_14) (refl, (refl, (refl, (refl, tt))));
+}
+
+outside_6 : cells_outside (first_events 6) marks_6 (new_transaction 15 plain_mode) whole ≡ cell 3 ∷ []
+outside_6 = ap (filter (was_outside (first_events 6) marks_6)) unwritten_14
+
+only_last : (x : Cell) → Contains (cell 3 ∷ []) x → cell 3 ≡ x
+only_last x (zero, low, is) = is
+only_last x (suc k, low, is) = absurd (omega arith)
+
+shrunk_6 : IsShrunkRead (first_events 6) marks_6 (new_transaction 15 plain_mode) whole metadata 6
+shrunk_6 = record {
+  cell = cell 3;
+  counts = subst (λ xs. Contains xs (cell 3)) (sym outside_6) (0, lit≤ tt, refl);
+  named = refl;
+  number = sym (ap (λ xs. resized_after (take (last_mark (first_events 6) marks_6 0 xs) (first_events 6)) 0) outside_6);
+  least = λ x there k is.
+      let here : cell 3 ≡ x = only_last x (subst (λ xs. Contains xs x) outside_6 there) in
+      let same : Some metadata ≡ Some k = ap (metadata_key_at (first_events 6)) here ∙ is in
+      let key_is : metadata ≡ k = cc in
+      ap (λ j. is_before j metadata) (sym key_is);
+}
+
+pub shrunk_15 : SessionStep joint 0 (first_events 6) (outside 6) 15 (line.reading (codes "a") [] None) (outside 6) (body.shrunk metadata 6)
+shrunk_15 = record {
+  rises = lit≤ tt;
+  within = lit≤ tt;
+  row = subst (λ asked. IsAnswered joint 0 (first_events 6) (outside 6) 15 asked names None (body.shrunk metadata 6) []) (sym reads_all) (done_line (read_shrunk (record { marks = marks_6; marked = marked_6; shrunk = shrunk_6 })));
+}
+
+resolves_whole : act_of names None (line.resolving (codes "a")) ≡ Ok (resolves (codes "a") whole (of_shape 4))
+resolves_whole = ap (λ o. on_leaf o (λ r. Ok (resolves (codes "a") whole r))) (array-Leaf (of_shape 4) (first_cells 3))
+
+pub renewed_whole : renewed (3 ∷ []) whole ≡ Ok three
+renewed_whole = renewed-Leaf (3 ∷ []) (of_shape 4) (first_cells 3)
+
+pub resolves_16 : SessionStep joint 0 (first_events 6) (outside 6) 16 (line.resolving (codes "a")) (record { names = bind names (codes "a") three; seen = 6; transaction = None }) (resolved_body (codes "a") three)
+resolves_16 = record {
+  rises = lit≤ tt;
+  within = lit≤ tt;
+  row =
+      subst (λ asked. IsAnswered joint 0 (first_events 6) (outside 6) 16 asked (bind names (codes "a") three) None (resolved_body (codes "a") three) []) (sym resolves_whole)
+      (done_line (resolve_done 6 (lit≤ tt) (lit≤ tt) renewed_whole));
 }

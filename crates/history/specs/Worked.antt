@@ -164,3 +164,7 @@ by_key = event1 ∷ of_key first_key ∷ of_key second_key ∷ []
 
 abbrev pub all_fives : Values
 all_fives dtype shape = Ok fives
+
+-- the array's first three cells, as a view knows them once it was cut
+abbrev pub three : View
+three = Leaf (of_shape 3) (first_cells 2)
