@@ -1,5 +1,5 @@
 // The runs of a view as the product of its first dimensions and the others.
-ghost use Rattle.std.specs.Prelude.{true, false, ◌≡◌, ◌≢◌, ◌≤◌, ◌<◌, ◌^◌, [], pos, unsigned_abs, IsTrue, IfOk, OnOk, length, map, slice_index_or};
+ghost use Rattle.std.specs.Prelude.{true, false, ◌≡◌, ◌≢◌, ◌≤◌, ◌<◌, ◌/◌, ◌%◌, ◌^◌, [], pos, unsigned_abs, IsTrue, IfOk, OnOk, length, map, slice_index_or};
 ghost use Rattle.std.specs.List.{All, list_all};
 ghost use Rattle.cells.specs.Places.{IsInside, cell_count};
 ghost use Rattle.index_transform.specs.Cells.{is_finite, cells_of};
@@ -14,7 +14,7 @@ use crate::boxes::size_of;
 use crate::grid::Grid;
 use crate::piece::RunPiece;
 use crate::slots::{Located, pieces_of_products};
-use cells::List;
+use cells::{LARGEST_RANK, List};
 use index_intervals::Interval;
 use index_transform::{OutMap, Transform, Walk};
 use std::alloc::{AllocError, Global};
@@ -109,11 +109,33 @@ fn kept_at(want: bool, flags: &[bool], target: &[i64], output: usize) -> u64
     }
 }
 
-// Where a cell lies by the outputs whose flag is wanted.
-fn located(counts: &[u64], chunk: &[u64], want: bool, flags: &[bool], target: &[i64]) -> Located
+// A number's quotient and remainder by a size. A guess at the quotient is tried first, since dividing is slow.
+fn parts(x: u64, size: u64, guess: u64) -> (u64, u64)
+    requires { 0 < size }
+    ensures quotient { result.0 ≡ x / size }
+    ensures remainder { result.1 ≡ x % size }
+{
+    if let Some(first) = guess.checked_mul(size) {
+        if first <= x && x - first < size {
+            return (guess, x - first);
+        }
+    }
+    (x / size, x % size)
+}
+
+// Where a cell lies by the outputs whose flag is wanted. `last` has the chunk of the cell before, and then of this one.
+fn located(
+    counts: &[u64],
+    chunk: &[u64],
+    want: bool,
+    flags: &[bool],
+    target: &[i64],
+    last: &mut [u64],
+) -> Located
     requires chunk { length chunk.now ≡ length counts.now }
     requires flags { length flags.now ≡ length counts.now }
     requires target { length target.now ≡ length counts.now }
+    requires room { length counts.now ≤ length last.old }
     requires positive { All (λ size. 0 < size) chunk.now }
     requires from_zero { AreFromZero target.now }
     requires inside { IsInside counts.now (chunk_index chunk.now (numbers (all_kept want flags.now target.now))) }
@@ -125,8 +147,10 @@ fn located(counts: &[u64], chunk: &[u64], want: bool, flags: &[bool], target: &[
     let mut place = 0;
     for j in 0..counts.len() {
         let x = kept_at(want, flags, target, j);
-        number = number * counts[j] + x / chunk[j];
-        place = place * chunk[j] + x % chunk[j];
+        let (at, rest) = parts(x, chunk[j], last[j]);
+        last[j] = at;
+        number = number * counts[j] + at;
+        place = place * chunk[j] + rest;
     }
     Located {
         number: number as u32,
@@ -158,9 +182,10 @@ fn locate_all(
     let mut cell = Vec::from_elem(alloc, 0, dims.len())?;
     let mut target = Vec::from_elem(alloc, 0, t.maps().len())?;
     let mut walk = Walk::over(alloc, dims)?;
+    let mut last = [0; LARGEST_RANK];
     'cells: while walk.advance(&mut cell) {
         t.value_into(&cell, &mut target);
-        all.push(located(counts, chunk, want, flags, &target))?;
+        all.push(located(counts, chunk, want, flags, &target, &mut last))?;
     }
     Ok(all)
 }

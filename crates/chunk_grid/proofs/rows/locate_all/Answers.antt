@@ -1,4 +1,4 @@
-use Rattle.std.proofs.Common.{◌≡◌, true, ◌∙◌, ap, sym, subst, ℕ, ℤ, List, ◌++◌, ◌∷◌, [], ◌+◌, length, map, take, drop, arith, take_all}
+use Rattle.std.proofs.Common.{◌≡◌, refl, true, ◌∙◌, ap, sym, subst, ℕ, ℤ, List, ◌++◌, ◌∷◌, [], ◌+◌, length, map, take, drop, arith, take_all}
 use Rattle.std.proofs.lemmas.List.{length-map, length-append, length-replicate}
 use Rattle.index_transform.specs.Cells.{cells_of}
 use Rattle.std.specs.List.{list_all}
@@ -28,6 +28,7 @@ cells-init c =
       rank = rank ∙ sym here;
       here = here ∙ c.requires.rank;
       outputs = ap length (c.in_ok-target.ensures.items_if_clones_equal (λ y e. e)) ∙ length-replicate (length c.maps.result.now) _ ∙ ap length c.maps.ensures.value;
+      guesses = refl;
     }
 
 pub value_into-requires-clause-known : goal.value_into-requires-clause-known
@@ -52,6 +53,12 @@ located-requires-clause-chunk c =
     let same = c.chunk-chunk.ensures.well_formed.same in
     let many = ap length c.requires.counts ∙ length-chunk_counts shape c.args.grid.now.chunk same in
     ap length c.chunk-chunk.ensures.value ∙ same ∙ sym many
+
+pub located-requires-clause-room : goal.located-requires-clause-room
+located-requires-clause-room c =
+    let same = c.chunk-chunk.ensures.well_formed.same in
+    let many = ap length c.requires.counts ∙ length-chunk_counts c.args.grid.now.shape c.args.grid.now.chunk same in
+    omega (arith, many, c.chunk-chunk.ensures.well_formed.rank, c.cells.invariant.guesses)
 
 pub located-requires-clause-flags : goal.located-requires-clause-flags
 located-requires-clause-flags c =
@@ -137,6 +144,7 @@ cells-preserved c =
       rank = c.advance.ensures.rank ∙ c.cells.invariant.rank ∙ sym more ∙ ap length (sym whole);
       here = ap length whole ∙ more ∙ c.cells.invariant.here;
       outputs = ap length filled ∙ room ∙ c.cells.invariant.outputs;
+      guesses = c.located.auto.last ∙ c.cells.invariant.guesses;
     }
 
 pub returns : goal.returns

@@ -12,6 +12,7 @@ invariant-cells l = record {
   rank : l.walk.rank ≡ length l.cell.items;
   here : length l.cell.items ≡ length l.t.domain.dims;
   outputs : length l.target.items ≡ length l.t.maps;
+  guesses : length l.last ≡ 32;
 }
 
 abbrev pub decreases-cells : goal.decreases-cells
