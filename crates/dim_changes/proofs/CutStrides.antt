@@ -55,7 +55,7 @@ AreBounds-mirrored b p = record {
   ordered = omega (arith, ints, p.ordered);
 }
 
-AreBounds-strided : (b : Bounds) (s : ℤ) → AreBounds b → s ≢ pos 0 → AreBounds (strided b s)
+pub AreBounds-strided : (b : Bounds) (s : ℤ) → AreBounds b → s ≢ pos 0 → AreBounds (strided b s)
 AreBounds-strided b (pos zero) p n = absurd (n refl)
 AreBounds-strided b (pos (suc k)) p n = let e = not_negative (suc k) in rw e (AreBounds-contracted b (pos (suc k)) p (omega (arith, ints)))
 AreBounds-strided b (negsuc k) p n = AreBounds-contracted (mirrored b) (pos (suc k)) (AreBounds-mirrored b p) (omega (arith, ints))

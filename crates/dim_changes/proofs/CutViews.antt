@@ -43,7 +43,7 @@ use Rattle.dim_changes.proofs.CutStrides.{IsTightCut-strided}
 use Rattle.dim_changes.proofs.CutSlices.{IsTightCut-sliced}
 use Rattle.cells.proofs.Laws.{both, both_true}
 
-moved_by-tight : (b : Bounds) (by : ℤ) → AreBounds b → IsTightCut b (cut_or_kept b (moved_by b by))
+pub moved_by-tight : (b : Bounds) (by : ℤ) → AreBounds b → IsTightCut b (cut_or_kept b (moved_by b by))
 moved_by-tight b by p = told (can_move by b.lo && can_move by b.hi) refl
   where
     told : (t : Bool) → (can_move by b.lo && can_move by b.hi) ≡ t
@@ -51,7 +51,7 @@ moved_by-tight b by p = told (can_move by b.lo && can_move by b.hi) refl
     told true e = IsTightCut-moved b by p (CanShift-moves b by e)
     told false e = IsTightCut-kept b p
 
-moved_to-tight : (b : Bounds) (origin : ℤ) → AreBounds b → IsTightCut b (cut_or_kept b (moved_to b origin))
+pub moved_to-tight : (b : Bounds) (origin : ℤ) → AreBounds b → IsTightCut b (cut_or_kept b (moved_to b origin))
 moved_to-tight b origin p = told (is_index b.lo)
   where
     told : (t : Bool) → IsTightCut b (cut_or_kept b (cond t (moved_by b (origin -ℤ b.lo)) (Err Unbounded)))
@@ -69,7 +69,7 @@ strided_by-tight b s p = told (int_eq s (pos 0)) refl
     told true e = IsTightCut-emptied b (kept b) (IsTightCut-kept b p)
     told false e = stays (λ z. let f = (Decides-int_eq s (pos 0)).1 z in cc) (stays_infinite b (strided b s)) refl
 
-sliced_by-tight : (b : Bounds) (part : SlicePart) → AreBounds b → IsIndexPart part → IsTightCut b (cut_or_kept b (sliced_by b part))
+pub sliced_by-tight : (b : Bounds) (part : SlicePart) → AreBounds b → IsIndexPart part → IsTightCut b (cut_or_kept b (sliced_by b part))
 sliced_by-tight b part p i = told (sliced b part.start part.stop part.step) refl
   where
     told : (r : Result Sliced SliceError) → sliced b part.start part.stop part.step ≡ r

@@ -1,5 +1,5 @@
 -- A composition over emptied dimensions: refilled, it is the answer over the cuts.
-use Rattle.std.proofs.Common.{◌≡◌, ◌∙◌, ◌⊎◌, inl, inr, zero, suc, ℕ, ◌+◌, ◌*◌, ◌<◌, ◌==◌, ◌≤ℤ◌, ◌+ℤ◌, ◌*ℤ◌, Bool, true, false, not, ◌&&◌, List, [], ◌∷◌, length, map, get_or, refl, sym, ap, subst, arith, ℤ, pos, Option, Some, None, Result, Ok, Err, nat_lt}
+use Rattle.std.proofs.Common.{◌≡◌, ◌∙◌, ◌⊎◌, inl, inr, zero, suc, ℕ, ◌+◌, ◌*◌, ◌<◌, ◌==◌, ◌≤ℤ◌, ◌+ℤ◌, ◌*ℤ◌, Bool, true, false, cond, not, ◌&&◌, List, [], ◌∷◌, length, map, get_or, refl, sym, ap, subst, arith, ℤ, pos, Option, Some, None, Result, Ok, Err, nat_lt}
 use Rattle.std.proofs.lemmas.List.FromFn.{length-map-range_with_len, get_or-map-range_with_len}
 use Rattle.std.specs.List.{list_all, list_any, zip, position_from, range_with_len}
 use Rattle.cells.specs.Places.{cell_count}
@@ -10,21 +10,23 @@ use Rattle.index_transform.specs.declared.map.OutMap.{OutMap}
 use Rattle.index_transform.specs.declared.map.OutMap.TheVariants.{Constant, Strided, Indexed}
 use Rattle.index_transform.specs.Maps.{is_fixed, fits_dim, fits, are_entries, is_map}
 use Rattle.index_transform.specs.Transforms.{DomainAndMaps, IsTransform, on_dims}
-use Rattle.index_transform.specs.Values.{value_at, map_value, entry_place, entry_index, first_outside}
+use Rattle.index_transform.specs.Values.{is_effective, value_at, map_value, entry_place, entry_index, first_outside}
 use Rattle.index_transform.specs.Walks.{IsCell}
 use Rattle.transform_composition.specs.Agreeing.{Agrees, GoesInto, IsCovered, reads_along}
-use Rattle.transform_composition.specs.Composing.{composed_map, passes_word, is_too_large, closed_along, closed_dims, joined, unless_passed, unless_large}
+use Rattle.transform_composition.specs.Composing.{closed, composed_map, passes_word, is_too_large, closed_along, closed_dims, joined, unless_passed, unless_large}
 use Rattle.transform_composition.specs.Reading.{has_array_along, point}
 use Rattle.step_forms.specs.declared.act.Act.{Act}
+use Rattle.step_forms.specs.Given.{HasIndicesAt}
 use Rattle.dim_changes.specs.declared.cause.Cause.{Cause}
 use Rattle.dim_changes.specs.declared.cut.Cut.{Cut}
-use Rattle.dim_changes.specs.Causes.{or_cause, over, Gives}
+use Rattle.dim_changes.specs.Causes.{or_cause, over, Gives, ReachesInto}
 use Rattle.dim_changes.specs.CutViews.{cut_at, cut_view}
 use Rattle.dim_changes.specs.Dims.{dim_at}
 use Rattle.dim_changes.specs.Emptied.{stays_infinite, emptied_dim, emptied_view, refilled_dim, refilled_dims, IsComposed}
 use Rattle.dim_changes.proofs.MarkLemmas.{fit_others}
-use Rattle.dim_changes.proofs.RangeLaws.{listed-at}
-use Rattle.dim_changes.proofs.ReadLaws.{owns, unread-maps, fixed-maps, AreAlike, AreAlikeAll, alike-first, alike-rest, values-own, maps-alike, first-large-alike, unread-all}
+use Rattle.dim_changes.proofs.RangeLaws.{listed-at, AreBounds-each}
+use Rattle.dim_changes.proofs.ReachedCuts.{cut_at-reached}
+use Rattle.dim_changes.proofs.ReadLaws.{owns, unread-maps, fixed-maps, AreAlike, AreAlikeAll, alike-first, alike-rest, value-own, values-own, maps-alike, first-large-alike, unread-all}
 use Rattle.dim_changes.proofs.StepLemmas.{between, length-IsCell}
 
 -- Dimensions made explicit, by their numbers.
@@ -380,10 +382,64 @@ follows-inside a u selected t o g e cell c =
     let in_old = g (subst (λ (ds : List Bounds). list_all is_finite ds ≡ true) (sym same) e) cell (subst (λ (ds : List Bounds). IsCell ds cell) (sym same) c) in
     ap (first_outside u.domain.dims) (values-own (cut_at a u.domain.dims selected) (new_dims a u.domain.dims selected) (emptied_dims a u.domain.dims selected) cell (range_with_len 0 (length u.domain.dims))) ∙ in_old
 
-pub Gives-refilled : (a : Act) (u : DomainAndMaps) (selected : List ℕ) (t : DomainAndMaps) → IsTransform u → IsComposed u selected a t
+-- the bounds of the result's dimensions are those that the step gives
+ends-back : (a : Act) (u : DomainAndMaps) (selected : List ℕ) (t : DomainAndMaps) (k : ℕ) → IsOver a u selected t → k < length u.domain.dims
+    → ((get_or (back a u selected t) k point).lo ≡ (cut_at a u.domain.dims selected k).dim.lo) × ((get_or (back a u selected t) k point).hi ≡ (cut_at a u.domain.dims selected k).dim.hi)
+ends-back a u selected t k o h = told (stays a olds selected k) refl
+  where
+    olds : List Bounds
+    olds = u.domain.dims
+
+    ms : List OutMap
+    ms = maps_over a u selected (emptied_dims a olds selected)
+
+    HasEnds : Bounds → Type 0
+    HasEnds d = (d.lo ≡ (cut_at a olds selected k).dim.lo) × (d.hi ≡ (cut_at a olds selected k).dim.hi)
+
+    along : (d : Bounds) → HasEnds d → HasEnds (closed_along (0 + k) ms d)
+    along d e = split (list_any (has_array_along (0 + k)) ms)
+      where
+        split : (b : Bool) → HasEnds (cond b (closed d) d)
+        split true = e
+        split false = e
+
+    told : (b : Bool) → stays a olds selected k ≡ b → HasEnds (get_or (back a u selected t) k point)
+    told true s =
+        let new : refilled_dim a olds selected t.domain.dims k ≡ (cut_at a olds selected k).dim = rw s refl in
+        subst HasEnds (sym (refilled-at a olds selected t.domain.dims k h ∙ new)) (refl, refl)
+    told false s =
+        let same : refilled_dim a olds selected t.domain.dims k ≡ get_or t.domain.dims k point = rw s refl in
+        let made : emptied_dim a olds selected k ≡ (cut_at a olds selected k).dim = rw s refl in
+        let less : k < length (emptied_dims a olds selected) = (let l = length-emptied a olds selected in omega (arith, h, l)) in
+        let at : get_or t.domain.dims k point ≡ closed_along (0 + k) ms (get_or (emptied_dims a olds selected) k point) =
+        ap (λ (x : DomainAndMaps). get_or x.domain.dims k point) o.is ∙ closed-at 0 (emptied_dims a olds selected) ms k less in
+        subst HasEnds (sym (refilled-at a olds selected t.domain.dims k h ∙ same ∙ at))
+        (along (get_or (emptied_dims a olds selected) k point) (subst HasEnds (sym (emptied-at a olds selected k h ∙ made)) (refl, refl)))
+
+follows-reached : (a : Act) (u : DomainAndMaps) (selected : List ℕ) (t : DomainAndMaps) → IsOver a u selected t → ((spot : ℕ) → HasIndicesAt a spot)
+    → ReachesInto (back a u selected t) (cut_view u selected a) u.domain.dims
+follows-reached a u selected t o p cell c k h i =
+    subst (λ (y : ℤ). is_effective (dim_at u.domain.dims k) y ≡ true) (sym at)
+    (cut_at-reached a u.domain.dims selected k (AreBounds-each u.domain.dims o.old.bounds k h) p (get_or cell k (pos 0))
+    (subst (λ (z : ℤ). z ≤ℤ get_or cell k (pos 0)) ends.0 within.0) (subst (λ (z : ℤ). get_or cell k (pos 0) ≤ℤ z) ends.1 within.1)
+    (subst (λ (y : ℤ). is_index y ≡ true) at i))
+  where
+    cut : Cut
+    cut = cut_at a u.domain.dims selected k
+
+    ends : ((get_or (back a u selected t) k point).lo ≡ cut.dim.lo) × ((get_or (back a u selected t) k point).hi ≡ cut.dim.hi)
+    ends = ends-back a u selected t k o h
+
+    within : ((get_or (back a u selected t) k point).lo ≤ℤ get_or cell k (pos 0)) × (get_or cell k (pos 0) ≤ℤ (get_or (back a u selected t) k point).hi)
+    within = between (back a u selected t) cell k c (let l = length-refilled a u.domain.dims selected t.domain.dims in omega (arith, h, l))
+
+    at : get_or (value_at (cut_view u selected a) cell) k (pos 0) ≡ cut.offset +ℤ cut.stride *ℤ get_or cell k (pos 0)
+    at = value-own (cut_at a u.domain.dims selected) (new_dims a u.domain.dims selected) cell (length u.domain.dims) k h
+
+pub Gives-refilled : (a : Act) (u : DomainAndMaps) (selected : List ℕ) (t : DomainAndMaps) → IsTransform u → ((spot : ℕ) → HasIndicesAt a spot) → IsComposed u selected a t
     → Gives u (cut_view u selected a) (over u (cut_view u selected a)) (Ok (on_dims t (refilled_dims a u.domain.dims selected t.domain.dims)))
-Gives-refilled a u selected t i c =
+Gives-refilled a u selected t i p c =
     let o = is-over a u selected t i c in (
       over-refilled a u selected i ∙ ap (refilled_answer a u.domain.dims selected) c.answer,
-      record { values = follows-values a u selected t o c.agrees; inside = follows-inside a u selected t o c.inside },
+      record { values = follows-values a u selected t o c.agrees; inside = follows-inside a u selected t o c.inside; reached = follows-reached a u selected t o p },
     )

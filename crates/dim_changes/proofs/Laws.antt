@@ -7,6 +7,7 @@ pub use Rattle.dim_changes.proofs.Lists.{listed_more}
 pub use Rattle.dim_changes.proofs.MarkLemmas.{ends_marked, length_marked, marks_made}
 pub use Rattle.dim_changes.proofs.OverLaws.{gives-over, gives-same, gives-tightened}
 pub use Rattle.dim_changes.proofs.RangeLaws.{AreBounds-each, map-map, range-all, range-at, range-length, read-each}
+pub use Rattle.dim_changes.proofs.ReachedLaws.{cell-closed, value-at}
 pub use Rattle.dim_changes.proofs.SpotLaws.{spot_in-Some}
 pub use Rattle.dim_changes.proofs.StepLemmas.{made-of}
 pub use Rattle.dim_changes.proofs.TightAnswers.{BecomesTight, IsTightTransform, IsTightened, IsTightened-same, tighten_answer-Ok, tighten_answer-same}

@@ -14,6 +14,8 @@ pub mod Lists
 pub mod MarkLemmas
 pub mod OverLaws
 pub mod RangeLaws
+pub mod ReachedCuts
+pub mod ReachedLaws
 pub mod ReadLaws
 pub mod SpotLaws
 pub mod StepLemmas

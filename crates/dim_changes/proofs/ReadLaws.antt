@@ -1,5 +1,6 @@
 -- Index arrays read at cuts: dimensions on which no array depends don't matter.
-use Rattle.std.proofs.Common.{◌≡◌, ◌∙◌, ◌⊎◌, inl, inr, zero, suc, ℕ, ◌+◌, ◌<◌, ◌==◌, Bool, true, false, cond, not, ◌&&◌, ◌||◌, List, [], ◌∷◌, length, map, get_or, refl, ap, arith, ℤ, pos, Option, Some, nat_le}
+use Rattle.std.proofs.Common.{◌≡◌, ◌∙◌, ◌⊎◌, inl, inr, zero, suc, ℕ, ◌+◌, ◌<◌, ◌==◌, Bool, true, false, cond, not, ◌&&◌, ◌||◌, List, [], ◌∷◌, length, map, get_or, refl, ap, arith, ℤ, pos, ◌+ℤ◌, ◌*ℤ◌, Option, Some, nat_le}
+use Rattle.std.proofs.lemmas.List.FromFn.{get_or-map-range_with_len}
 use Rattle.std.proofs.lemmas.Bool.Decides.{nat_tests}
 use Rattle.std.specs.List.{list_all, list_any, zip, position_from, range_with_len}
 use Rattle.cells.specs.Places.{cell_count}
@@ -14,6 +15,7 @@ use Rattle.transform_composition.specs.Agreeing.{reads_along}
 use Rattle.transform_composition.specs.Composing.{nowhere, strided_over, composed_map, is_too_large}
 use Rattle.transform_composition.specs.Reading.{has_array_along, depends_on, is_read_along, point, read_along, read_dims, entry_over}
 use Rattle.dim_changes.specs.declared.cut.Cut.{Cut}
+use Rattle.dim_changes.proofs.RangeLaws.{map-map}
 
 -- a map from each dimension of its own
 abbrev pub own : (ℕ → Cut) → ℕ → OutMap
@@ -145,6 +147,13 @@ read_dims-alike f n o s sizes entries ds es l h = read_dims-from (owns f n) size
     told i (inr e) = let z : i ≡ 0 + i = omega arith in inr (rw z at (unread f n i sizes e))
 
 -- the numbers of such maps don't depend on the dimensions
+-- the number of one dimension's own map
+pub value-own : (f : ℕ → Cut) (ds : List Bounds) (cell : List ℤ) (n k : ℕ) → k < n
+    → get_or (map (map_value ds cell) (owns f n)) k (pos 0) ≡ (f k).offset +ℤ (f k).stride *ℤ get_or cell k (pos 0)
+value-own f ds cell n k h =
+    ap (λ (ys : List ℤ). get_or ys k (pos 0)) (map-map (map_value ds cell) (own f) (range_with_len 0 n))
+    ∙ get_or-map-range_with_len (λ j. map_value ds cell (own f j)) 0 n k k (pos 0) h (omega arith)
+
 pub values-own : (f : ℕ → Cut) (ds es : List Bounds) (cell : List ℤ) (js : List ℕ) → map (map_value ds cell) (map (own f) js) ≡ map (map_value es cell) (map (own f) js)
 values-own f ds es cell [] = refl
 values-own f ds es cell (j ∷ js) = ap (λ (xs : List ℤ). map_value es cell (own f j) ∷ xs) (values-own f ds es cell js)

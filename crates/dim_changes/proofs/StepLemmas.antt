@@ -16,7 +16,7 @@ use Rattle.transform_composition.specs.Tightening.{tighten_answer}
 use Rattle.transform_composition.specs.Composing.{composed, over_tightened}
 use Rattle.transform_composition.specs.Agreeing.{Agrees, GoesInto}
 use Rattle.index_transform.specs.Walks.{IsCell}
-use Rattle.dim_changes.specs.Causes.{or_cause, over, IsFaultOf, fault_of, Follows}
+use Rattle.dim_changes.specs.Causes.{or_cause, over, IsFaultOf, fault_of, Follows, ReachesInto}
 use Rattle.cells.proofs.Laws.{both}
 
 -- where all pass, none is the first to fail
@@ -71,10 +71,12 @@ length-IsCell (d ∷ dims) [] c = absurd c
 length-IsCell (d ∷ dims) (x ∷ index) c = let e = length-IsCell dims index c.2 in omega (arith, e)
 
 -- a composition follows its inner transform
-pub Follows-Agrees : (t outer inner : DomainAndMaps) → Agrees t outer inner → GoesInto t.domain.dims inner outer.domain.dims → Follows t outer inner
-Follows-Agrees t outer inner a g = record {
+pub Follows-Agrees : (t outer inner : DomainAndMaps) → Agrees t outer inner → GoesInto t.domain.dims inner outer.domain.dims
+    → ReachesInto t.domain.dims inner outer.domain.dims → Follows t outer inner
+Follows-Agrees t outer inner a g r = record {
   values = λ index c. a index (length-IsCell t.domain.dims index c) (λ dim h _. between t.domain.dims index dim c h);
   inside = g;
+  reached = r;
 }
 
 -- a refused composition has its fault

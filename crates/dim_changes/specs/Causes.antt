@@ -1,6 +1,6 @@
 -- Why a step can't be done, and which cause counts.
-use Rattle.std.specs.Prelude.{◌≡◌, ℕ, nat_lt, ℤ, if◌then◌else◌, List, [], ◌∷◌, Option, Some, None, Result, Ok, Err}
-use Rattle.index_intervals.specs.Bounds.{Bounds}
+use Rattle.std.specs.Prelude.{◌≡◌, ℕ, ◌<◌, nat_lt, ℤ, pos, if◌then◌else◌, IsTrue, List, [], ◌∷◌, length, slice_index_or, Option, Some, None, Result, Ok, Err}
+use Rattle.index_intervals.specs.Bounds.{Bounds, is_index}
 use Rattle.index_intervals.specs.Members.{effective_lo, effective_hi}
 use Rattle.index_transform.specs.Values.{is_effective, value_at}
 use Rattle.index_transform.specs.Walks.{IsCell}
@@ -10,6 +10,7 @@ use Rattle.transform_composition.specs.Agreeing.{GoesInto}
 use Rattle.transform_composition.specs.declared.error.ComposeError.{ComposeError}
 use Rattle.dim_changes.specs.declared.cause.Cause.{Cause}
 use Rattle.dim_changes.specs.declared.cause.Fault.{Fault}
+use Rattle.dim_changes.specs.Dims.{dim_at}
 use Rattle.dim_changes.specs.declared.cause.Cause.TheVariants.{Count, Rank, Target, Label, ZeroStep, Unbounded, BadOrder, OutOfRange, IndexDim, Overflow, TooLarge}
 use Rattle.transform_composition.specs.declared.error.ComposeError.TheVariants as compose
 use Rattle.dim_changes.specs.declared.cause.Fault.TheVariants as fault
@@ -81,11 +82,18 @@ fault_of (compose.Outside output) = fault.Refused Overflow
 fault_of (compose.TooLarge output) = fault.Refused TooLarge
 fault_of compose.Memory = fault.Memory
 
+-- wherever a cell of a domain, which may be infinite, goes to a finite index, the outer effective interval has it
+abbrev pub ReachesInto : List Bounds → DomainAndMaps → List Bounds → Type 0
+ReachesInto dims t outers =
+    (cell : List ℤ) → IsCell dims cell → (k : ℕ) → k < length outers → IsTrue (is_index (slice_index_or (value_at t cell) k (pos 0)))
+    → IsTrue (is_effective (dim_at outers k) (slice_index_or (value_at t cell) k (pos 0)))
+
 -- at each index vector between its bounds a transform has the outer value at the inner value; where its domain is finite,
--- the inner value lies in the outer effective domain
+-- the inner value lies in the outer effective domain, and in any case each number of it that is a finite index does
 pub record Follows (t outer inner : DomainAndMaps) : Type 0 where
   pub values : (index : List ℤ) → IsCell t.domain.dims index → value_at t index ≡ value_at outer (value_at inner index)
   pub inside : GoesInto t.domain.dims inner outer.domain.dims
+  pub reached : ReachesInto t.domain.dims inner outer.domain.dims
 
 -- what comes of a step that has a view: the transform of its answer, which follows the view, or the cause of its answer;
 -- there may be no memory at any time

@@ -47,8 +47,13 @@ fn composed_over(alloc: Global, outer: &Transform, inner: &Transform) -> Result<
     ensures given { Gives outer.now inner.now (or_cause (composed outer.now inner.now)) result }
     ensures agrees { IfOk result (λ t. Agrees t outer.now inner.now) }
 {
+    let _ = outer.domain();
+    let _ = inner.domain();
     match compose(alloc, outer, inner) {
-        Ok(t) => Ok(t),
+        Ok(t) => {
+            let _ = t.domain();
+            Ok(t)
+        }
         Err(e) => Err(fault_of(e)),
     }
 }

@@ -2,13 +2,13 @@
 use Rattle.std.proofs.Common.{◌≡◌, ◌∙◌, zero, suc, ℕ, ◌+◌, ◌<◌, ◌≤◌, ◌==◌, Bool, true, false, cond, List, [], ◌∷◌, length, map, filter, get_or, refl, sym, ap, subst, arith, ℤ, pos, Option, Some, None, is_some, is_none, Ok, unwrap_or}
 use Rattle.std.proofs.lemmas.Bool.Decides.{nat_tests}
 use Rattle.std.specs.List.{All, range_with_len}
-use Rattle.index_intervals.specs.Bounds.{Bounds, AreBounds, IsIndex}
+use Rattle.index_intervals.specs.Bounds.{Bounds, AreBounds, IsIndex, is_index}
 use Rattle.index_intervals.specs.Edges.{lower_edge, upper_edge, ends_of, interval_of, preimage}
 use Rattle.transform_composition.specs.Inside.{are_ends_inside}
 use Rattle.transform_composition.specs.Reading.{point}
 use Rattle.transform_composition.specs.Tightening.{preimages, tighten_answer, met, tight_lower, tight_upper}
 use Rattle.index_transform.specs.Transforms.{DomainAndMaps, IsTransform, KeepsRules}
-use Rattle.index_transform.specs.Values.{first_outside, value_at, map_value}
+use Rattle.index_transform.specs.Values.{is_effective, first_outside, value_at, map_value}
 use Rattle.dim_changes.specs.Dims.{spot_in, others, dim_at}
 use Rattle.dim_changes.specs.Causes.{Follows}
 use Rattle.dim_expressions.specs.Left.{left_by, left_map, without}
@@ -173,4 +173,8 @@ pub agrees_diagonal : (t u : DomainAndMaps) (selected : List ℕ) → Follows t 
 agrees_diagonal t u selected follows = record {
   values = λ index cell. follows.values index cell ∙ ap (value_at u) (same_values u selected index);
   inside = λ finite index cell. ap (first_outside u.domain.dims) (sym (same_values u selected index)) ∙ follows.inside finite index cell;
+  reached = λ index cell k h i.
+      let same = same_values u selected index in
+      subst (λ (ys : List ℤ). is_effective (get_or u.domain.dims k point) (get_or ys k (pos 0)) ≡ true) same
+      (follows.reached index cell k h (subst (λ (ys : List ℤ). is_index (get_or ys k (pos 0)) ≡ true) (sym same) i));
 }

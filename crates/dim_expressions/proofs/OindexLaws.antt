@@ -9,10 +9,8 @@ use Rattle.index_transform.specs.declared.map.OutMap.TheVariants.{Constant}
 use Rattle.index_intervals.specs.Edges.{preimage_lower, preimage_upper}
 use Rattle.index_transform.specs.Maps.{is_map, is_plain, fits, are_entries, are_labels, has_ranks}
 use Rattle.transform_composition.specs.Inside.{is_inside_by}
-use Rattle.index_transform.specs.Cells.{is_finite}
 use Rattle.index_transform.specs.Values.{is_effective, map_value}
 use Rattle.index_transform.specs.Walks.{IsCell}
-use Rattle.transform_composition.specs.Agreeing.{GoesInto}
 use Rattle.transform_composition.specs.Reading.{depends_on}
 use Rattle.dim_changes.specs.Causes.{over}
 use Rattle.transform_composition.specs.Reading.{point}
@@ -25,7 +23,7 @@ use Rattle.dim_expressions.specs.Oindex.{dim_by, label_by, map_by, built_by, bui
 use Rattle.dim_changes.proofs.Laws.{AreLabels-from, are_labels-true, AreLabels-taken, range-length, range-at, range-all, IsTight, IsTight-none, IsTight-one, preimage_lower-same, preimage_upper-same, is_strided_from, preimages-none, preimages-one, IsTightTransform}
 use Rattle.dim_expressions.proofs.PassedLaws.{ends_inside-same, entries_inside-same, entries-index, cell_count-along, last-index, fits-along}
 use Rattle.dim_expressions.proofs.ArrayCauses.{IsListFor, first-effective}
-use Rattle.dim_expressions.proofs.UnreadLaws.{AreSameForAll, with_maps, cell-view, entry-effective, inside-same}
+use Rattle.dim_expressions.proofs.UnreadLaws.{AreSameForAll, with_maps, cell-view, entry-effective}
 use Rattle.cells.proofs.Laws.{both}
 
 -- a list as an index array along a dimension
@@ -244,19 +242,19 @@ module _ (u : DomainAndMaps) (selected : List ℕ) (arrays : List (List ℤ)) (t
       told None e v w = inl (v ∙ ap (map_by rank arrays j) e ∙ sym (w ∙ ap (built_by rank arrays j) e))
       told (Some spot) e v w = needed spot (v ∙ ap (map_by rank arrays j) e) (w ∙ ap (built_by rank arrays j) e) ((good j spot e).needed)
 
-  pub inside-oindex : (made : DomainAndMaps) → over u (with_maps view maps) ≡ Ok made → GoesInto made.domain.dims (with_maps view maps) u.domain.dims → GoesInto made.domain.dims view u.domain.dims
-  inside-oindex made e goes = inside-same u view maps made.domain.dims lengths-oindex each goes
+  pub count-oindex : length view.maps ≡ length u.domain.dims
+  count-oindex = range-length (indexed_map rank selected arrays) 0 rank
+
+  pub numbers-oindex : (made : DomainAndMaps) → over u (with_maps view maps) ≡ Ok made → (cell : List ℤ) → IsCell made.domain.dims cell → (j : ℕ) → j < length view.maps
+      → (get_or view.maps j nowhere ≡ get_or maps j nowhere) ⊎ (is_effective (get_or u.domain.dims j point) (map_value news cell (get_or view.maps j nowhere)) ≡ true)
+  numbers-oindex made e cell c j h = told (spot_in selected j) refl (old-at j (below j h)) (map-at j nowhere (below j h))
     where
-      each : (cell : List ℤ) → list_all is_finite made.domain.dims ≡ true → IsCell made.domain.dims cell → (j : ℕ) → j < length view.maps
+      told : (o : Option ℕ) → spot_in selected j ≡ o → get_or view.maps j nowhere ≡ indexed_map rank selected arrays j → get_or maps j nowhere ≡ built_map rank selected arrays j
           → (get_or view.maps j nowhere ≡ get_or maps j nowhere) ⊎ (is_effective (get_or u.domain.dims j point) (map_value news cell (get_or view.maps j nowhere)) ≡ true)
-      each cell finite c j h = told (spot_in selected j) refl (old-at j (below j h)) (map-at j nowhere (below j h))
-        where
-          told : (o : Option ℕ) → spot_in selected j ≡ o → get_or view.maps j nowhere ≡ indexed_map rank selected arrays j → get_or maps j nowhere ≡ built_map rank selected arrays j
-              → (get_or view.maps j nowhere ≡ get_or maps j nowhere) ⊎ (is_effective (get_or u.domain.dims j point) (map_value news cell (get_or view.maps j nowhere)) ≡ true)
-          told None q v w = inl (v ∙ ap (map_by rank arrays j) q ∙ sym (w ∙ ap (built_by rank arrays j) q))
-          told (Some spot) q v w =
-              let d = cell-view u (with_maps view maps) made cell e finite c in
-              let at : get_or news j (array_dim (array_at arrays spot)) ≡ array_dim (array_at arrays spot) =
-              dim-at j (array_dim (array_at arrays spot)) (below j h) ∙ ap (dim_by u.domain.dims arrays j) q in
-              inr (ap (λ (m : OutMap). is_effective (get_or u.domain.dims j point) (map_value news cell m)) (v ∙ ap (map_by rank arrays j) q)
-              ∙ entry-effective news rank j (get_or u.domain.dims j point) (array_at arrays spot) cell (range-length (indexed_dim u.domain.dims selected arrays) 0 rank) (below j h) at d.0 d.1 ((good j spot q).effective))
+      told None q v w = inl (v ∙ ap (map_by rank arrays j) q ∙ sym (w ∙ ap (built_by rank arrays j) q))
+      told (Some spot) q v w =
+          let d = cell-view u (with_maps view maps) made cell e c in
+          let at : get_or news j (array_dim (array_at arrays spot)) ≡ array_dim (array_at arrays spot) =
+          dim-at j (array_dim (array_at arrays spot)) (below j h) ∙ ap (dim_by u.domain.dims arrays j) q in
+          inr (ap (λ (m : OutMap). is_effective (get_or u.domain.dims j point) (map_value news cell m)) (v ∙ ap (map_by rank arrays j) q)
+          ∙ entry-effective news rank j (get_or u.domain.dims j point) (array_at arrays spot) cell (range-length (indexed_dim u.domain.dims selected arrays) 0 rank) (below j h) at d ((good j spot q).effective))

@@ -1,5 +1,5 @@
 -- What comes of each step, by the view of the step or by what it keeps.
-use Rattle.std.proofs.Common.{◌≡◌, ◌∙◌, suc, ℕ, ◌+◌, ◌<◌, ◌==◌, ◌&&◌, ◌||◌, Bool, true, false, not, ℤ, ◌≤ℤ◌, if◌then◌else◌, get_or, List, [], ◌∷◌, length, refl, sym, ap, subst, arith, unwrap_or, Option, None, Result, Ok, Err, IsTrue}
+use Rattle.std.proofs.Common.{◌≡◌, ◌∙◌, zero, suc, ℕ, pos, ◌+◌, ◌<◌, ◌==◌, ◌&&◌, ◌||◌, Bool, true, false, not, ℤ, ◌≤ℤ◌, if◌then◌else◌, get_or, List, [], ◌∷◌, length, refl, sym, ap, subst, arith, unwrap_or, Option, None, Result, Ok, Err, IsTrue}
 use Rattle.std.specs.List.{list_all, zip, position_from}
 use Rattle.std.specs.Int.RustNames.{int_le}
 use Rattle.std.specs.Result.{IfOk, IfErr}
@@ -40,6 +40,9 @@ outcome u selected a view (Ok t) same given = record {
   answer = given.0;
   values = λ index cell. given.1.values index cell ∙ ap (value_at u) (sym (same index));
   inside = λ finite index cell. ap (first_outside u.domain.dims) (same index) ∙ given.1.inside finite index cell;
+  reached = λ index cell k h i.
+      subst (λ (ys : List ℤ). is_effective (get_or u.domain.dims k point) (get_or ys k (pos 0)) ≡ true) (sym (same index))
+      (given.1.reached index cell k h (subst (λ (ys : List ℤ). is_index (get_or ys k (pos 0)) ≡ true) (same index) i));
 }
 outcome u selected a view (Err f) same given = given
 
@@ -98,13 +101,9 @@ pub HaveEnds-same : (dims : List Bounds) → HaveEnds dims dims
 HaveEnds-same [] = tt
 HaveEnds-same (d ∷ dims) = (refl, refl, HaveEnds-same dims)
 
--- a number between finite bounds is an effective member
-effective : (o n : Bounds) (x : ℤ) → n.lo ≡ o.lo → n.hi ≡ o.hi → is_finite n ≡ true → n.lo ≤ℤ x → x ≤ℤ n.hi → is_effective o x ≡ true
-effective o n x l h finite above below =
-    let f = both (is_index n.lo) (is_index n.hi) finite in
-    let a = is_index-true n.lo f.0 in
-    let b = is_index-true n.hi f.1 in
-    let i : is_index x ≡ true = IsIndex-true x (record { above = omega (arith, ints, a.above, above); below = omega (arith, ints, b.below, below) }) in
+-- a finite index between the bounds is an effective member
+effective-index : (o n : Bounds) (x : ℤ) → n.lo ≡ o.lo → n.hi ≡ o.hi → is_index x ≡ true → n.lo ≤ℤ x → x ≤ℤ n.hi → is_effective o x ≡ true
+effective-index o n x l h i above below =
     let low : int_le o.lo x ≡ true = grind (arith, ints, l, above) in
     let high : int_le x o.hi ≡ true = grind (arith, ints, h, below) in
     rw (i, low, high) (either o.lo_implicit o.hi_implicit)
@@ -114,6 +113,23 @@ effective o n x l h finite above below =
     either true false = refl
     either false true = refl
     either false false = refl
+
+-- and so is a number between finite bounds
+effective : (o n : Bounds) (x : ℤ) → n.lo ≡ o.lo → n.hi ≡ o.hi → is_finite n ≡ true → n.lo ≤ℤ x → x ≤ℤ n.hi → is_effective o x ≡ true
+effective o n x l h finite above below =
+    let f = both (is_index n.lo) (is_index n.hi) finite in
+    let a = is_index-true n.lo f.0 in
+    let b = is_index-true n.hi f.1 in
+    effective-index o n x l h (IsIndex-true x (record { above = omega (arith, ints, a.above, above); below = omega (arith, ints, b.below, below) })) above below
+
+-- each number of a cell that is a finite index is one
+cells-reached : (olds news : List Bounds) (index : List ℤ) (k : ℕ) → HaveEnds olds news → IsCell news index → k < length olds
+    → is_index (get_or index k (pos 0)) ≡ true → is_effective (get_or olds k point) (get_or index k (pos 0)) ≡ true
+cells-reached [] news index k ends cell h i = absurd (omega (arith, h))
+cells-reached (o ∷ olds) [] index k ends cell h i = absurd ends
+cells-reached (o ∷ olds) (n ∷ news) [] k ends cell h i = absurd cell
+cells-reached (o ∷ olds) (n ∷ news) (x ∷ index) zero ends cell h i = effective-index o n x ends.0 ends.1 i cell.0 cell.1
+cells-reached (o ∷ olds) (n ∷ news) (x ∷ index) (suc k) ends cell h i = cells-reached olds news index k ends.2 cell.2 (omega (arith, h)) i
 
 none_outside : (i : ℕ) (olds news : List Bounds) (index : List ℤ) → HaveEnds olds news → list_all is_finite news ≡ true → IsCell news index
     → position_from (λ p. not (is_effective p.0 p.1)) i (zip olds index) ≡ None
@@ -153,6 +169,8 @@ outcome-label u selected labels a (Ok t) e is why =
       answer = is;
       values = λ index cell. ap (λ (v : DomainAndMaps). value_at v index) (sym made);
       inside = λ finite index cell. cells-inside u.domain.dims t.domain.dims index (subst (λ (v : DomainAndMaps). HaveEnds u.domain.dims v.domain.dims) made (HaveEnds-same u.domain.dims)) finite cell;
+      reached = λ index cell k h i.
+          cells-reached u.domain.dims t.domain.dims index k (subst (λ (v : DomainAndMaps). HaveEnds u.domain.dims v.domain.dims) made (HaveEnds-same u.domain.dims)) cell h i;
     })
 outcome-label u selected labels a (Err f) e is why = subst (λ (b : Act). IsFaultOf (step_answer u selected b) f) e why
 
@@ -167,5 +185,6 @@ outcome-mark u selected lower upper a (Ok t) e is why values =
       answer = is;
       values = λ index cell. values index;
       inside = λ finite index cell. cells-inside u.domain.dims t.domain.dims index (subst (λ (v : DomainAndMaps). HaveEnds u.domain.dims v.domain.dims) made ends) finite cell;
+      reached = λ index cell k h i. cells-reached u.domain.dims t.domain.dims index k (subst (λ (v : DomainAndMaps). HaveEnds u.domain.dims v.domain.dims) made ends) cell h i;
     })
 outcome-mark u selected lower upper a (Err f) e is why values = subst (λ (b : Act). IsFaultOf (step_answer u selected b) f) e why

@@ -1,5 +1,5 @@
 -- A dimension that is passed on as it is, and an index array along a dimension of its own.
-use Rattle.std.proofs.Common.{◌≡◌, ◌≢◌, ◌∙◌, zero, suc, ℕ, ◌+◌, ◌*◌, ◌<◌, ◌≤◌, ◌==◌, ◌&&◌, ◌||◌, Bool, true, false, cond, not, List, [], ◌∷◌, length, map, get_or, refl, sym, arith, ℤ, pos, ◌≤ℤ◌, ◌+ℤ◌, ◌-ℤ◌, ◌*ℤ◌, nat_le}
+use Rattle.std.proofs.Common.{◌≡◌, ◌≢◌, ◌∙◌, zero, suc, ℕ, ◌+◌, ◌*◌, ◌<◌, ◌≤◌, ◌==◌, ◌&&◌, ◌||◌, Bool, true, false, cond, not, List, [], ◌∷◌, length, map, get_or, refl, sym, ap, subst, arith, ◌-◌, ℤ, pos, ◌≤ℤ◌, ◌+ℤ◌, ◌-ℤ◌, ◌*ℤ◌, unsigned_abs, nat_le}
 use Rattle.std.proofs.Math.IntN.{*ℤ_comm, *ℤ-one, one}
 use Rattle.std.proofs.lemmas.Int.{ints}
 use Rattle.std.proofs.lemmas.Bool.Decides.{nat_tests}
@@ -10,7 +10,8 @@ use Rattle.index_intervals.specs.Bounds.{Bounds, AreBounds, is_index, minus_infi
 use Rattle.index_intervals.proofs.Laws.{IsIndex-true, lo_infinite, hi_infinite}
 use Rattle.index_transform.specs.Maps.{fits_dim, fits}
 use Rattle.transform_composition.specs.Inside.{end_inside, are_ends_inside}
-use Rattle.index_transform.specs.Values.{is_effective}
+use Rattle.index_transform.specs.Values.{is_effective, entry_place, entry_index}
+use Rattle.index_transform.specs.Walks.{IsCell}
 use Rattle.dim_expressions.specs.Arrays.{sizes_along, array_dim}
 use Rattle.dim_changes.proofs.Laws.{range-length}
 use Rattle.cells.proofs.Laws.{both}
@@ -102,6 +103,58 @@ along a (suc n) dim len l h = told (a == dim) refl (λ less. along (a + 1) n dim
 
 pub cell_count-along : (rank dim len : ℕ) → dim < rank → cell_count (sizes_along rank dim len) ≡ len
 cell_count-along rank dim len h = along 0 rank dim len (omega arith) (omega (arith, h))
+
+-- at a cell an index array along one dimension is read at one of its entries
+none-along : (a : ℕ) (ds : List Bounds) (cell : List ℤ) (dim len : ℕ) → dim < a
+    → entry_place ds (map (λ d. cond (d == dim) len 1) (range_with_len a (length ds))) cell ≡ 0
+none-along a [] cell dim len h = refl
+none-along a (d ∷ ds) [] dim len h = refl
+none-along a (d ∷ ds) (x ∷ cell) dim len h =
+    let e : (a == dim) ≡ false = grind (arith, nat_tests) in
+    let r = none-along (a + 1) ds cell dim len (omega (arith, h)) in
+    rw (e, r) (omega arith)
+
+place-from : (a : ℕ) (ds : List Bounds) (cell : List ℤ) (dim : ℕ) (entries : List ℤ) → IsCell ds cell → a ≤ dim → dim < a + length ds
+    → get_or ds (dim - a) (array_dim entries) ≡ array_dim entries
+    → entry_place ds (map (λ d. cond (d == dim) (length entries) 1) (range_with_len a (length ds))) cell < length entries
+place-from a [] cell dim entries c l h at = absurd (omega (arith, l, h))
+place-from a (d ∷ ds) [] dim entries c l h at = absurd c
+place-from a (d ∷ ds) (x ∷ cell) dim entries c l h at =
+    told (a == dim) refl
+    (λ other.
+    let more : dim - a ≡ suc (dim - (a + 1)) = omega (arith, l, other) in
+    place-from (a + 1) ds cell dim entries c.2 (omega (arith, l, other)) (omega (arith, h)) (subst (λ (k : ℕ). get_or (d ∷ ds) k (array_dim entries) ≡ array_dim entries) more at))
+  where
+    rest : List ℕ
+    rest = map (λ d. cond (d == dim) (length entries) 1) (range_with_len (a + 1) (length ds))
+
+    here : a ≡ dim → d ≡ array_dim entries
+    here e = let z : dim - a ≡ 0 = omega (arith, e) in subst (λ (k : ℕ). get_or (d ∷ ds) k (array_dim entries) ≡ array_dim entries) z at
+
+    low : d ≡ array_dim entries → pos 0 ≤ℤ x
+    low e = subst (λ (z : Bounds). z.lo ≤ℤ x) e c.0
+
+    high : d ≡ array_dim entries → x ≤ℤ (pos (length entries) -ℤ pos 1)
+    high e = subst (λ (z : Bounds). x ≤ℤ z.hi) e c.1
+
+    index : (b : Bool) → d ≡ array_dim entries → cond b 0 (unsigned_abs (x -ℤ d.lo)) < length entries
+    index true e = omega (arith, ints, low e, high e)
+    index false e = let from : d.lo ≡ pos 0 = ap (λ (z : Bounds). z.lo) e in rw from (omega (arith, ints, low e, high e))
+
+    told : (t : Bool) → (a == dim) ≡ t → (a ≢ dim → entry_place ds rest cell < length entries) → entry_index d (cond t (length entries) 1) x * cell_count rest + entry_place ds rest cell < length entries
+    told true f more =
+        let same : a ≡ dim = grind (arith, nat_tests) in
+        let one = ones (a + 1) (length ds) dim (length entries) (omega (arith, same)) in
+        let none = none-along (a + 1) ds cell dim (length entries) (omega (arith, same)) in
+        let i = index (length entries == 1) (here same) in
+        rw (one, none) (omega (arith, i))
+    told false f more = let r = more (grind (arith, nat_tests)) in omega (arith, r)
+
+pub place-along : (ds : List Bounds) (cell : List ℤ) (rank dim : ℕ) (entries : List ℤ) → length ds ≡ rank → dim < rank → IsCell ds cell
+    → get_or ds dim (array_dim entries) ≡ array_dim entries → entry_place ds (sizes_along rank dim (length entries)) cell < length entries
+place-along ds cell rank dim entries l h c at =
+    subst (λ (n : ℕ). entry_place ds (sizes_along n dim (length entries)) cell < length entries) l
+    (place-from 0 ds cell dim entries c (omega arith) (omega (arith, h, l)) (let z : dim - 0 ≡ dim = omega arith in rw z at))
 
 -- the last index of a list that isn't too long
 pub last-index : (entries : List ℤ) → nat_le (length entries) 4194304 ≡ true → is_index (pos (length entries) -ℤ pos 1) ≡ true

@@ -1,26 +1,26 @@
 -- Views whose maps differ where no output depends on them: their compositions are the same.
-use Rattle.std.proofs.Common.{◌≡◌, ◌∙◌, ◌⊎◌, inl, inr, subst, ◌≤ℤ◌, ◌-ℤ◌, zero, suc, ℕ, ◌+◌, ◌*◌, ◌<◌, ◌==◌, Bool, true, false, cond, not, ◌&&◌, ◌||◌, List, [], ◌∷◌, length, map, get_or, refl, sym, ap, arith, ℤ, pos, ◌+ℤ◌, ◌*ℤ◌, Option, Some, None, Result, Ok, Err, nat_le, nat_lt}
+use Rattle.std.proofs.Common.{◌≡◌, ◌∙◌, ◌⊎◌, inl, inr, subst, zero, suc, ℕ, ◌+◌, ◌*◌, ◌<◌, ◌==◌, Bool, true, false, cond, not, ◌&&◌, ◌||◌, List, [], ◌∷◌, length, map, get_or, refl, sym, ap, arith, ℤ, pos, ◌+ℤ◌, ◌*ℤ◌, Option, Some, None, Result, Ok, Err, nat_le, nat_lt}
 use Rattle.std.proofs.lemmas.Bool.Decides.{nat_tests}
 use Rattle.std.specs.List.{list_all, list_any, zip, position_from}
 use Rattle.cells.specs.Places.{cell_count}
-use Rattle.cells.proofs.Laws.{both, both_true, both_false, list_all-at}
+use Rattle.cells.proofs.Laws.{both_false, list_all-at}
 use Rattle.index_intervals.specs.Bounds.{Bounds, is_index}
 use Rattle.index_transform.specs.declared.map.OutMap.{OutMap}
 use Rattle.index_transform.specs.declared.map.OutMap.TheVariants.{Constant, Strided, Indexed}
-use Rattle.index_transform.specs.Cells.{cells_of, is_finite}
-use Rattle.index_transform.specs.Maps.{size_of, fits, fits_dim}
-use Rattle.index_transform.proofs.Laws.{reaches-fits, entry_place-below, effective-cell, length-cell}
+use Rattle.index_transform.specs.Cells.{cells_of}
+use Rattle.index_transform.specs.Maps.{size_of}
 use Rattle.index_transform.specs.Transforms.{DomainAndMaps}
 use Rattle.index_transform.specs.Values.{map_value, entry_place, entry_index, is_effective}
 use Rattle.index_transform.specs.Walks.{IsCell}
 use Rattle.transform_composition.specs.Agreeing.{GoesInto}
-use Rattle.transform_composition.specs.Composing.{nowhere, strided_over, composed_map, passes_over, passes_word, is_too_large, closed, closed_along, closed_dims, joined, unless_passed, unless_large}
-use Rattle.transform_composition.specs.Reading.{depends_on, has_array_along, is_read_along, point, read_along, read_dims, entry_over}
+use Rattle.transform_composition.specs.Composing.{nowhere, strided_over, composed_map, passes_over, passes_word, is_too_large, closed_dims, joined, unless_passed, unless_large}
+use Rattle.transform_composition.specs.Reading.{depends_on, is_read_along, point, read_along, read_dims, entry_over}
 use Rattle.dim_changes.specs.declared.cause.Fault.{Fault}
 use Rattle.dim_changes.specs.declared.cause.Fault.TheVariants as fault
-use Rattle.dim_changes.specs.Causes.{or_cause, over, Gives, IsFaultOf}
+use Rattle.dim_changes.specs.Causes.{or_cause, over, Gives, IsFaultOf, ReachesInto}
+use Rattle.dim_changes.proofs.Laws.{cell-closed, value-at}
 use Rattle.dim_expressions.specs.Arrays.{sizes_along, array_dim, array_map}
-use Rattle.dim_expressions.proofs.PassedLaws.{as_it_is, cell_count-along, fits-along}
+use Rattle.dim_expressions.proofs.PassedLaws.{as_it_is, place-along}
 
 -- each map is the same, or the outer map doesn't depend on what it gives
 abbrev AreSameFor : List OutMap → List OutMap → OutMap → Type 0
@@ -209,53 +209,58 @@ outside-same i f (o ∷ os) (v ∷ vs) (w ∷ ws) l h e =
     told b g (inl q) = ap (λ (x : OutMap). is_effective o (f x)) q ∙ first (is_effective o (f w)) e
     told b g (inr q) = q
 
+-- what lies in the old domain where a number of each other map does
+inside-same : (u v : DomainAndMaps) (ws : List OutMap) (D : List Bounds) → length v.maps ≡ length ws
+    → ((cell : List ℤ) → IsCell D cell → (j : ℕ) → j < length v.maps
+    → (get_or v.maps j nowhere ≡ get_or ws j nowhere) ⊎ (is_effective (get_or u.domain.dims j point) (map_value v.domain.dims cell (get_or v.maps j nowhere)) ≡ true))
+    → GoesInto D (with_maps v ws) u.domain.dims → GoesInto D v u.domain.dims
+inside-same u v ws D l h g finite cell c =
+    outside-same 0 (map_value v.domain.dims cell) u.domain.dims v.maps ws l (h cell c) (g finite cell c)
+
+-- the same where the domain may be infinite
+reached-same : (u v : DomainAndMaps) (ws : List OutMap) (D : List Bounds) → length v.maps ≡ length ws → length v.maps ≡ length u.domain.dims
+    → ((cell : List ℤ) → IsCell D cell → (j : ℕ) → j < length v.maps
+    → (get_or v.maps j nowhere ≡ get_or ws j nowhere) ⊎ (is_effective (get_or u.domain.dims j point) (map_value v.domain.dims cell (get_or v.maps j nowhere)) ≡ true))
+    → ReachesInto D (with_maps v ws) u.domain.dims → ReachesInto D v u.domain.dims
+reached-same u v ws D l n h g cell c k less i = told (h cell c k in_maps)
+  where
+    in_maps : k < length v.maps
+    in_maps = omega (arith, n, less)
+
+    at : get_or (map (map_value v.domain.dims cell) v.maps) k (pos 0) ≡ map_value v.domain.dims cell (get_or v.maps k nowhere)
+    at = value-at v.domain.dims cell v.maps k in_maps
+
+    other : get_or (map (map_value v.domain.dims cell) ws) k (pos 0) ≡ map_value v.domain.dims cell (get_or ws k nowhere)
+    other = value-at v.domain.dims cell ws k (omega (arith, in_maps, l))
+
+    told : (get_or v.maps k nowhere ≡ get_or ws k nowhere) ⊎ (is_effective (get_or u.domain.dims k point) (map_value v.domain.dims cell (get_or v.maps k nowhere)) ≡ true)
+        → is_effective (get_or u.domain.dims k point) (get_or (map (map_value v.domain.dims cell) v.maps) k (pos 0)) ≡ true
+    told (inr q) = subst (λ (y : ℤ). is_effective (get_or u.domain.dims k point) y ≡ true) (sym at) q
+    told (inl e) =
+        let same = at ∙ ap (map_value v.domain.dims cell) e ∙ sym other in
+        subst (λ (y : ℤ). is_effective (get_or u.domain.dims k point) y ≡ true) (sym same) (g cell c k less (subst (λ (y : ℤ). is_index y ≡ true) same i))
+
 -- where the view's own numbers lie in the old domain, it has what comes of the other view
-pub Gives-same-maps : (u v : DomainAndMaps) (ws : List OutMap) (r : Result DomainAndMaps Fault) → length v.maps ≡ length ws → AreSameForAll v.maps ws u.maps
-    → ((t : DomainAndMaps) → over u (with_maps v ws) ≡ Ok t → GoesInto t.domain.dims (with_maps v ws) u.domain.dims → GoesInto t.domain.dims v u.domain.dims)
+pub Gives-same-maps : (u v : DomainAndMaps) (ws : List OutMap) (r : Result DomainAndMaps Fault) → length v.maps ≡ length ws → length v.maps ≡ length u.domain.dims
+    → AreSameForAll v.maps ws u.maps
+    → ((t : DomainAndMaps) → over u (with_maps v ws) ≡ Ok t → (cell : List ℤ) → IsCell t.domain.dims cell → (j : ℕ) → j < length v.maps
+    → (get_or v.maps j nowhere ≡ get_or ws j nowhere) ⊎ (is_effective (get_or u.domain.dims j point) (map_value v.domain.dims cell (get_or v.maps j nowhere)) ≡ true))
     → Gives u (with_maps v ws) (over u (with_maps v ws)) r → Gives u v (over u v) r
-Gives-same-maps u v ws (Ok t) l h inside given = (
+Gives-same-maps u v ws (Ok t) l n h each given = (
   over-same u v ws l h ∙ given.0,
   record {
     values = λ index c. given.1.values index c ∙ sym (values-same u.domain.dims v.domain.dims index v.maps ws u.maps l h);
-    inside = inside t given.0 given.1.inside;
+    inside = inside-same u v ws t.domain.dims l (each t given.0) given.1.inside;
+    reached = reached-same u v ws t.domain.dims l n (each t given.0) given.1.reached;
   },
 )
-Gives-same-maps u v ws (Err f) l h inside given = told f given
+Gives-same-maps u v ws (Err f) l n h each given = told f given
   where
     told : (e : Fault) → IsFaultOf (over u (with_maps v ws)) e → IsFaultOf (over u v) e
     told (fault.Refused c) is = over-same u v ws l h ∙ is
     told fault.Memory is = tt
 
--- what lies in the old domain where a number of each other map does
-pub inside-same : (u v : DomainAndMaps) (ws : List OutMap) (D : List Bounds) → length v.maps ≡ length ws
-    → ((cell : List ℤ) → list_all is_finite D ≡ true → IsCell D cell → (j : ℕ) → j < length v.maps
-    → (get_or v.maps j nowhere ≡ get_or ws j nowhere) ⊎ (is_effective (get_or u.domain.dims j point) (map_value v.domain.dims cell (get_or v.maps j nowhere)) ≡ true))
-    → GoesInto D (with_maps v ws) u.domain.dims → GoesInto D v u.domain.dims
-inside-same u v ws D l h g finite cell c =
-    outside-same 0 (map_value v.domain.dims cell) u.domain.dims v.maps ws l (h cell finite c) (g finite cell c)
-
 -- The cells of a composition are those of the view.
-
-cell-closed : (k : ℕ) (ds : List Bounds) (ms : List OutMap) (xs : List ℤ) → IsCell (closed_dims k ds ms) xs → IsCell ds xs
-cell-closed k [] ms xs c = c
-cell-closed k (d ∷ ds) ms [] c = c
-cell-closed k (d ∷ ds) ms (x ∷ xs) c =
-    let p = told (list_any (has_array_along k) ms) c.0 c.1 in
-    (p.0, p.1, cell-closed (k + 1) ds ms xs c.2)
-  where
-    told : (b : Bool) → ((cond b (closed d) d).lo ≤ℤ x) → (x ≤ℤ (cond b (closed d) d).hi) → (d.lo ≤ℤ x) × (x ≤ℤ d.hi)
-    told true l h = (l, h)
-    told false l h = (l, h)
-
-finite-closed : (k : ℕ) (ds : List Bounds) (ms : List OutMap) → list_all is_finite (closed_dims k ds ms) ≡ true → list_all is_finite ds ≡ true
-finite-closed k [] ms e = refl
-finite-closed k (d ∷ ds) ms e =
-    let p = both (is_finite (closed_along k ms d)) (list_all is_finite (closed_dims (k + 1) ds ms)) e in
-    both_true (is_finite d) (list_all is_finite ds) (told (list_any (has_array_along k) ms) p.0) (finite-closed (k + 1) ds ms p.1)
-  where
-    told : (b : Bool) → is_finite (cond b (closed d) d) ≡ true → is_finite d ≡ true
-    told true f = f
-    told false f = f
 
 joined-of : (u w t : DomainAndMaps) → over u w ≡ Ok t → t ≡ joined u w
 joined-of u w t e = told (position_from (passes_word w.maps) 0 u.maps) (position_from (is_too_large w.domain.dims w.maps) 0 u.maps) e
@@ -265,24 +270,15 @@ joined-of u w t e = told (position_from (passes_word w.maps) 0 u.maps) (position
     told None (Some k) e = cc
     told None None e = cc
 
-pub cell-view : (u w t : DomainAndMaps) (cell : List ℤ) → over u w ≡ Ok t → list_all is_finite t.domain.dims ≡ true → IsCell t.domain.dims cell
-    → (list_all is_finite w.domain.dims ≡ true) × IsCell w.domain.dims cell
-cell-view u w t cell e f c =
+pub cell-view : (u w t : DomainAndMaps) (cell : List ℤ) → over u w ≡ Ok t → IsCell t.domain.dims cell → IsCell w.domain.dims cell
+cell-view u w t cell e c =
     let d = ap (λ (x : DomainAndMaps). x.domain.dims) (joined-of u w t e) in
     let ms = map (composed_map u.domain.dims w.domain.dims w.maps) u.maps in
-    (finite-closed 0 w.domain.dims ms (subst (λ (ds : List Bounds). list_all is_finite ds ≡ true) d f), cell-closed 0 w.domain.dims ms cell (subst (λ (ds : List Bounds). IsCell ds cell) d c))
+    cell-closed 0 w.domain.dims ms cell (subst (λ (ds : List Bounds). IsCell ds cell) d c)
 
 -- an entry of a list along a dimension is one of its effective indices
 pub entry-effective : (ds : List Bounds) (rank dim : ℕ) (b : Bounds) (entries : List ℤ) (cell : List ℤ) → length ds ≡ rank → dim < rank → get_or ds dim (array_dim entries) ≡ array_dim entries
-    → list_all is_finite ds ≡ true → IsCell ds cell → list_all (is_effective b) entries ≡ true → is_effective b (map_value ds cell (array_map rank dim entries)) ≡ true
-entry-effective ds rank dim b entries cell l h at finite c good =
-    let here : is_finite (array_dim entries) ≡ true = rw at at (list_all-at is_finite ds (array_dim entries) finite dim (omega (arith, l, h))) in
-    let last = (both (is_index (pos 0)) (is_index (pos (length entries) -ℤ pos 1)) here).1 in
-    let fit : fits ds (sizes_along rank dim (length entries)) ≡ true = subst (λ (n : ℕ). fits ds (sizes_along n dim (length entries)) ≡ true) l (fits-along ds dim entries last at) in
-    let p = both (length ds == length (sizes_along rank dim (length entries))) (list_all (λ p. fits_dim p.0 p.1) (zip ds (sizes_along rank dim (length entries)))) fit in
-    let same : length ds ≡ length (sizes_along rank dim (length entries)) = (let e = p.0 in grind (arith, nat_tests, e)) in
-    let in_array = reaches-fits ds (sizes_along rank dim (length entries)) cell same (length-cell ds cell c) p.1 (effective-cell ds cell finite c) in
-    let below = entry_place-below ds (sizes_along rank dim (length entries)) cell in_array in
-    let count = cell_count-along rank dim (length entries) h in
+    → IsCell ds cell → list_all (is_effective b) entries ≡ true → is_effective b (map_value ds cell (array_map rank dim entries)) ≡ true
+entry-effective ds rank dim b entries cell l h at c good =
     ap (is_effective b) (as_it_is (get_or entries (entry_place ds (sizes_along rank dim (length entries)) cell) (pos 0)))
-    ∙ list_all-at (is_effective b) entries (pos 0) good (entry_place ds (sizes_along rank dim (length entries)) cell) (omega (arith, below, count))
+    ∙ list_all-at (is_effective b) entries (pos 0) good (entry_place ds (sizes_along rank dim (length entries)) cell) (place-along ds cell rank dim entries l h c at)

@@ -8,10 +8,8 @@ use Rattle.index_transform.specs.declared.map.OutMap.{OutMap}
 use Rattle.index_transform.specs.declared.map.OutMap.TheVariants.{Constant}
 use Rattle.index_intervals.specs.Edges.{preimage_lower, preimage_upper}
 use Rattle.index_transform.specs.Maps.{is_map, is_plain, fits, are_entries}
-use Rattle.index_transform.specs.Cells.{is_finite}
 use Rattle.index_transform.specs.Values.{is_effective, map_value}
 use Rattle.index_transform.specs.Walks.{IsCell}
-use Rattle.transform_composition.specs.Agreeing.{GoesInto}
 use Rattle.transform_composition.specs.Inside.{is_inside_by}
 use Rattle.transform_composition.specs.Reading.{depends_on, point}
 use Rattle.transform_composition.specs.Composing.{nowhere}
@@ -26,7 +24,7 @@ use Rattle.dim_expressions.proofs.ArrayCauses.{IsListFor, arrays-fit, first-effe
 use Rattle.dim_expressions.proofs.DiagonalLaws.{one_fewer}
 use Rattle.dim_expressions.proofs.OindexLaws.{are_entries-along}
 use Rattle.dim_expressions.proofs.PassedLaws.{fits-along, last-index, entries_inside-same}
-use Rattle.dim_expressions.proofs.UnreadLaws.{AreSameForAll, with_maps, cell-view, entry-effective, inside-same}
+use Rattle.dim_expressions.proofs.UnreadLaws.{AreSameForAll, with_maps, cell-view, entry-effective}
 use Rattle.dim_changes.proofs.Laws.{spot_in-Some, IsTight-none, is_strided_from, preimages-none, IsTightened, IsTightened-same, tighten_answer-Ok}
 use Rattle.dim_expressions.proofs.WithoutLaws.{GoIn, becomes, is_transform, maps, stay, maps_length, map_at, stay_length}
 use Rattle.cells.proofs.Laws.{both, both_true}
@@ -176,23 +174,22 @@ module _ (u : DomainAndMaps) (selected : List ℕ) (arrays : List (List ℤ)) (t
       told (Some spot) e v w =
           needed spot (v ∙ ap (left_by (others selected (length u.domain.dims)) 1 olds j) e) (w ∙ ap (left_by (others selected (length u.domain.dims)) 1 put j) e) ((fit_for j spot e).needed)
 
-  pub inside-vindex : (made : DomainAndMaps) → over u (with_maps view (maps u selected 1 put)) ≡ Ok made → GoesInto made.domain.dims (with_maps view (maps u selected 1 put)) u.domain.dims
-      → GoesInto made.domain.dims view u.domain.dims
-  inside-vindex made e goes = inside-same u view (maps u selected 1 put) made.domain.dims lengths-vindex each goes
+  pub count-vindex : length view.maps ≡ length u.domain.dims
+  count-vindex = maps_length u selected 1 olds
+
+  pub numbers-vindex : (made : DomainAndMaps) → over u (with_maps view (maps u selected 1 put)) ≡ Ok made → (cell : List ℤ) → IsCell made.domain.dims cell → (j : ℕ) → j < length view.maps
+      → (get_or view.maps j nowhere ≡ get_or (maps u selected 1 put) j nowhere) ⊎ (is_effective (get_or u.domain.dims j point) (map_value view.domain.dims cell (get_or view.maps j nowhere)) ≡ true)
+  numbers-vindex made e cell c j h = told (spot_in selected j) refl (map_at u selected 1 olds j nowhere (below j h)) (map_at u selected 1 put j nowhere (below j h))
     where
-      each : (cell : List ℤ) → list_all is_finite made.domain.dims ≡ true → IsCell made.domain.dims cell → (j : ℕ) → j < length view.maps
+      told : (o : Option ℕ) → spot_in selected j ≡ o → get_or view.maps j nowhere ≡ left_map selected (others selected (length u.domain.dims)) 1 olds j
+          → get_or (maps u selected 1 put) j nowhere ≡ left_map selected (others selected (length u.domain.dims)) 1 put j
           → (get_or view.maps j nowhere ≡ get_or (maps u selected 1 put) j nowhere) ⊎ (is_effective (get_or u.domain.dims j point) (map_value view.domain.dims cell (get_or view.maps j nowhere)) ≡ true)
-      each cell finite c j h = told (spot_in selected j) refl (map_at u selected 1 olds j nowhere (below j h)) (map_at u selected 1 put j nowhere (below j h))
-        where
-          told : (o : Option ℕ) → spot_in selected j ≡ o → get_or view.maps j nowhere ≡ left_map selected (others selected (length u.domain.dims)) 1 olds j
-              → get_or (maps u selected 1 put) j nowhere ≡ left_map selected (others selected (length u.domain.dims)) 1 put j
-              → (get_or view.maps j nowhere ≡ get_or (maps u selected 1 put) j nowhere) ⊎ (is_effective (get_or u.domain.dims j point) (map_value view.domain.dims cell (get_or view.maps j nowhere)) ≡ true)
-          told None q v w =
-              inl (v ∙ ap (left_by (others selected (length u.domain.dims)) 1 olds j) q ∙ sym (w ∙ ap (left_by (others selected (length u.domain.dims)) 1 put j) q))
-          told (Some spot) q v w =
-              let d = cell-view u (with_maps view (maps u selected 1 put)) made cell e finite c in
-              inr (ap (λ (m : OutMap). is_effective (get_or u.domain.dims j point) (map_value view.domain.dims cell m)) (v ∙ ap (left_by (others selected (length u.domain.dims)) 1 olds j) q)
-              ∙ entry-effective view.domain.dims (1 + left) 0 (get_or u.domain.dims j point) (array_at arrays spot) cell count (omega arith) (same_dim j spot q) d.0 d.1 ((fit_for j spot q).effective))
+      told None q v w =
+          inl (v ∙ ap (left_by (others selected (length u.domain.dims)) 1 olds j) q ∙ sym (w ∙ ap (left_by (others selected (length u.domain.dims)) 1 put j) q))
+      told (Some spot) q v w =
+          let d = cell-view u (with_maps view (maps u selected 1 put)) made cell e c in
+          inr (ap (λ (m : OutMap). is_effective (get_or u.domain.dims j point) (map_value view.domain.dims cell m)) (v ∙ ap (left_by (others selected (length u.domain.dims)) 1 olds j) q)
+          ∙ entry-effective view.domain.dims (1 + left) 0 (get_or u.domain.dims j point) (array_at arrays spot) cell count (omega arith) (same_dim j spot q) d ((fit_for j spot q).effective))
 
 -- the first of dimensions that keep the rule
 pub first-bounds : (b : Bounds) (ds xs : List Bounds) → list_all are_bounds ds ≡ true → ds ≡ b ∷ xs → AreBounds b

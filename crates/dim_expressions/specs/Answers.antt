@@ -1,16 +1,17 @@
 -- What a step on selected dimensions gives, and the old index vector of a new one.
-use Rattle.std.specs.Prelude.{◌≡◌, ℕ, ℤ, List, [], unwrap_or, None, Result, Ok, Err, IsTrue}
+use Rattle.std.specs.Prelude.{◌≡◌, ℕ, ◌<◌, ℤ, pos, List, [], slice_index_or, unwrap_or, None, Result, Ok, Err, IsTrue}
 use Rattle.std.specs.List.{list_all}
+use Rattle.index_intervals.specs.Bounds.{is_index}
 use Rattle.index_transform.specs.Cells.{is_finite}
 use Rattle.index_transform.specs.Transforms.{DomainAndMaps}
-use Rattle.index_transform.specs.Values.{value_at, first_outside}
+use Rattle.index_transform.specs.Values.{value_at, is_effective, first_outside}
 use Rattle.index_transform.specs.Walks.{IsCell}
 use Rattle.json_forms.specs.Lists.{all_of}
 use Rattle.step_forms.specs.declared.act.Act.{Act}
 use Rattle.dim_changes.specs.declared.cause.Cause.{Cause}
 use Rattle.dim_changes.specs.declared.cause.Fault.{Fault}
 use Rattle.dim_changes.specs.Causes.{IsFaultOf}
-use Rattle.dim_changes.specs.Dims.{position_of}
+use Rattle.dim_changes.specs.Dims.{position_of, dim_at}
 use Rattle.dim_changes.specs.CutViews.{cut_view, cut_answer}
 use Rattle.dim_changes.specs.Marks.{label_answer, mark_answer}
 use Rattle.dim_expressions.specs.Left.{rank_of}
@@ -55,13 +56,16 @@ old_index u selected act.Newaxis index = value_at (newaxis_view u selected) inde
 old_index u selected (act.MarkBoundsImplicit lower upper) index = index
 
 -- a step's result has the domain, labels and maps of the step, and at each index vector between its bounds the old value at
--- the old index vector; where it is finite, the old effective domain has the old index vector of each cell; a strided dimension
--- that is infinite on one side is the exception, since the old index of its first index may be no finite index
+-- the old index vector; where it is finite, the old effective domain has the old index vector of each cell, and in any case each
+-- old index that is a finite one; under a stride that of the first index of an infinite dimension may be none
 pub record IsStepped (u : DomainAndMaps) (selected : List ℕ) (a : Act) (t : DomainAndMaps) : Type 0 where
   pub answer : step_answer u selected a ≡ Ok t
   pub values : (index : List ℤ) → IsCell t.domain.dims index → value_at t index ≡ value_at u (old_index u selected a index)
   pub inside : IsTrue (list_all is_finite t.domain.dims) → (index : List ℤ) → IsCell t.domain.dims index
       → first_outside u.domain.dims (old_index u selected a index) ≡ None
+  pub reached : (index : List ℤ) → IsCell t.domain.dims index → (k : ℕ) → k < rank_of u
+      → IsTrue (is_index (slice_index_or (old_index u selected a index) k (pos 0)))
+      → IsTrue (is_effective (dim_at u.domain.dims k) (slice_index_or (old_index u selected a index) k (pos 0)))
 
 -- what comes of a step: its result, or the cause against it; there may be no memory at any time
 abbrev pub IsOutcome : DomainAndMaps → List ℕ → Act → Result DomainAndMaps Fault → Type 0

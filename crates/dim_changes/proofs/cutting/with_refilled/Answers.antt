@@ -47,4 +47,4 @@ returns c =
     let dims = made c.args.act.now c.items-olds.result.now c.args.u.now.domain.dims c.items.result.now c.args.t.domain.dims c.args.selected.now c.in_ok-dims.dims.items olds news c.in_ok-dims.ensures.value in
     let same : c.set_dims.new.self ≡ on_dims c.args.t (refilled_dims c.args.act.now u.domain.dims c.args.selected.now c.args.t.domain.dims) = c.set_dims.ensures ∙ ap (on_dims c.args.t) dims in
     subst (λ (t : DomainAndMaps). Gives u view (over u view) (Ok t)) (sym same)
-    (Gives-refilled c.args.act.now u c.args.selected.now c.args.t c.domain.ensures.well_formed c.requires.composed)
+    (Gives-refilled c.args.act.now u c.args.selected.now c.args.t c.domain.ensures.well_formed c.requires.indices c.requires.composed)

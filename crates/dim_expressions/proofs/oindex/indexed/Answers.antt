@@ -8,7 +8,7 @@ use Rattle.transform_composition.specs.Reading.{point}
 use Rattle.dim_changes.proofs.Laws.{AreBounds-each, gives-over, made-of, range-length, tighten_answer-same}
 use Rattle.dim_expressions.specs.Oindex.{built_map, indexed_dim, oindex_view}
 use Rattle.dim_expressions.proofs.ArrayCauses.{arrays-fit}
-use Rattle.dim_expressions.proofs.OindexLaws.{IsTransform-oindex, IsTightTransform-oindex, lengths-oindex, same-oindex, inside-oindex, ranks-few}
+use Rattle.dim_expressions.proofs.OindexLaws.{IsTransform-oindex, IsTightTransform-oindex, lengths-oindex, count-oindex, same-oindex, numbers-oindex, ranks-few}
 use Rattle.dim_expressions.proofs.UnreadLaws.{with_maps, Gives-same-maps}
 use Rattle.dim_expressions.proofs.oindex.indexed.Goals as goal
 
@@ -61,5 +61,5 @@ returns c =
     let news = bounds-of u selected arrays c.in_ok-domain.domain c.in_ok-domain.ensures c.look_at_dims.ensures in
     let fit = arrays-fit u arrays selected c.requires.good in
     let tight = tighten_answer-same whole u.domain (IsTightTransform-oindex u selected arrays keeps each news fit) in
-    Gives-same-maps u view (maps_of u selected arrays) c.stepped.result (lengths-oindex u selected arrays keeps each news fit) (same-oindex u selected arrays keeps each news fit)
-    (inside-oindex u selected arrays keeps each news fit) (gives-over u _ whole c.stepped.result made tight c.stepped.ensures)
+    Gives-same-maps u view (maps_of u selected arrays) c.stepped.result (lengths-oindex u selected arrays keeps each news fit) (count-oindex u selected arrays keeps each news fit) (same-oindex u selected arrays keeps each news fit)
+    (numbers-oindex u selected arrays keeps each news fit) (gives-over u _ whole c.stepped.result made tight c.stepped.ensures)

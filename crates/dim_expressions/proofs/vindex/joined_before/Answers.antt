@@ -12,7 +12,7 @@ use Rattle.dim_expressions.specs.Vindex.{built_map, vindex_view}
 use Rattle.dim_expressions.proofs.WithoutLaws.{maps, without-made, front-is}
 use Rattle.dim_expressions.proofs.DiagonalLaws.{one_fewer}
 use Rattle.dim_expressions.proofs.UnreadLaws.{with_maps, Gives-same-maps}
-use Rattle.dim_expressions.proofs.VindexLaws.{is_joined, first-bounds, IsTransform-vindex, tight-vindex, lengths-vindex, same-vindex, inside-vindex}
+use Rattle.dim_expressions.proofs.VindexLaws.{is_joined, first-bounds, IsTransform-vindex, tight-vindex, lengths-vindex, count-vindex, same-vindex, numbers-vindex}
 use Rattle.dim_expressions.proofs.vindex.joined_before.Goals as goal
 
 pub front_domain-requires : goal.front_domain-requires
@@ -74,6 +74,7 @@ returns c =
     let each = AreBounds-each u.domain.dims c.domain.ensures.well_formed.bounds in
     let tight = tight-vindex u selected arrays keeps each c.requires.known c.requires.joined c.requires.good first in
     Gives-same-maps u view (maps_of u selected arrays) c.stepped.result (lengths-vindex u selected arrays keeps each c.requires.known c.requires.joined c.requires.good first)
+    (count-vindex u selected arrays keeps each c.requires.known c.requires.joined c.requires.good first)
     (same-vindex u selected arrays keeps each c.requires.known c.requires.joined c.requires.good first)
-    (inside-vindex u selected arrays keeps each c.requires.known c.requires.joined c.requires.good first)
+    (numbers-vindex u selected arrays keeps each c.requires.known c.requires.joined c.requires.good first)
     (gives-over u _ (with_maps view (maps_of u selected arrays)) c.stepped.result made tight c.stepped.ensures)
