@@ -1,5 +1,5 @@
 -- Gathering what f gives for each element, as far as a loop has come.
-use Rattle.std.proofs.Common.{◌≡◌, ℕ, suc, ◌+◌, ◌<◌, ◌≤◌, List, [], ◌∷◌, ◌++◌, map, length, get_or, drop, Option, Some, None, option_map, refl, sym, ap, ◌∙◌, append_assoc, append-nil, add-one, drop-cons}
+use Rattle.std.proofs.Common.{◌≡◌, ℕ, suc, ◌+◌, ◌<◌, ◌≤◌, List, [], ◌∷◌, ◌++◌, map, length, get_or, drop, Option, Some, None, option_map, refl, sym, subst, ap, ◌∙◌, append_assoc, append-nil, add-one, drop-cons}
 use Rattle.std.proofs.Math.ListN.{drop_of_length-le}
 use Rattle.std.specs.List.{zip}
 use Rattle.serde_json.specs.Data.{Data}
@@ -43,9 +43,21 @@ pub paired_more : {A B : Type 0} (f : A × Data → Option B) (xs : List A) (ite
 paired_more f xs items i done a d n in_xs in_items is before =
     before ∙ rw (drop-cons xs i a, drop-cons items i d) (rw is (rw add-one (later done n (all_of f (zip (drop (suc i) xs) (map view (drop (suc i) items)))))))
 
+-- the same by the item itself
+pub paired_next : {A B : Type 0} (f : A × Data → Option B) (xs : List A) (items : List Value) (i : ℕ) (done : List B) (a : A) (item : Value) (n : B) (new : List B) → i < length xs → i < length items
+    → item ≡ get_or items i item → f (get_or xs i a, view item) ≡ Some n → new ≡ done ++ n ∷ [] → Paired f xs items i done → Paired f xs items (i + 1) new
+paired_next f xs items i done a item n new in_xs in_items at is pushed before =
+    subst (Paired f xs items (i + 1)) (sym pushed)
+    (paired_more f xs items i done a item n in_xs in_items (ap (λ v. f (get_or xs i a, view v)) (sym at) ∙ is) before)
+
 pub paired_none : {A B : Type 0} (f : A × Data → Option B) (xs : List A) (items : List Value) (i : ℕ) (done : List B) (a : A) (d : Value) → i < length xs → i < length items
     → f (get_or xs i a, view (get_or items i d)) ≡ None → Paired f xs items i done → None ≡ all_of f (zip xs (map view items))
 paired_none f xs items i done a d in_xs in_items is before = sym (before ∙ rw (drop-cons xs i a, drop-cons items i d) (rw is refl))
+
+pub paired_end : {A B : Type 0} (f : A × Data → Option B) (xs : List A) (items : List Value) (i : ℕ) (done : List B) (a : A) (item : Value) → i < length xs → i < length items
+    → item ≡ get_or items i item → f (get_or xs i a, view item) ≡ None → Paired f xs items i done → None ≡ all_of f (zip xs (map view items))
+paired_end f xs items i done a item in_xs in_items at is before =
+    paired_none f xs items i done a item in_xs in_items (ap (λ v. f (get_or xs i a, view v)) (sym at) ∙ is) before
 
 pub paired_all : {A B : Type 0} (f : A × Data → Option B) (xs : List A) (items : List Value) (i : ℕ) (done : List B) → length xs ≤ i → Paired f xs items i done → Some done ≡ all_of f (zip xs (map view items))
 paired_all f xs items i done past before = sym (before ∙ rw (drop_of_length-le xs past) (ap Some (append-nil done)))

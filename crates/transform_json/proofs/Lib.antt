@@ -7,6 +7,7 @@ pub mod Entries
 pub mod Accepted
 pub mod Reading
 pub mod ItemPairs
+pub mod Listing
 pub mod LeastNames
 pub mod AgainArrays
 pub mod AgainBounds

@@ -1,7 +1,8 @@
 -- Rows of nested lists that were put, and those that are left.
-use Rattle.std.proofs.Common.{◌≡◌, ◌≢◌, ℕ, zero, suc, ◌+◌, ◌-◌, ◌<◌, ◌≤◌, ℤ, List, [], ◌∷◌, ◌++◌, map, length, get_or, drop, replicate, true, Option, Some, None, option_map, refl, sym, ap, ◌∙◌, append_assoc, append-nil, add-one, drop-cons, arith}
+use Rattle.std.proofs.Common.{◌≡◌, ◌≢◌, Bool, false, subst, if◌then◌else◌, ℕ, zero, suc, ◌+◌, ◌-◌, ◌<◌, ◌≤◌, ℤ, List, [], ◌∷◌, ◌++◌, map, length, get_or, drop, replicate, true, Option, Some, None, option_map, refl, sym, ap, ◌∙◌, append_assoc, append-nil, add-one, drop-cons, arith}
 use Rattle.std.proofs.Math.ListN.{drop_of_length-le}
 use Rattle.std.proofs.lemmas.List.{length-map}
+use Rattle.std.proofs.lemmas.Bool.Decides.{nat_tests}
 use Rattle.std.specs.Prelude.{option_and_then, ◌==◌}
 use Rattle.std.specs.List.{flat_map}
 use Rattle.serde_json.specs.Data.{Data}
@@ -30,6 +31,28 @@ regrouped put row (Some rows) = ap Some (sym (append_assoc put row (joined rows)
 pub put_more : (sizes : List ℕ) (items : List Value) (i : ℕ) (before put row : List ℤ) (d : Value) → i < length items → nested_entries sizes (view (get_or items i d)) ≡ Some row
     → IsPut sizes items i before put → IsPut sizes items (i + 1) before (put ++ row)
 put_more sizes items i before put row d less is so = so ∙ rw (drop-cons items i d) (rw is (rw add-one (regrouped put row (all_of (nested_entries sizes) (map view (drop (suc i) items))))))
+
+-- a row that was put
+pub put_row : (sizes : List ℕ) (items : List Value) (i : ℕ) (before put new : List ℤ) (item : Value) (good : Bool) → good ≡ true → i < length items
+    → (if good then Some new else None) ≡ option_map (λ entries. put ++ entries) (nested_entries sizes (view item)) → item ≡ get_or items i item
+    → IsPut sizes items i before put → IsPut sizes items (i + 1) before new
+put_row sizes items i before put new item good holds less is at so = told (nested_entries sizes (view item)) refl (rw holds at is)
+  where
+    told : (o : Option (List ℤ)) → nested_entries sizes (view item) ≡ o → Some new ≡ option_map (λ entries. put ++ entries) o → IsPut sizes items (i + 1) before new
+    told None e f = cc
+    told (Some row) e f =
+        let same : new ≡ put ++ row = cc in
+        subst (IsPut sizes items (i + 1) before) (sym same) (put_more sizes items i before put row item less (ap (λ v. nested_entries sizes (view v)) (sym at) ∙ e) so)
+
+-- a list of another length than the first size wants
+pub put_other : (sizes : List ℕ) (d : Data) (items : List Value) (before : List ℤ) → 1 ≤ length sizes → Some (map view items) ≡ list_items d → length items ≢ get_or sizes 0 0
+    → None ≡ option_map (λ entries. before ++ entries) (nested_entries sizes d)
+put_other [] d items before one listed other = absurd (omega (arith, one))
+put_other (s ∷ ss) d items before one listed other =
+    let same = length-map items view in
+    let long : (length (map view items) == s) ≡ false = grind (arith, nat_tests, same) in
+    ap (λ b. option_map (λ entries. before ++ entries) (option_map joined (where_so b (all_of (nested_entries ss) (map view items))))) (sym long)
+    ∙ ap (λ o. option_map (λ entries. before ++ entries) (option_map joined (option_and_then (λ ds. where_so (length ds == s) (all_of (nested_entries ss) ds)) o))) listed
 
 pub put_none : (sizes : List ℕ) (items : List Value) (i : ℕ) (before put : List ℤ) (d : Value) → i < length items → nested_entries sizes (view (get_or items i d)) ≡ None
     → IsPut sizes items i before put → None ≡ option_map (λ rows. before ++ joined rows) (all_of (nested_entries sizes) (map view items))

@@ -1,8 +1,8 @@
 // Transforms and domains as JSON.
-ghost use Rattle.std.specs.Prelude.{◌≡◌, ◌≤◌, ◌<◌, ◌==◌, ◌↔◌, false, Ok, IsTrue, IfOk, IfSome, OnOk, map, length};
+ghost use Rattle.std.specs.Prelude.{◌≡◌, ◌≤◌, ◌<◌, ◌==◌, ◌↔◌, false, codes, Ok, IsTrue, IfOk, IfSome, OnOk, map, length};
 ghost use Rattle.std.specs.List.{AllByRecursion, list_all, position_from};
 ghost use Rattle.serde_json.specs.View.{view, members_view};
-ghost use Rattle.serde_json.specs.Data.{string, object};
+ghost use Rattle.serde_json.specs.Data.{string, object, put as with_member};
 ghost use Rattle.serde_json.specs.Written.{has_float};
 ghost use Rattle.json_forms.specs.Lists.{list_of};
 ghost use Rattle.cells.specs.Places.{cell_count};
@@ -32,20 +32,11 @@ pub fn write_domain(alloc: Global, d: &Domain) -> Result<Value, AllocError>
 fn members_of_domain(alloc: Global, d: &Domain) -> Result<Map<String, Value>, AllocError>
     ensures { IfOk result (λ m. object (members_view m.entries) ≡ domain_data d.now) }
 {
+    let dims = d.dims.items();
     let mut members = Map::new(alloc);
     put_labels(alloc, &mut members, "labels", d.labels.items())?;
-    put(
-        &mut members,
-        alloc,
-        "inclusive_min",
-        lowers(alloc, d.dims.items())?,
-    )?;
-    put(
-        &mut members,
-        alloc,
-        "exclusive_max",
-        uppers(alloc, d.dims.items())?,
-    )?;
+    put_lowers(alloc, &mut members, "inclusive_min", dims)?;
+    put_uppers(alloc, &mut members, "exclusive_max", dims)?;
     Ok(members)
 }
 
@@ -75,16 +66,58 @@ fn members_of_transform(alloc: Global, t: &Transform) -> Result<Map<String, Valu
     ensures few { OnOk result (AllByRecursion HasFewLists t.now.maps) }
 {
     let domain = t.domain();
+    let dims = domain.dims.items();
     let mut members = Map::new(alloc);
-    put(&mut members, alloc, "output", outputs(alloc, t.maps())?)?;
-    let rank = domain.dims.items().len() as u64;
-    put(&mut members, alloc, "input_rank", Value::from(rank))?;
+    put_outputs(alloc, &mut members, t.maps())?;
+    put(
+        &mut members,
+        alloc,
+        "input_rank",
+        Value::from(dims.len() as u64),
+    )?;
     put_labels(alloc, &mut members, "input_labels", domain.labels.items())?;
-    let low = lowers(alloc, domain.dims.items())?;
-    put(&mut members, alloc, "input_inclusive_min", low)?;
-    let high = uppers(alloc, domain.dims.items())?;
-    put(&mut members, alloc, "input_exclusive_max", high)?;
+    put_lowers(alloc, &mut members, "input_inclusive_min", dims)?;
+    put_uppers(alloc, &mut members, "input_exclusive_max", dims)?;
     Ok(members)
+}
+
+// Puts the lower bounds under a name.
+fn put_lowers(
+    alloc: Global,
+    members: &mut Map<String, Value>,
+    name: &str,
+    dims: &[Interval],
+) -> Result<(), AllocError>
+    ensures { OnOk result (members_view members.new.entries ≡ with_member name.now (list_of (map lower_data dims.now)) (members_view members.old.entries)) }
+{
+    put(members, alloc, name, lowers(alloc, dims)?)
+}
+
+// Puts the upper bounds under a name.
+fn put_uppers(
+    alloc: Global,
+    members: &mut Map<String, Value>,
+    name: &str,
+    dims: &[Interval],
+) -> Result<(), AllocError>
+    ensures value { OnOk result (members_view members.new.entries ≡ with_member name.now (list_of (map upper_data dims.now)) (members_view members.old.entries)) }
+    ensures bounds { OnOk result (AllByRecursion AreBounds dims.now) }
+{
+    put(members, alloc, name, uppers(alloc, dims)?)
+}
+
+// Puts the output maps.
+fn put_outputs(
+    alloc: Global,
+    members: &mut Map<String, Value>,
+    maps: &[OutMap],
+) -> Result<(), AllocError>
+    requires { IsTrue (list_all has_entries maps.now) }
+    ensures value { OnOk result (members_view members.new.entries ≡ with_member (codes "output") (list_of (map map_data maps.now)) (members_view members.old.entries)) }
+    ensures words { OnOk result (AllByRecursion HasWords maps.now) }
+    ensures few { OnOk result (AllByRecursion HasFewLists maps.now) }
+{
+    put(members, alloc, "output", outputs(alloc, maps)?)
 }
 
 fn lowers(alloc: Global, dims: &[Interval]) -> Result<Value, AllocError>

@@ -1,8 +1,12 @@
-use Rattle.std.proofs.Common.{◌≡◌, ◌/◌, length, get_or, ◌∙◌, arith}
+use Rattle.std.proofs.Common.{◌≡◌, ◌/◌, length, map, get_or, ap, ◌∙◌, arith}
 use Rattle.cells.specs.Places.{cell_count}
+use Rattle.serde_json.specs.View.{view}
 use Rattle.serde_json.proofs.Views.{view-Array}
 use Rattle.transform_json.proofs.NestedLaws.{behind, row-is, nested_more, nested_rows}
 use Rattle.transform_json.proofs.write.+nested.Goals as goal
+
+pub loop-i-init : goal.loop-i-init
+loop-i-init t c = ap (map view) c.in_ok-items.ensures.items
 
 pub loop-i-preserved : goal.loop-i-preserved
 loop-i-preserved t c =
