@@ -1,6 +1,6 @@
 use crate::fault::Fault;
 use crate::read::word;
-use crate::{caching, casts, forms, held, json, numbers, staging, wants};
+use crate::{forms, json, wants};
 use json_forms::parse;
 use std::alloc::{AllocError, Global};
 
@@ -21,23 +21,8 @@ fn told(alloc: Global, line: &str) -> Result<String, Fault> {
     if let Some(call) = word(&v, "want") {
         return wants::answer(alloc, call, &v);
     }
-    if let Some(call) = word(&v, "number") {
-        return numbers::answer(alloc, call, &v);
-    }
     if let Some(call) = word(&v, "json") {
         return json::answer(alloc, call, &v);
-    }
-    if let Some(call) = word(&v, "cast") {
-        return casts::answer(alloc, call, &v);
-    }
-    if let Some(call) = word(&v, "held") {
-        return held::answer(alloc, call, &v);
-    }
-    if let Some(call) = word(&v, "staged") {
-        return staging::answer(alloc, call);
-    }
-    if let Some(call) = word(&v, "cache") {
-        return caching::answer(alloc, call, &v);
     }
     Err(Fault::Line)
 }

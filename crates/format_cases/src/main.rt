@@ -4,17 +4,12 @@
 #![tactic(auto)]
 
 mod asking;
-mod caching;
 mod cases;
-mod casts;
 mod encode;
 mod fault;
 mod forms;
-mod held;
 mod json;
-mod numbers;
 mod read;
-mod staging;
 mod wants;
 mod writable;
 

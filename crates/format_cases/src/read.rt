@@ -3,7 +3,7 @@ ghost use Rattle.std.specs.Prelude.{IfOk};
 ghost use Rattle.cells.specs.Numbers.{IsWord};
 
 use crate::fault::Fault;
-use cells::{Dtype, Order};
+use cells::Dtype;
 use json_forms::{u64_list, whole_number};
 use serde_json::Value;
 use std::alloc::Global;
@@ -21,32 +21,8 @@ pub(crate) fn member<'v>(v: &'v Value, name: &str) -> Result<&'v Value, Fault> {
     v.get(name).ok_or(Fault::Line)
 }
 
-pub(crate) fn flag(v: &Value, name: &str) -> Result<bool, Fault> {
-    member(v, name)?.as_bool().ok_or(Fault::Line)
-}
-
-pub(crate) fn size(v: &Value, name: &str) -> Result<u64, Fault> {
-    member(v, name)?.as_u64().ok_or(Fault::Line)
-}
-
-pub(crate) fn whole(v: &Value, name: &str) -> Result<i128, Fault> {
-    whole_number(member(v, name)?).ok_or(Fault::Line)
-}
-
 pub(crate) fn sizes(alloc: Global, v: &Value, name: &str) -> Result<Vec<u64>, Fault> {
     u64_list(alloc, member(v, name)?)?.ok_or(Fault::Line)
-}
-
-pub(crate) fn dtype(v: &Value, name: &str) -> Result<Dtype, Fault> {
-    Dtype::named(text(v, name)?).ok_or(Fault::Line)
-}
-
-pub(crate) fn order(v: &Value) -> Result<Order, Fault> {
-    match text(v, "order")? {
-        "C" => Ok(Order::C),
-        "F" => Ok(Order::F),
-        _ => Err(Fault::Line),
-    }
 }
 
 // The word of a number of the dtype.
