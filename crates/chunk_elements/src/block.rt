@@ -46,11 +46,33 @@ pub fn words_of_block(
     Ok(words)
 }
 
-/// Appends the elements of a block's cells of these sizes, the first index fastest. The block's words stand in C order.
+/// The bytes with the elements of a block's cells of these sizes behind them, the first index fastest. The block's words stand
+/// in C order.
 ///
 /// # Errors
-/// An allocation failed.
+/// An allocation failed; the bytes are gone then.
 pub fn put_block(
+    alloc: Global,
+    dtype: Dtype,
+    big: bool,
+    block: &[u64],
+    sizes: &[u64],
+    words: &[u64],
+    bytes: Vec<u8>,
+) -> Result<Vec<u8>, AllocError>
+    requires within { AreWithin block.now sizes.now }
+    requires cells { 0 < cell_count block.now }
+    requires volume { cell_count block.now ≤ 2 ^ 24 }
+    requires count { length words.now ≡ cell_count block.now }
+    ensures { IfOk result (λ all. AddsBlock dtype big block.now sizes.now words.now bytes.items all.items) }
+{
+    let mut all = bytes;
+    append_block(alloc, dtype, big, block, sizes, words, &mut all)?;
+    Ok(all)
+}
+
+// Appends the elements.
+fn append_block(
     alloc: Global,
     dtype: Dtype,
     big: bool,
@@ -67,7 +89,7 @@ pub fn put_block(
 {
     let most = backwards(alloc, block)?;
     let stored = backwards(alloc, sizes)?;
-    put_backwards(
+    append_backwards(
         alloc,
         dtype,
         big,
@@ -79,7 +101,7 @@ pub fn put_block(
 }
 
 // The same with the last index fastest, where the block's words stand in F order.
-fn put_backwards(
+fn append_backwards(
     alloc: Global,
     dtype: Dtype,
     big: bool,

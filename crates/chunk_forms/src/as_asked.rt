@@ -17,8 +17,8 @@ use std::alloc::Global;
 use zarr_chunks::{ZarrMeta, ZarrWant};
 use zarr3_chunks::{Zarr3Meta, Zarr3Want};
 
-/// The form of a new array: what is asked, and where nothing is asked a chunk of the whole array, the lowest byte first, no
-/// fill, C order, and "." in keys ("/" in version 3).
+/// The form of a new array: what is asked, and where nothing is asked a chunk of the whole array. In Zarr the lowest byte
+/// stands first by default, with C order, no fill and "." in keys in version 2, and a fill of 0 and "/" in version 3.
 ///
 /// # Errors
 /// `Undetermined` with the first of the shape, the dtype and the chunks that is neither asked nor has a default: a chunk of

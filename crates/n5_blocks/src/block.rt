@@ -120,8 +120,7 @@ fn write_block(
     let len = header_len(sizes.len()) + cells_of(sizes) * dtype.byte_count();
     let mut bytes = Vec::with_capacity(alloc, len)?;
     put_header(sizes, &mut bytes)?;
-    put_block(alloc, dtype, true, block, sizes, words, &mut bytes)?;
-    Ok(bytes)
+    put_block(alloc, dtype, true, block, sizes, words, bytes)
 }
 
 // Appends the header of a block of these sizes.

@@ -1,13 +1,16 @@
-ghost use Rattle.std.specs.Prelude.{◌≡◌, ◌≢◌, IfOk, IfErr, length};
+ghost use Rattle.std.specs.Prelude.{◌≡◌, ◌≢◌, ◌↔◌, ◌<◌, ◌≤◌, ◌^◌, ℕ, Err, IfOk, IfErr, length, slice_index};
+ghost use Rattle.cells.specs.Numbers.{IsWord};
+ghost use Rattle.cells.specs.Places.{cell_count, c_place};
 ghost use Rattle.zarr_chunks.specs.Chunk.{chunk_len, word_at};
 ghost use Rattle.zarr_chunks.specs.declared.chunk.ChunkError.{ChunkError};
 ghost use Rattle.zarr_chunks.specs.declared.chunk.ChunkError.TheVariants as error;
 ghost use Rattle.zarr3_chunks.specs.Chunk.{SpellsChunk, as_zarr};
 
 use crate::metadata::Zarr3Meta;
-use cells::{Dense, Order, Sizes};
+use cells::{Dense, MOST_CHUNK_CELLS, Sizes, Words, count_cells};
+use chunk_elements::{bytes_of, words_of};
 use std::alloc::{AllocError, Global};
-use zarr_chunks::{ChunkError, ZarrMeta};
+use zarr_chunks::ChunkError;
 
 /// The numbers that a chunk's bytes spell: the elements in C order in the stated byte order, and nothing else.
 ///
@@ -19,15 +22,26 @@ pub fn decode(alloc: Global, m: &Zarr3Meta, bytes: &[u8]) -> Result<Dense, Chunk
     ensures dtype { IfOk result (λ d. d.dtype ≡ m.now.dtype) }
     ensures shape { IfOk result (λ d. d.shape ≡ m.now.chunks) }
     ensures spells { IfOk result (λ d. SpellsChunk m.now bytes.now (word_at d)) }
-    ensures sound { IfOk result (λ d. length bytes.now ≡ chunk_len (as_zarr m.now)) }
+    ensures wrong_length { (result ≡ Err (error.WrongLength (length bytes.now) (chunk_len (as_zarr m.now))))
+        ↔ (length bytes.now ≢ chunk_len (as_zarr m.now)) }
     ensures causes { IfErr result (λ e. e ≢ error.Memory
-        → (e ≡ error.WrongLength (length bytes.now) (chunk_len (as_zarr m.now)))
-        × (length bytes.now ≢ chunk_len (as_zarr m.now))) }
+        → e ≡ error.WrongLength (length bytes.now) (chunk_len (as_zarr m.now))) }
 {
-    match as_zarr(alloc, m) {
-        Ok(zarr) => zarr_chunks::decode(alloc, &zarr, bytes),
-        Err(_) => Err(ChunkError::Memory),
+    let count = cells_of(m);
+    let want = count * m.dtype.byte_count();
+    if bytes.len() != want {
+        return Err(ChunkError::WrongLength {
+            have: bytes.len() as u64,
+            want: want as u64,
+        });
     }
+    let Ok(words) = read_words(alloc, m, count, bytes) else {
+        return Err(ChunkError::Memory);
+    };
+    let Ok(shape) = Vec::from_slice(alloc, m.chunks.items()) else {
+        return Err(ChunkError::Memory);
+    };
+    Ok(Dense::new(m.dtype, Sizes::wrap(shape), Words::wrap(words)))
 }
 
 /// The bytes of a chunk that spell its numbers.
@@ -41,23 +55,42 @@ pub fn encode(alloc: Global, m: &Zarr3Meta, d: &Dense) -> Result<Vec<u8>, AllocE
     requires shape { d.now.shape ≡ m.now.chunks }
     ensures { IfOk result (λ bytes. SpellsChunk m.now bytes.items (word_at d.now)) }
 {
-    let zarr = as_zarr(alloc, m)?;
-    zarr_chunks::encode(alloc, &zarr, d)
+    write_words(alloc, m, d.words())
 }
 
-// The metadata of version 2 whose chunks have the same bytes.
-fn as_zarr(alloc: Global, m: &Zarr3Meta) -> Result<ZarrMeta, AllocError>
-    ensures { IfOk result (λ zarr. zarr ≡ as_zarr m.now) }
+// The number of cells of a chunk.
+fn cells_of(m: &Zarr3Meta) -> usize
+    ensures value { result ≡ cell_count m.now.chunks }
+    ensures small { result ≤ 2 ^ 24 }
 {
-    let shape = Sizes::wrap(Vec::from_slice(alloc, m.shape.items())?);
-    let chunks = Sizes::wrap(Vec::from_slice(alloc, m.chunks.items())?);
-    Ok(ZarrMeta {
-        shape,
-        chunks,
-        dtype: m.dtype,
-        big: m.big,
-        fill: Some(m.fill),
-        order: Order::C,
-        slash: !m.dot,
-    })
+    let Some(count) = count_cells(m.chunks.items(), MOST_CHUNK_CELLS) else {
+        unreachable!();
+    };
+    count as usize
+}
+
+// The words that a chunk's bytes spell.
+fn read_words(
+    alloc: Global,
+    m: &Zarr3Meta,
+    count: usize,
+    bytes: &[u8],
+) -> Result<Vec<u64>, AllocError>
+    requires count { count ≡ cell_count m.now.chunks }
+    requires full { length bytes.now ≡ chunk_len (as_zarr m.now) }
+    requires small { count ≤ 2 ^ 24 }
+    ensures { IfOk result (λ words. (length words.items ≡ cell_count m.now.chunks)
+        × SpellsChunk m.now bytes.now (λ index. slice_index words.items (c_place m.now.chunks index))) }
+{
+    words_of(alloc, m.dtype, m.big, count, bytes)
+}
+
+// The bytes that spell words.
+fn write_words(alloc: Global, m: &Zarr3Meta, words: &[u64]) -> Result<Vec<u8>, AllocError>
+    requires count { length words.now ≡ cell_count m.now.chunks }
+    requires words { (place : ℕ) → place < length words.now → IsWord m.now.dtype (slice_index words.now place) }
+    ensures { IfOk result (λ bytes. SpellsChunk m.now bytes.items
+        (λ index. slice_index words.now (c_place m.now.chunks index))) }
+{
+    bytes_of(alloc, m.dtype, m.big, words)
 }

@@ -123,7 +123,6 @@ fn bytes_of_block(
     requires count { length words.now ≡ cell_count chunks.now }
     ensures { IfOk result (λ bytes. StoresWords dtype big chunks.now chunks.now bytes.items words.now) }
 {
-    let mut bytes = Vec::with_capacity(alloc, words.len() * dtype.byte_count())?;
-    put_block(alloc, dtype, big, chunks, chunks, words, &mut bytes)?;
-    Ok(bytes)
+    let bytes = Vec::with_capacity(alloc, words.len() * dtype.byte_count())?;
+    put_block(alloc, dtype, big, chunks, chunks, words, bytes)
 }

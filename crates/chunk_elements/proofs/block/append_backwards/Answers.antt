@@ -2,7 +2,7 @@ use Rattle.std.proofs.Common.{◌≡◌, ◌∙◌, arith}
 use Rattle.std.proofs.lemmas.Result.{on_ok_weaker}
 use Rattle.chunk_elements.specs.Rows.{of_long}
 use Rattle.chunk_elements.proofs.BlockLaws.{elements_of_rows-long, long}
-use Rattle.chunk_elements.proofs.block.put_backwards.Goals as goal
+use Rattle.chunk_elements.proofs.block.append_backwards.Goals as goal
 
 pub write_rows-requires : goal.write_rows-requires
 write_rows-requires c =
