@@ -1,0 +1,37 @@
+use kv_face::{Change, Failed, KvError, KvStore};
+
+/// A store of any type, in a box that the caller makes. It is what the store in the box is.
+#[derive(Drop)]
+pub struct BoxedStore {
+    pub store: Box<dyn KvStore + Send>,
+}
+
+impl KvStore for BoxedStore {
+    ghost contents = { λ s. (KvStore-box s.store).contents s.store.value };
+
+    ghost faults = { λ s. (KvStore-box s.store).faults s.store.value };
+
+    ghost prefixes = { λ s. (KvStore-box s.store).prefixes s.store.value };
+
+    ghost names = { λ s. (KvStore-box s.store).names s.store.value };
+
+    ghost standing = { λ s. (KvStore-box s.store).standing s.store.value };
+
+    ghost change_count = { λ s. (KvStore-box s.store).change_count s.store.value };
+
+    fn get(&mut self, key: &str) -> Result<Option<Vec<u8>>, KvError> {
+        self.store.get(key)
+    }
+
+    fn together(&self, changes: &[Change], from: usize) -> bool {
+        self.store.together(changes, from)
+    }
+
+    fn apply(&mut self, changes: &[Change]) -> Result<(), KvError> {
+        self.store.apply(changes)
+    }
+
+    fn finish(&mut self) -> Result<(), Failed> {
+        self.store.finish()
+    }
+}
