@@ -76,8 +76,9 @@ pub fn depth(v: &View) -> u32
     }
 }
 
+/// The depth of the deepest of some views; 0 where there are none, 2^32 - 1 where it is more.
 #[cycle(depth)]
-fn deepest(layers: &[View]) -> u32
+pub fn deepest(layers: &[View]) -> u32
     ensures { result ≡ min (greatest_of (map depth_of layers.now)) (2 ^ 32 - 1) }
 {
     let mut most = 0u32;

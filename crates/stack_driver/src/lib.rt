@@ -19,12 +19,13 @@ mod wholes;
 
 pub use changing::{set_transform, with_transform};
 pub use copying::copy;
-pub use counting::{casts, depth, leaves};
+pub use counting::{casts, deepest, depth, leaves};
 pub use error::{RenewError, StackError, TargetError};
 pub use look::{array_of, dtype, transform_of};
 pub use place::Target;
 pub use reference::ArrayRef;
 pub use renewing::renew;
+pub use stacking::{first_unlike, stacked_domain};
 pub use targeting::{contains, target};
 pub use view::View;
 pub use wholes::whole;

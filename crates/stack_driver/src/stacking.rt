@@ -63,8 +63,8 @@ fn stack_over(alloc: Global, layers: Vec<View>) -> Result<View, AllocError>
     })
 }
 
-// The first view that isn't like the first one.
-fn first_unlike(layers: &[View]) -> Option<usize>
+/// The first view whose dtype or rank differs from the first one's.
+pub fn first_unlike(layers: &[View]) -> Option<usize>
     requires some { 0 < length layers.now }
     ensures value { result ≡ first_unlike layers.now }
     ensures within { IfSome result (λ layer. layer < length layers.now) }
@@ -93,8 +93,13 @@ fn rank_of(view: &View) -> usize
     transform_of(view).domain().dims.items().len()
 }
 
-// The least domain around those of some views.
-fn stacked_domain(alloc: Global, layers: &[View]) -> Result<Domain, AllocError>
+/// The least domain around those of some views: a bound is implicit where a view that attains it has it implicit, and a label
+/// stays where all views have it.
+///
+/// # Errors
+///
+/// Want of memory alone.
+pub fn stacked_domain(alloc: Global, layers: &[View]) -> Result<Domain, AllocError>
     requires some { 0 < length layers.now }
     ensures value { IfOk result (λ d. d ≡ stacked_domain layers.now) }
     ensures rules { IfOk result IsDomain }
