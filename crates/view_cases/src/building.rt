@@ -7,6 +7,7 @@ ghost use Rattle.stack_driver.specs.Renewed.{MayRenew, IsNewShape};
 use crate::args::{dtype, sizes, transform};
 use crate::arrays::leaf;
 use crate::fault::Fault;
+use crate::joins::{is_join, joined};
 use cells::{Boxed, is_shape};
 use serde_json::Value;
 use stack_driver::{
@@ -25,7 +26,8 @@ pub(crate) fn built(alloc: Global, acts: &[Value]) -> Result<View, Fault>
     made.pop().ok_or(Fault::Line)
 }
 
-// The views after an act: `array` puts a whole array behind them, `stack` makes one of all, and others change the last.
+// The views after an act: `array` puts a whole array behind them, `stack` and the joins make one of all, and others change the
+// last.
 fn after(alloc: Global, made: Vec<View>, act: &Value) -> Result<Vec<View>, Fault>
     requires { AllByRecursion IsView made.items }
     ensures { IfOk result (λ views. AllByRecursion IsView views.items) }
@@ -36,6 +38,9 @@ fn after(alloc: Global, made: Vec<View>, act: &Value) -> Result<Vec<View>, Fault
     }
     if act.get("stack").is_some() {
         return stacked(alloc, made);
+    }
+    if is_join(act) {
+        return all_joined(alloc, made, act);
     }
     changed_last(alloc, made, act)
 }
@@ -58,6 +63,17 @@ fn stacked(alloc: Global, made: Vec<View>) -> Result<Vec<View>, Fault>
         return Err(Fault::Line);
     }
     let view = View::stack(alloc, made)?;
+    with(Vec::new(alloc), view)
+}
+
+fn all_joined(alloc: Global, made: Vec<View>, act: &Value) -> Result<Vec<View>, Fault>
+    requires { AllByRecursion IsView made.items }
+    ensures { IfOk result (λ views. AllByRecursion IsView views.items) }
+{
+    if made.is_empty() || made.len() > 256 {
+        return Err(Fault::Line);
+    }
+    let view = joined(alloc, made, act)?;
     with(Vec::new(alloc), view)
 }
 

@@ -1,4 +1,5 @@
 use json_forms::ParseError;
+use layer_join::JoinError;
 use stack_driver::{RenewError, StackError};
 use std::alloc::{AllocError, AllocFailed};
 use transform_composition::ComposeError;
@@ -11,6 +12,7 @@ pub(crate) enum Fault {
     Stack(StackError),
     Compose(ComposeError),
     Renew(RenewError),
+    Join(JoinError),
 }
 
 impl From<AllocError> for Fault {
@@ -40,6 +42,12 @@ impl From<ComposeError> for Fault {
 impl From<RenewError> for Fault {
     fn from(e: RenewError) -> Fault {
         Fault::Renew(e)
+    }
+}
+
+impl From<JoinError> for Fault {
+    fn from(e: JoinError) -> Fault {
+        Fault::Join(e)
     }
 }
 

@@ -10,6 +10,7 @@ mod asking;
 mod building;
 mod cases;
 mod fault;
+mod joins;
 
 use cases::answer;
 use std::io;

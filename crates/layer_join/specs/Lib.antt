@@ -1,0 +1,4 @@
+pub mod Slid
+pub mod Placed
+pub mod Refusals
+pub mod Joins
