@@ -9,6 +9,7 @@ mod casts;
 mod fault;
 mod held;
 mod numbers;
+mod placing;
 mod read;
 mod staging;
 
