@@ -1,13 +1,11 @@
 -- Which transaction an act stands in.
-use Rattle.std.proofs.Common.{◌≡◌, ℕ, List, [], ◌∷◌, length, Bool, true, false, cond, Option, Some, None, Result, Ok, Err, refl}
+use Rattle.std.proofs.Common.{◌≡◌, ℕ, List, length, Option, Some, None, Ok, refl}
 use Rattle.std.specs.Prelude.{◌==◌}
-use Rattle.transform_composition.specs.declared.error.ComposeError.TheVariants as compose
 use Rattle.stack_driver.specs.References.{Reference}
 use Rattle.stack_driver.specs.Renewed.{array_of}
 use Rattle.stack_driver.specs.Views.{look_of}
 use Rattle.stack_driver.specs.declared.view.View.{View}
 use Rattle.history.specs.Acts.{Act, opens, binds, reads, stages, writes, begins, commits, aborts, resizes, resolves, Asked, outside, inside, changed, write_act, on_stored, read_of, write_of, act_of}
-use Rattle.history.specs.Answers.{refused_view}
 use Rattle.history.specs.Commit.{Transaction}
 use Rattle.history.specs.Lines.{Line, refused, opening, viewing, joining, reading, writing, beginning, committing, aborting, resizing, resolving}
 use Rattle.history.specs.Sessions.{Names}

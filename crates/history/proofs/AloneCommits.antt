@@ -1,13 +1,13 @@
 -- A commit of a session alone is done, behind all that happened.
 use Rattle.std.proofs.Common.{◌≡◌, ℕ, zero, suc, ◌+◌, ◌<◌, List, [], ◌∷◌, ◌++◌, length, map, take, Bool, true, false, cond, None, sym, ap, subst, ◌∙◌, arith}
-use Rattle.std.specs.Prelude.{Contains, IsTrue, ◌||◌}
+use Rattle.std.specs.Prelude.{Contains, ◌||◌}
 use Rattle.std.specs.List.{AllByRecursion}
 use Rattle.std.proofs.Math.Seq.{take-length, take-append_seam}
 use Rattle.history.specs.declared.event.Event.{Event}
 use Rattle.history.specs.History.{History}
 use Rattle.history.specs.Answers as body
 use Rattle.history.specs.Chunks.{Chunk, is_chunk, chunk_of}
-use Rattle.history.specs.Commit.{Key, Fixed, Transaction, stored_keys, commit_events, done, done_each, changed_keys, kept_ops, read_generation, CommitTogether, IsConflict}
+use Rattle.history.specs.Commit.{Key, Fixed, Transaction, commit_events, done, done_each, changed_keys, kept_ops, read_generation, CommitTogether, IsConflict}
 use Rattle.history.specs.Legal.{is_present}
 use Rattle.history.specs.Own.{Numbered, numbered, numbers_of}
 use Rattle.history.specs.Reads.{Marks, mark_of, has_mark, first_reads}

@@ -1,12 +1,11 @@
 -- The keys of arrays on one mount are changed together.
-use Rattle.std.proofs.Common.{◌≡◌, ℕ, List, [], ◌∷◌, ◌++◌, length, take, Bool, true, false, cond, Option, Some, None, refl, sym, ap, subst, ◌∙◌, append_assoc}
-use Rattle.std.specs.Prelude.{IsTrue, ◌||◌, ◌&&◌, not, nat_eq, nat_le, filter_map, option_map}
+use Rattle.std.proofs.Common.{◌≡◌, ℕ, List, [], ◌∷◌, ◌++◌, length, Bool, true, false, cond, Option, Some, None, refl, sym, ap, subst, ◌∙◌, append_assoc}
+use Rattle.std.specs.Prelude.{◌||◌, ◌&&◌, not, nat_eq, nat_le, filter_map, option_map}
 use Rattle.std.specs.Cmp.{nat_eq_equiv}
 use Rattle.std.specs.Cmp.Lexicographic.{pointwise}
-use Rattle.std.specs.List.{AllByRecursion, cons_option, list_all, list_any, starts_with}
+use Rattle.std.specs.List.{AllByRecursion, cons_option, list_all, starts_with}
 use Rattle.std.specs.Str.{bytes_eq}
 use Rattle.std.proofs.Math.Seq.{take-append_seam}
-use Rattle.history.specs.declared.array.ArrayInfo.{ArrayInfo}
 use Rattle.history.specs.declared.array.Home.{Home}
 use Rattle.history.specs.declared.array.Home.TheVariants.{Zarr, N5, Zarr3, Local}
 use Rattle.history.specs.declared.event.Op.{Op}
@@ -14,12 +13,12 @@ use Rattle.stack_driver.specs.Targets.{Cell}
 use Rattle.history.specs.History.{History}
 use Rattle.history.specs.Alone.{single_store, AreOnMount}
 use Rattle.history.specs.Answers.{Text}
-use Rattle.history.specs.Arrays.{Known, known_after, is_local, form_of}
-use Rattle.history.specs.Chunks.{Chunk, chunk_in, chunk_of, chunk_key, home_text, keys_text, metadata_key, key_in, key_of}
-use Rattle.history.specs.Commit.{Key, Fixed, is_before, with_key, in_order, stored_keys, are_together, CommitTogether}
+use Rattle.history.specs.Arrays.{Known, known_after, is_local}
+use Rattle.history.specs.Chunks.{chunk_in, chunk_of, chunk_key, home_text, metadata_key, key_in, key_of}
+use Rattle.history.specs.Commit.{Key, is_before, with_key, in_order, stored_keys, are_together, CommitTogether}
 use Rattle.history.specs.Counting.{is_stored}
 use Rattle.history.specs.ReadRows.{mount_of}
-use Rattle.history.specs.Refusals.{resized_keys, all_resized_keys, IsNotAtomic, IsNotAtomicResize}
+use Rattle.history.specs.Refusals.{resized_keys, all_resized_keys, IsNotAtomicResize}
 use Rattle.history.specs.Resizes.{cut_chunks}
 use Rattle.history.specs.Writes.{Put, puts_of}
 

@@ -1,13 +1,11 @@
 -- Leaves of a line can be opened one after another, up to the first that is refused.
 use Rattle.std.proofs.Common.{◌≡◌, ◌≢◌, ℕ, ◌+◌, ◌<◌, ◌≤◌, ◌^◌, List, [], ◌∷◌, ◌++◌, length, take, Bool, true, false, cond, Option, Some, None, Result, Ok, Err, refl, sym, ap, subst, ◌∙◌, append_assoc, append-nil, length-append, arith}
 use Rattle.std.specs.FinMap as finmap
-use Rattle.std.specs.Prelude.{nat_le, max}
 use Rattle.std.specs.List.{AllByRecursion}
 use Rattle.std.proofs.Math.Seq.{take-length, take-append_seam}
 use Rattle.cells.specs.Dense.{DenseCells}
 use Rattle.cells.specs.declared.dtype.Dtype.{Dtype}
-use Rattle.chunk_forms.specs.Made.{form_made, zarr_made, n5_made, zarr3_made, with_chunks, chunks_made}
-use Rattle.chunk_forms.specs.Metadata.{IsMetadata}
+use Rattle.chunk_forms.specs.Made.{form_made, zarr_made, n5_made, zarr3_made, with_chunks}
 use Rattle.chunk_forms.specs.Wants.{mismatch_of}
 use Rattle.chunk_forms.specs.declared.form.Form.{Form}
 use Rattle.chunk_forms.specs.declared.form.Want.{Want}
@@ -24,8 +22,8 @@ use Rattle.history.specs.Leaves.{Leaf, nothing, location_of_leaf, metadata_key_a
 use Rattle.history.specs.Legal.{IsLegal, IsMount}
 use Rattle.history.specs.Lines.{SpecLeaf, given, stored}
 use Rattle.history.specs.OpenRows.{AreOpened, no_leaf, known_leaf, new_leaf, given_leaf, IsNew, made_here, IsRefusal, IsRefusedLeaf, next_array, new_ref, given_info}
-use Rattle.history.specs.Outcomes.{Outcome, path_taken, bad_metadata, exists, mismatch, there, found, not_found, bad_want, made, IsOutcome, unless_differs, making_outcome, outcome_at, unless_taken, opening_outcome, home_of, new_info}
-use Rattle.history.specs.Own.{Numbered, numbered, numbers_of, opened_event}
+use Rattle.history.specs.Outcomes.{Outcome, path_taken, bad_metadata, exists, mismatch, there, found, not_found, bad_want, made, IsOutcome, unless_differs, making_outcome, outcome_at, unless_taken, home_of, new_info}
+use Rattle.history.specs.Own.{Numbered, numbered, opened_event}
 use Rattle.history.specs.Places.{array_at, taken, location}
 use Rattle.history.specs.SingleOpen.{outcome_alone}
 use Rattle.history.specs.Steps.{is_memory}

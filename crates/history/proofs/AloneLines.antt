@@ -1,13 +1,12 @@
 -- What the forms of lines give is sound in what they do.
-use Rattle.std.proofs.Common.{◌≡◌, ℕ, ◌≤◌, List, [], ◌∷◌, length, Bool, true, false, cond, Option, Some, None, Result, Ok, Err, arith}
+use Rattle.std.proofs.Common.{ℕ, ◌≤◌, List, length, Bool, true, false, cond, Option, Some, None, Ok, Err, arith}
 use Rattle.std.specs.Prelude.{◌==◌}
-use Rattle.std.specs.List.{AllByRecursion}
 use Rattle.transform_composition.specs.declared.error.ComposeError.TheVariants as compose
 use Rattle.stack_driver.specs.References.{Reference}
 use Rattle.stack_driver.specs.Renewed.{array_of}
 use Rattle.stack_driver.specs.Views.{look_of}
 use Rattle.stack_driver.specs.declared.view.View.{View}
-use Rattle.history.specs.Acts.{Act, opens, binds, reads, stages, writes, begins, commits, aborts, resizes, resolves, Asked, outside, inside, changed, write_act, on_stored, read_of, write_of, act_of}
+use Rattle.history.specs.Acts.{Act, opens, reads, begins, commits, aborts, resizes, resolves, Asked, outside, inside, changed, write_act, on_stored, read_of, write_of, act_of}
 use Rattle.history.specs.Alone.{IsLineSound, most_of}
 use Rattle.history.specs.Answers as body
 use Rattle.history.specs.Answers.{Body}
@@ -16,10 +15,8 @@ use Rattle.history.specs.Lines.{Line, refused, opening, viewing, joining, readin
 use Rattle.history.specs.Sessions.{Names}
 use Rattle.history.specs.Staged.{HasFittingValues}
 use Rattle.history.specs.Viewing.{shape_of, view_fault, cell_fault}
-use Rattle.history.proofs.AloneTotal.{IsActSound, most_added, most_asked}
+use Rattle.history.proofs.AloneTotal.{IsActSound, most_added}
 use Rattle.history.proofs.Asking.{IsAskedBy, named_by, all_named_by, join_by, changes_by, without_by, values_by, leaf_by, factors_by}
-use Rattle.history.proofs.Settled.{IsSettled, IsAskedSettled}
-use Rattle.history.specs.Steps.{is_memory}
 
 -- a line's values fit, if it has some
 pub fitting_line : (line : Line) → IsLineSound line → HasFittingValues line

@@ -1,5 +1,5 @@
 -- What a session that asks for arrays of one mount alone opens lies on it.
-use Rattle.std.proofs.Common.{◌≡◌, ℕ, zero, suc, ◌+◌, List, [], ◌∷◌, ◌++◌, length, take, drop, Bool, true, false, cond, Option, Some, None, Result, Ok, Err, refl, sym, ap, subst, ◌∙◌, append_assoc, append-nil, eqb-true}
+use Rattle.std.proofs.Common.{◌≡◌, ℕ, zero, suc, ◌+◌, List, [], ◌∷◌, ◌++◌, length, take, Bool, true, false, cond, Option, Some, None, Ok, Err, refl, sym, ap, subst, ◌∙◌, append_assoc, append-nil, eqb-true}
 use Rattle.std.specs.Prelude.{◌==◌}
 use Rattle.std.specs.List.{AllByRecursion}
 use Rattle.chunk_forms.specs.declared.form.Form.{Form}
@@ -21,7 +21,7 @@ use Rattle.history.specs.Answers.{Body, Text}
 use Rattle.transform_composition.specs.declared.error.ComposeError.TheVariants as compose
 use Rattle.history.specs.Arrays.{Known, known_after, known_step, known_reshaped, is_local}
 use Rattle.history.specs.Bound.{AreKnownNames}
-use Rattle.history.specs.Commit.{Key, Fixed, Transaction, done_each, commit_events, kept_ops, changed_keys, stored_keys, are_together, is_write}
+use Rattle.history.specs.Commit.{Key, Fixed, Transaction, done_each, commit_events, kept_ops, changed_keys, stored_keys, are_together}
 use Rattle.history.specs.CommitRows.{IsCommit, is_done, conflicts, is_failed, is_split, is_shrunk, is_damaged, is_wanting, own_after}
 use Rattle.history.specs.Legal.{IsLegal}
 use Rattle.history.specs.Lines.{SpecLeaf, Line, refused, opening, viewing, joining, reading, writing, beginning, committing, aborting, resizing, resolving}
@@ -34,7 +34,7 @@ use Rattle.history.specs.Sessions.{Names, SessionState}
 use Rattle.history.specs.Steps.{IsRow, open_done, open_refused, open_unbuilt, open_failed, open_wanting, view_done, read_done, read_shrunk, read_damaged, read_failed, write_staged, write_done, begin_done, commit_done, abort_done, resize_done, resize_many, resize_split, resize_damaged, resize_failed, resolve_done, resolve_refused}
 use Rattle.history.specs.Viewing.{shape_of, view_fault, cell_fault}
 use Rattle.stack_driver.specs.Views.{look_of}
-use Rattle.history.proofs.Asking.{IsAskedBy, named_by, all_named_by, join_by, changes_by, without_by, values_by, leaf_by, cond_by, factors_by}
+use Rattle.history.proofs.Asking.{IsAskedBy, named_by, all_named_by, join_by, changes_by, without_by, values_by, leaf_by, factors_by}
 use Rattle.history.proofs.Histories.{known_after-more}
 use Rattle.history.proofs.Known.{some_inj, opened_as, known_good}
 use Rattle.history.proofs.KnownViews.{array_known}

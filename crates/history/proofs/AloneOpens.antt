@@ -13,7 +13,7 @@ use Rattle.history.specs.declared.array.ArrayInfo.{ArrayInfo}
 use Rattle.history.specs.declared.event.Event.{Event}
 use Rattle.history.specs.History.{History}
 use Rattle.history.specs.Answers.{Body}
-use Rattle.history.specs.Arrays.{Known, ref_of, form_of}
+use Rattle.history.specs.Arrays.{Known, form_of}
 use Rattle.history.specs.Leaves.{Leaf, Stored, nothing, unreadable, readable, IsStoredAs, location_of_leaf, metadata_key_asked}
 use Rattle.history.specs.Lines.{SpecLeaf, given, stored}
 use Rattle.history.specs.OpenRows.{AreOpened, no_leaf, known_leaf, new_leaf, given_leaf, IsNew, read_there, made_here, IsRefusal, next_array, new_ref, given_info}

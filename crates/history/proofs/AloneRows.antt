@@ -1,11 +1,10 @@
 -- Each row of a session alone is what the single session does.
-use Rattle.std.proofs.Common.{◌≡◌, ◌≢◌, ℕ, suc, ◌+◌, ◌<◌, ◌≤◌, List, [], ◌∷◌, ◌++◌, length, map, take, drop, true, false, cond, Option, Some, None, Result, Ok, Err, refl, sym, ap, subst, ◌∙◌, arith}
+use Rattle.std.proofs.Common.{◌≡◌, ◌≢◌, ℕ, ◌+◌, ◌<◌, ◌≤◌, List, [], ◌∷◌, ◌++◌, length, map, take, drop, true, false, cond, Option, Some, None, Result, Ok, Err, refl, sym, ap, subst, ◌∙◌, arith}
 use Rattle.std.specs.Prelude.{nat_lt, unwrap_or}
 use Rattle.std.specs.FinMap as finmap
 use Rattle.std.proofs.lemmas.List.{take-append-drop, length-take-le}
 use Rattle.std.proofs.Math.Seq.{take-length}
 use Rattle.std.proofs.lemmas.Bool.{le-ltb, lt-ltb}
-use Rattle.kv_face.specs.Store.{Contents}
 use Rattle.stack_driver.specs.References.{Reference}
 use Rattle.stack_driver.specs.Renewed.{renewed}
 use Rattle.stack_driver.specs.declared.error.RenewError.TheVariants as renew
@@ -17,23 +16,21 @@ use Rattle.history.specs.Alone.{single_store, AreAlone, AreOnMount}
 use Rattle.history.specs.Answers as body
 use Rattle.history.specs.Answers.{Body, Text, BuildCause}
 use Rattle.history.specs.Arrays.{Known, known_after, is_local}
-use Rattle.history.specs.Commit.{Key, Fixed, Transaction, commit_events, stored_keys}
-use Rattle.history.specs.CommitRows.{IsCommit, conflicts, is_done, is_failed, is_split, is_shrunk, is_damaged, is_wanting, own_after, own_part}
+use Rattle.history.specs.Commit.{Key, Transaction}
+use Rattle.history.specs.CommitRows.{IsCommit, conflicts, is_done, is_failed, is_split, is_shrunk, is_damaged, is_wanting, own_part}
 use Rattle.history.specs.Leaves.{Leaf}
 use Rattle.history.specs.Legal.{IsLegal, IsLegalResize}
 use Rattle.history.specs.Lines.{SpecLeaf, stored, Build, Downsampling}
 use Rattle.history.specs.OpenRows.{AreOpened, IsRefusedLeaf}
 use Rattle.history.specs.Outcomes.{IsOutcome, bad_metadata}
-use Rattle.history.specs.Own.{Numbered, numbered, numbers_of, fault, resized_event}
+use Rattle.history.specs.Own.{Numbered, numbered, numbers_of, resized_event}
 use Rattle.history.specs.ReadRows.{IsShrunkBy, with_read}
-use Rattle.history.specs.Reads.{unwritten}
 use Rattle.history.specs.Refusals.{HasTooManyCut}
 use Rattle.history.specs.ResizeRows.{shape_after}
-use Rattle.history.specs.Resizes.{cut_chunks}
 use Rattle.history.specs.Sessions.{Names, bind, SessionState, new_transaction, reader}
 use Rattle.history.specs.Shown.{IsRead}
-use Rattle.history.specs.Single.{Single, LineDone, stays, built, opened_by, open_leaves, unless_outside, words_now, read_alone, commit_alone, as_write, cut_by, resize_alone, resolve_alone, act_alone}
-use Rattle.history.specs.SingleOpen.{Begun, by_outcome, leaves_from, leaf_refusal, refusal_of, outcome_alone, with_own}
+use Rattle.history.specs.Single.{Single, LineDone, stays, built, open_leaves, unless_outside, words_now, read_alone, commit_alone, as_write, cut_by, resize_alone, resolve_alone, act_alone}
+use Rattle.history.specs.SingleOpen.{by_outcome, leaves_from, refusal_of, outcome_alone, with_own}
 use Rattle.history.specs.Steps.{IsRow, open_done, open_refused, open_unbuilt, open_failed, open_wanting, view_done, read_done, read_shrunk, read_damaged, read_failed, write_staged, write_done, begin_done, commit_done, abort_done, resize_done, resize_many, resize_split, resize_damaged, resize_failed, resolve_done, resolve_refused, is_memory, as_written, write_alone, with_write}
 use Rattle.history.specs.Store.{resized_after}
 use Rattle.history.specs.Viewing.{opened_body, viewed_body, resolved_body, values_body}

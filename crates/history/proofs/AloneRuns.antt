@@ -1,5 +1,5 @@
 -- A run over a history of its own events alone is the single session.
-use Rattle.std.proofs.Common.{◌≡◌, ℕ, ◌+◌, List, [], ◌∷◌, ◌++◌, length, take, take-take, drop, false, Option, Some, None, Ok, Err, refl, sym, ap, subst, ◌∙◌, append_assoc, append-nil, arith}
+use Rattle.std.proofs.Common.{◌≡◌, ℕ, ◌+◌, List, [], ◌∷◌, ◌++◌, length, take, take-take, drop, false, Option, refl, sym, ap, subst, ◌∙◌, append_assoc, append-nil, arith}
 use Rattle.std.specs.FinMap as finmap
 use Rattle.std.specs.Prelude.{fold}
 use Rattle.std.specs.List.{AllByRecursion}
@@ -9,18 +9,17 @@ use Rattle.history.specs.History.{History}
 use Rattle.history.specs.Acts.{Asked, act_of}
 use Rattle.history.specs.Alone.{single_store, AreAlone, AreOnMount, IsLineOn, IsOn}
 use Rattle.history.specs.Answers.{Body, Text, Answer}
-use Rattle.history.specs.Arrays.{Known}
 use Rattle.history.specs.Bound.{IsLineWithin, IsWithin}
 use Rattle.history.specs.Commit.{Transaction}
 use Rattle.history.specs.Legal.{IsLegal}
 use Rattle.history.specs.Lines.{Line}
 use Rattle.history.specs.Own.{Numbered, numbered, own_events}
 use Rattle.history.specs.Sessions.{Names, SessionState, at_first}
-use Rattle.history.specs.Single.{LineDone, Run, asked_alone, after_line, answered, single_session}
+use Rattle.history.specs.Single.{Run, asked_alone, after_line, answered, single_session}
 use Rattle.history.specs.Steps.{IsAnswered, refused_line, wanting, done_line, SessionStep, is_memory, IsSessionRun, no_line, blank_line, next_line, last_line}
 use Rattle.history.proofs.ActFits.{IsAskedIn, act_of-in}
 use Rattle.history.proofs.Alone.{alone_drop, alone_take, own_all}
-use Rattle.history.proofs.AloneMount.{IsActOn, IsActStored, IsActFit, AreOwnOn, grown_on, row_on, act_of-fit}
+use Rattle.history.proofs.AloneMount.{IsActFit, AreOwnOn, grown_on, row_on, act_of-fit}
 use Rattle.history.proofs.AloneRows.{IsAloneHere, single_at, IsDoneTo, kept_line, row_line}
 use Rattle.history.proofs.AloneSteps.{bare_asked, act_of-bare, HasMarks}
 use Rattle.history.proofs.Asking.{IsAskedBy}

@@ -1,5 +1,5 @@
 -- The array that a session alone finds shrunk is the one with the least metadata key.
-use Rattle.std.proofs.Common.{◌≡◌, ℕ, zero, suc, ◌≤◌, List, [], ◌∷◌, length, map, take, Bool, true, false, cond, Option, Some, None, refl, sym, ap, subst, ◌∙◌, eqb-true, eq-eqb, arith}
+use Rattle.std.proofs.Common.{◌≡◌, ℕ, zero, suc, ◌≤◌, List, [], ◌∷◌, length, map, take, Bool, true, false, cond, Option, Some, None, refl, sym, ap, subst, ◌∙◌, eq-eqb, arith}
 use Rattle.std.specs.Prelude.{Contains, IsTrue, ◌==◌, ◌||◌, not, filter, fold, max}
 use Rattle.std.specs.List.{AllByRecursion}
 use Rattle.std.proofs.Math.Seq.{take-length}
@@ -11,9 +11,9 @@ use Rattle.history.specs.Arrays.{Known, known_after}
 use Rattle.history.specs.Chunks.{is_chunk, chunk_of}
 use Rattle.history.specs.Commit.{Key, Transaction, is_before}
 use Rattle.history.specs.Legal.{IsLegal, is_present}
-use Rattle.history.specs.Reads.{Marks, mark_of, has_mark, is_put, unwritten}
+use Rattle.history.specs.Reads.{Marks, has_mark, is_put, unwritten}
 use Rattle.history.specs.ReadRows.{IsShrunkBy}
-use Rattle.history.specs.Refusals.{metadata_key_at, key_of_array, mark_at, was_outside, cells_outside, last_mark, IsShrunkRead, IsWrittenOutside, IsShrunkCommit}
+use Rattle.history.specs.Refusals.{metadata_key_at, key_of_array, mark_at, was_outside, cells_outside, last_mark, IsShrunkCommit}
 use Rattle.history.specs.Single.{Outside, lesser, outside_by, first_outside}
 use Rattle.history.specs.Store.{resized_after, HasMetadataKey}
 use Rattle.history.specs.Writes.{Put, puts_of}

@@ -1,26 +1,23 @@
 -- The single session's own answers are a run.
-use Rattle.std.proofs.Common.{◌≡◌, ◌≢◌, ℕ, ◌+◌, ◌<◌, ◌≤◌, ◌^◌, List, [], ◌∷◌, ◌++◌, length, take, drop, false, Option, Some, None, Result, Ok, Err, refl, sym, ap, subst, ◌∙◌, append_assoc, append-nil, length-append, arith}
+use Rattle.std.proofs.Common.{◌≡◌, ℕ, ◌+◌, ◌<◌, ◌≤◌, ◌^◌, List, [], ◌∷◌, ◌++◌, length, take, drop, false, Option, Some, None, Ok, Err, refl, sym, ap, subst, ◌∙◌, append_assoc, append-nil, length-append, arith}
 use Rattle.std.specs.FinMap as finmap
 use Rattle.std.specs.List.{AllByRecursion}
-use Rattle.std.proofs.lemmas.List.{take-append-drop}
 use Rattle.std.proofs.Math.Seq.{take-length, take-append_seam}
 use Rattle.history.specs.declared.event.Event.{Event}
 use Rattle.history.specs.History.{History}
-use Rattle.history.specs.Acts.{Act, Asked, act_of}
+use Rattle.history.specs.Acts.{Asked, act_of}
 use Rattle.history.specs.Alone.{single_store, AreAlone, AreOnMount, IsNoFault, IsLineOn, IsOn, IsLineSound, IsSoundLine, most_of, most_events}
 use Rattle.history.specs.Answers as body
 use Rattle.history.specs.Answers.{Body, Text, Answer}
-use Rattle.history.specs.Arrays.{known_after}
 use Rattle.history.specs.Bound.{IsLineWithin, IsWithin}
-use Rattle.history.specs.Commit.{Transaction}
 use Rattle.history.specs.Legal.{IsLegal, IsMount}
 use Rattle.history.specs.Lines.{Line}
-use Rattle.history.specs.Own.{Numbered, numbered, own_events}
-use Rattle.history.specs.Sessions.{Names, SessionState, at_first}
+use Rattle.history.specs.Own.{numbered, own_events}
+use Rattle.history.specs.Sessions.{SessionState, at_first}
 use Rattle.history.specs.Single.{single_session}
 use Rattle.history.specs.Staged.{HasTransaction, AreStaged}
-use Rattle.history.specs.Steps.{IsAnswered, refused_line, done_line, SessionStep, is_memory, IsSessionRun, no_line, blank_line, next_line}
-use Rattle.history.proofs.ActFits.{IsActIn, IsAskedIn, act_of-in}
+use Rattle.history.specs.Steps.{IsAnswered, refused_line, SessionStep, is_memory, IsSessionRun, no_line, blank_line, next_line}
+use Rattle.history.proofs.ActFits.{IsAskedIn, act_of-in}
 use Rattle.history.proofs.Alone.{own_all}
 use Rattle.history.proofs.AloneLines.{fitting_line, IsSoundWithin, act_of-sound}
 use Rattle.history.proofs.AloneMount.{IsActFit, act_of-fit}
@@ -33,7 +30,7 @@ use Rattle.history.proofs.Known.{no_array}
 use Rattle.history.proofs.Settled.{IsSettled, IsAskedSettled, act_of-settled}
 use Rattle.history.proofs.StepsKept.{step_keeps}
 use Rattle.history.proofs.StepsKnown.{IsActKnown, AreKnown, act_of-known}
-use Rattle.history.proofs.StepsLonger.{run_longer, step_longer}
+use Rattle.history.proofs.StepsLonger.{step_longer}
 use Rattle.history.proofs.StepsStaged.{IsActWhole, act_of-whole, step_staged}
 
 plain_answer : (answer : Body) → IsSettled answer → is_memory answer ≡ false

@@ -1,6 +1,6 @@
 -- A read of a session alone, and what its transaction has marked.
 use Rattle.std.proofs.Common.{◌≡◌, ℕ, List, [], ◌∷◌, ◌++◌, length, Bool, true, false, cond, Option, Some, None, Result, Ok, Err, refl, sym, ap, subst, ◌∙◌, append_assoc, append-nil, arith}
-use Rattle.std.specs.Prelude.{IsTrue, ◌||◌, ◌==◌}
+use Rattle.std.specs.Prelude.{◌||◌, ◌==◌}
 use Rattle.std.specs.List.{AllByRecursion}
 use Rattle.std.specs.FinMap as finmap
 use Rattle.transform_composition.specs.declared.error.ComposeError.TheVariants as compose

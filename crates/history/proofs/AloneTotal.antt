@@ -1,11 +1,10 @@
 -- Each line of a session alone has a step, over a store that starts empty and never fails.
-use Rattle.std.proofs.Common.{◌⊎◌, inl, inr, ◌≡◌, ◌≢◌, ℕ, suc, ◌+◌, ◌-◌, ◌<◌, ◌≤◌, ◌^◌, List, [], ◌∷◌, ◌++◌, length, map, take, drop, Bool, true, false, cond, Option, Some, None, Result, Ok, Err, refl, sym, ap, subst, ◌∙◌, append_assoc, append-nil, length-append, arith}
+use Rattle.std.proofs.Common.{inl, inr, ◌≡◌, ℕ, suc, ◌+◌, ◌-◌, ◌<◌, ◌≤◌, ◌^◌, List, [], ◌∷◌, ◌++◌, length, map, take, Bool, true, false, cond, Option, Some, None, Result, Ok, Err, refl, sym, ap, subst, ◌∙◌, append-nil, arith}
 use Rattle.std.specs.FinMap as finmap
 use Rattle.std.specs.Prelude.{Contains, IsTrue, fold, nat_lt, not, filter, filter_map, option_map, unwrap_or, ◌||◌}
-use Rattle.std.specs.List.{AllByRecursion, list_all}
+use Rattle.std.specs.List.{AllByRecursion}
 use Rattle.std.proofs.lemmas.Bool.{ltb-true, ltb-false}
 use Rattle.std.proofs.Math.Seq.{take-length, take-append_seam}
-use Rattle.kv_face.specs.Store.{Contents}
 use Rattle.stack_driver.specs.References.{Reference}
 use Rattle.stack_driver.specs.Renewed.{array_of, renewed}
 use Rattle.stack_driver.specs.Targets.{Cell, is_cell, Target, outwards}
@@ -23,7 +22,7 @@ use Rattle.history.specs.Acts.{Act, opens, binds, reads, stages, writes, begins,
 use Rattle.history.specs.Alone.{single_store, AreAlone, AreOnMount, IsLeafOn, IsLeafSound}
 use Rattle.history.specs.Answers as body
 use Rattle.history.specs.Answers.{Body, Text, BuildCause}
-use Rattle.history.specs.Arrays.{Known, known_after, is_local}
+use Rattle.history.specs.Arrays.{Known, is_local}
 use Rattle.history.specs.Chunks.{chunk_of}
 use Rattle.history.specs.Content.{world_after}
 use Rattle.history.specs.Commit.{Key, Fixed, Transaction, done_each, commit_events, kept_ops, changed_keys, stored_keys, are_together, is_write, HasNoConflict, read_generation}
@@ -33,14 +32,14 @@ use Rattle.history.specs.Lines.{SpecLeaf, given, stored, Build, Downsampling}
 use Rattle.history.specs.OpenRows.{AreOpened}
 use Rattle.history.specs.Own.{Numbered, numbered, numbers_of, resized_event}
 use Rattle.history.specs.ReadRows.{IsShrunkBy, with_read}
-use Rattle.history.specs.Reads.{Marks, has_mark, mark_of, is_put, first_reads, cells_named, unwritten, target_cell, marked_world}
+use Rattle.history.specs.Reads.{has_mark, mark_of, is_put, first_reads, cells_named, unwritten, target_cell, marked_world}
 use Rattle.history.specs.Refs.{HasKnownRefs}
-use Rattle.history.specs.Refusals.{metadata_key_at, was_outside, cells_outside, last_mark, mark_at, IsShrunkCommit, IsWrittenOutside, HasTooManyCut}
+use Rattle.history.specs.Refusals.{was_outside, cells_outside, last_mark, mark_at, IsShrunkCommit, HasTooManyCut}
 use Rattle.history.specs.ResizeRows.{MayResize, shape_after}
 use Rattle.history.specs.Resizes.{cut_chunks}
 use Rattle.history.specs.Sessions.{Names, bind, SessionState, new_transaction, reader}
 use Rattle.history.specs.Shown.{IsRead}
-use Rattle.history.specs.Single.{Outside, first_outside, cut_by}
+use Rattle.history.specs.Single.{Outside, first_outside}
 use Rattle.history.specs.Staged.{IsFound, IsStaged, AreInShapes, IsTransaction, HasTransaction, AreStaged}
 use Rattle.history.specs.Bound.{AreKnownOps}
 use Rattle.history.specs.Steps.{IsRow, open_done, open_refused, open_unbuilt, view_done, read_done, read_shrunk, write_staged, write_done, begin_done, commit_done, abort_done, resize_done, resize_many, resolve_done, resolve_refused, IsAnswered, done_line, is_memory, as_written, write_alone, with_write}
@@ -56,7 +55,7 @@ use Rattle.history.proofs.AloneOpens.{no_bytes}
 use Rattle.history.proofs.AloneMarks.{marks_for, are_marked}
 use Rattle.history.proofs.AloneMount.{IsActOn, IsActStored, IsStoredArray, stored_array}
 use Rattle.history.proofs.AloneReads.{AreMarkedAt}
-use Rattle.history.proofs.AloneShrunk.{IsOutsideCell, nothing_outside, IsLeast, something_outside, put_among, among_put, mark_found, contained, among_kept, kept_among, each_of}
+use Rattle.history.proofs.AloneShrunk.{nothing_outside, something_outside, put_among, among_put, mark_found, contained, among_kept, kept_among}
 use Rattle.history.proofs.AloneSteps.{HasMarks, marks_now}
 use Rattle.history.proofs.Known.{some_inj}
 use Rattle.history.proofs.KnownViews.{never_renewed}

@@ -63,3 +63,4 @@ pub mod AloneSingle
 pub mod Worked
 pub mod WorkedWrong
 pub mod Typed
+pub mod Tabled

@@ -120,7 +120,7 @@ module _ (start : Contents) (here : List ℕ) where
 abbrev opened_of : Event → List ArrayInfo
 opened_of e = opened_array e.kind
 
-locations-more : (events : History) (e : Event) → locations (events ++ e ∷ []) ≡ locations events ++ filter_map location_of (opened_of e)
+pub locations-more : (events : History) (e : Event) → locations (events ++ e ∷ []) ≡ locations events ++ filter_map location_of (opened_of e)
 locations-more events e =
     ap (filter_map location_of) (flat_map-append opened_of events (e ∷ []) ∙ ap (λ is. arrays_of events ++ is) (append-nil (opened_of e)))
     ∙ filter_map-append location_of (arrays_of events) (opened_of e)

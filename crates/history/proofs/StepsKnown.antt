@@ -1,5 +1,5 @@
 -- Line after line, a session's names and operations are of known arrays.
-use Rattle.std.proofs.Common.{◌≡◌, ℕ, ◌+◌, ◌≤◌, List, [], ◌∷◌, ◌++◌, length, map, take, take-take, drop, Bool, true, false, cond, Option, Some, None, Result, Ok, Err, refl, sym, ap, subst, ◌∙◌, append_assoc, length-append, arith, eq-eqb, eqb-true}
+use Rattle.std.proofs.Common.{◌≡◌, ℕ, ◌+◌, ◌≤◌, List, [], ◌∷◌, ◌++◌, length, take, take-take, drop, Bool, true, false, cond, Option, Some, None, Result, Ok, Err, refl, sym, ap, subst, ◌∙◌, append_assoc, arith, eq-eqb}
 use Rattle.std.specs.Prelude.{◌==◌}
 use Rattle.std.specs.List.{AllByRecursion}
 use Rattle.std.specs.Str.{bytes_eq}
@@ -12,28 +12,26 @@ use Rattle.stack_driver.specs.Views.{look_of}
 use Rattle.stack_driver.specs.declared.view.View.{View}
 use Rattle.history.specs.declared.array.ArrayInfo.{ArrayInfo}
 use Rattle.history.specs.declared.event.Event.{Event}
-use Rattle.history.specs.declared.event.Kind.TheVariants.{Opened}
 use Rattle.history.specs.declared.event.Op.{Op}
 use Rattle.history.specs.declared.event.Op.TheVariants.{Write, Read}
 use Rattle.history.specs.History.{History}
-use Rattle.history.specs.Acts.{Act, opens, binds, reads, stages, writes, begins, commits, aborts, resizes, resolves, Asked, outside, inside, changed, write_act, on_stored, read_of, write_of, act_of}
+use Rattle.history.specs.Acts.{Act, opens, binds, reads, stages, writes, begins, commits, aborts, resizes, resolves, Asked, outside, inside, changed, write_act, read_of, write_of, act_of}
 use Rattle.history.specs.Answers as body
 use Rattle.history.specs.Answers.{Body, Text, Answer}
-use Rattle.history.specs.Arrays.{Known, known_after, known_step, ref_of}
+use Rattle.history.specs.Arrays.{Known, known_after, ref_of}
 use Rattle.history.specs.Bound.{AreKnownNames, AreKnownOps, IsChangeWithin, IsBuildWithin, IsLineWithin, IsWithin}
 use Rattle.history.specs.Commit.{Fixed, Transaction}
 use Rattle.history.specs.CommitRows.{IsCommit, is_done, conflicts, is_failed, is_split, is_shrunk, is_damaged, is_wanting}
 use Rattle.history.specs.Legal.{IsLegal, viewed}
 use Rattle.history.specs.Lines.{SpecLeaf, Change, ChangeError, Line, refused, opening, viewing, joining, reading, writing, beginning, committing, aborting, resizing, resolving}
 use Rattle.history.specs.OpenRows.{new_ref, AreOpened, no_leaf, known_leaf, new_leaf, given_leaf}
-use Rattle.history.specs.Outcomes.{there, IsOutcome}
 use Rattle.history.specs.Own.{Numbered, own_events, opened_event}
 use Rattle.history.specs.ReadRows.{with_read}
 use Rattle.history.specs.Reads.{Marks}
 use Rattle.history.specs.Refs.{IsKnownRef, HasKnownRefs}
 use Rattle.history.specs.ResizeRows.{shape_after}
 use Rattle.history.specs.Content.{present_shape}
-use Rattle.history.specs.Sessions.{Names, bind, SessionState, reader}
+use Rattle.history.specs.Sessions.{Names, bind, SessionState}
 use Rattle.history.specs.Steps.{IsRow, open_done, open_refused, open_unbuilt, open_failed, open_wanting, view_done, read_done, read_shrunk, read_damaged, read_failed, write_staged, write_done, begin_done, commit_done, abort_done, resize_done, resize_many, resize_split, resize_damaged, resize_failed, resolve_done, resolve_refused, IsAnswered, refused_line, wanting, done_line, SessionStep, IsSessionRun, no_line, blank_line, next_line, last_line}
 use Rattle.history.specs.Viewing.{shape_of, view_fault, cell_fault}
 use Rattle.history.proofs.ActFits.{IsActIn, IsAskedIn, act_of-in}

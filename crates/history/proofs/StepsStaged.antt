@@ -1,10 +1,9 @@
 -- Line after line, all operations of a session's transaction are staged.
-use Rattle.std.proofs.Common.{◌≡◌, ℕ, ◌+◌, List, [], ◌∷◌, ◌++◌, length, map, take, drop, Bool, true, false, cond, Option, Some, None, Result, Ok, Err, refl, sym, ap, subst, ◌∙◌, arith}
+use Rattle.std.proofs.Common.{◌≡◌, ℕ, ◌+◌, List, [], ◌∷◌, ◌++◌, length, take, drop, Bool, true, false, cond, Option, Some, None, Result, Ok, Err, refl, sym, ap, subst, ◌∙◌, arith}
 use Rattle.std.proofs.lemmas.List.{length-map}
 use Rattle.std.specs.Prelude.{◌==◌, ◌&&◌, IsTrue, ℤ}
 use Rattle.std.specs.List.{AllByRecursion, list_all}
 use Rattle.index_intervals.specs.Bounds.{Bounds}
-use Rattle.index_intervals.specs.Members.{size_of}
 use Rattle.index_transform.specs.Cells.{cells_of, is_finite}
 use Rattle.index_transform.proofs.Laws.{length-cells_of}
 use Rattle.stack_driver.specs.Renewed.{array_of}
@@ -14,7 +13,7 @@ use Rattle.stack_driver.specs.declared.error.TargetError.{TargetError}
 use Rattle.stack_driver.specs.declared.view.View.{View}
 use Rattle.history.specs.declared.event.Op.TheVariants.{Write, Read}
 use Rattle.history.specs.History.{History}
-use Rattle.history.specs.Acts.{Act, opens, binds, reads, stages, writes, begins, commits, aborts, resizes, resolves, Asked, outside, inside, changed, write_act, on_stored, read_of, write_of, act_of}
+use Rattle.history.specs.Acts.{Act, opens, binds, reads, stages, writes, begins, commits, aborts, resizes, resolves, Asked, outside, inside, changed, write_act, read_of, write_of, act_of}
 use Rattle.history.specs.Answers as body
 use Rattle.history.specs.Answers.{Body, Answer, refused_view}
 use Rattle.history.specs.Commit.{Fixed, Transaction}

@@ -1,19 +1,19 @@
 -- A word of an array is a word of its dtype.
-use Rattle.std.proofs.Common.{◌⊎◌, inl, inr, ◌≡◌, ◌≢◌, ℕ, ℤ, ◌<◌, lit≤, zero, suc, List, [], ◌∷◌, ◌++◌, length, map, take, drop, Bool, true, false, cond, Option, Some, None, Result, Ok, Err, refl, sym, ap, subst, ◌∙◌, eqb-true, arith}
-use Rattle.std.specs.Prelude.{fold, zip, filter_map, slice_index, unwrap_or, All, pos, ◌==◌, ◌&&◌}
+use Rattle.std.proofs.Common.{inl, inr, ◌≡◌, ℕ, ℤ, ◌<◌, List, [], ◌∷◌, ◌++◌, length, map, drop, Bool, true, false, cond, Option, Some, None, Result, Ok, Err, refl, sym, ap, subst, ◌∙◌, arith}
+use Rattle.std.specs.Prelude.{fold, zip, filter_map, slice_index, unwrap_or, ◌==◌}
 use Rattle.std.specs.FinMap as finmap
 use Rattle.std.specs.Option.{ForSome}
 use Rattle.std.specs.List.{AllByRecursion}
 use Rattle.cast_driver.proofs.ChainLaws.{IsWord-word_back}
 use Rattle.cast_driver.specs.Chain.{BeginsWith, dtype_after}
 use Rattle.cast_driver.specs.declared.cast.Cast.{Cast}
-use Rattle.cells.proofs.Laws.{IsWord-word_of_bytes, IsWord-word_of, both, c_place-lt}
+use Rattle.cells.proofs.Laws.{IsWord-word_of_bytes, c_place-lt}
 use Rattle.cells.specs.Dense.{DenseCells, IsDense}
-use Rattle.cells.specs.Numbers.{IsWord, Holds}
+use Rattle.cells.specs.Numbers.{IsWord}
 use Rattle.cells.specs.Bytes.{byte_count, word_of_bytes}
 use Rattle.n5_blocks.specs.Block as block
 use Rattle.n5_blocks.specs.Faults.{sizes_in, header_len}
-use Rattle.cells.specs.Places.{c_place, f_place, cell_count, IsInside}
+use Rattle.cells.specs.Places.{c_place, f_place, IsInside}
 use Rattle.cells.specs.declared.dtype.Dtype.{Dtype}
 use Rattle.cells.specs.declared.dtype.Dtype.TheVariants.{U8}
 use Rattle.chunk_elements.proofs.Laws.{IsWord-zero}

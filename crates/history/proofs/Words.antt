@@ -4,12 +4,10 @@ use Rattle.std.specs.Prelude.{◌==◌, slice_index}
 use Rattle.std.specs.FinMap as finmap
 use Rattle.cells.proofs.Laws.{both}
 use Rattle.cells.specs.Places.{c_place}
-use Rattle.chunk_forms.specs.Words.{is_inside, stored_word, stored_fault, unless_damaged, chunk_fault, spelled_word}
-use Rattle.chunk_forms.specs.declared.form.Damage.{Damage}
+use Rattle.chunk_forms.specs.Words.{is_inside, stored_word, stored_fault, unless_damaged, spelled_word}
 use Rattle.chunk_forms.specs.declared.form.Form.{Form}
 use Rattle.kv_face.specs.Store.{Contents}
 use Rattle.stack_driver.specs.Targets.{Cell}
-use Rattle.history.specs.declared.array.ArrayInfo.{ArrayInfo}
 use Rattle.history.specs.declared.array.Home.{Home}
 use Rattle.history.specs.declared.array.Home.TheVariants.{Zarr, N5, Zarr3, Local}
 use Rattle.history.specs.declared.event.Event.{Event}
@@ -22,10 +20,9 @@ use Rattle.history.specs.Content.{content_after, world_after, word_by, cut_to, p
 use Rattle.history.specs.Damaged.{IsSound}
 use Rattle.history.specs.Legal.{IsLegal, IsLegalKind, IsLegalResize, IsAsKept, is_present, is_present_in}
 use Rattle.history.specs.Resizes.{is_cut_in}
-use Rattle.history.specs.Start.{dense_word, opening_word, opening_word_in}
+use Rattle.history.specs.Start.{opening_word, opening_word_in}
 use Rattle.history.specs.Touch.{touches, touches_by}
 use Rattle.history.specs.Writes.{puts_of, written}
-use Rattle.history.proofs.Conflicts.{HasWord}
 use Rattle.history.proofs.Histories.{each_history, legal_step}
 use Rattle.history.proofs.Known.{known_split, known_good, fresh_number, no_array, none_is_none}
 use Rattle.history.proofs.Presence.{world_from}

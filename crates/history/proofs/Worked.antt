@@ -1,6 +1,6 @@
 -- The worked histories: which steps hold of them, and that a wrong answer beside each doesn't.
-use Rattle.std.proofs.Common.{◌≡◌, ℕ, ◌+◌, ◌<◌, ◌≤◌, lit≤, zero, suc, List, [], ◌∷◌, codes, refl, sym, ap, subst, ◌∙◌, Bool, true, false, cond, length, take, map, Option, Some, None, eqb-true, arith}
-use Rattle.std.specs.Prelude.{filter, filter_map, ◌&&◌, ◌||◌, ◌==◌, pos, Result, Ok, Err, Contains, IsTrue}
+use Rattle.std.proofs.Common.{◌≡◌, ℕ, ◌<◌, lit≤, zero, suc, List, [], ◌∷◌, codes, refl, sym, ap, subst, ◌∙◌, Bool, true, false, cond, length, take, map, Option, Some, None, arith}
+use Rattle.std.specs.Prelude.{filter, filter_map, ◌||◌, Result, Ok, Contains, IsTrue}
 use Rattle.std.specs.FinMap as finmap
 use Rattle.std.specs.List.{AllByRecursion, IsDistinct, cons_option, list_any}
 use Rattle.std.specs.Fmt.{digits}
@@ -8,15 +8,10 @@ use Rattle.stack_driver.proofs.Laws.{look-Leaf}
 use Rattle.stack_driver.proofs.Looks.{targets_by}
 use Rattle.stack_driver.proofs.Renewals.{array-Leaf, renewed-Leaf}
 use Rattle.stack_driver.specs.Renewed.{renewed}
-use Rattle.stack_driver.specs.References.{Reference}
 use Rattle.stack_driver.specs.Targets.{Cell, is_cell, Target}
 use Rattle.stack_driver.specs.declared.error.TargetError.{TargetError}
 use Rattle.stack_driver.specs.Views.{targets_of}
-use Rattle.stack_driver.specs.declared.view.View.{View}
-use Rattle.history.specs.declared.event.Event.{Event}
-use Rattle.history.specs.declared.event.Kind.TheVariants.{Done, Fault}
 use Rattle.history.specs.declared.event.Op.{Op}
-use Rattle.history.specs.declared.event.Op.TheVariants.{Write, Read}
 use Rattle.history.specs.History.{History}
 use Rattle.history.specs.Acts.{act_of, reads, writes, resizes, resolves, on_leaf, on_stored}
 use Rattle.history.specs.Answers as body
@@ -24,23 +19,22 @@ use Rattle.history.specs.Answers.{Body}
 use Rattle.history.specs.Arrays.{Known, known_after}
 use Rattle.history.specs.Chunks.{Chunk, is_chunk, chunk_of, key_of, metadata_key}
 use Rattle.history.specs.Counting.{is_stored}
-use Rattle.history.specs.Commit.{Key, Fixed, Transaction, in_order, commit_events, done_each, changed_keys, stored_keys, are_together, read_generation, is_before, IsConflict}
+use Rattle.history.specs.Commit.{Key, Transaction, in_order, commit_events, done_each, changed_keys, stored_keys, are_together, read_generation, is_before, IsConflict}
 use Rattle.history.specs.CommitRows.{MayCommit, HasNoDamage, IsCommit, conflicts, is_done, is_failed, is_split, is_shrunk}
 use Rattle.history.specs.Legal.{is_present, IsLegalResize, MayTake}
 use Rattle.history.specs.Lines as line
 use Rattle.history.specs.Own.{numbered, numbers_of}
 use Rattle.history.specs.Reads.{Marks, footprint_of, first_reads, unwritten, has_mark, mark_of, is_put, visible_values}
-use Rattle.history.specs.ReadRows.{with_read}
 use Rattle.history.specs.Refusals.{was_outside, cells_outside, last_mark, IsShrunkRead, IsWrittenOutside, metadata_key_at, resized_keys, all_resized_keys}
 use Rattle.history.specs.ResizeRows.{MayResize}
 use Rattle.history.specs.Store.{resized_after}
-use Rattle.history.specs.Sessions.{bind, SessionState, new_transaction, plain_mode}
+use Rattle.history.specs.Sessions.{bind, new_transaction, plain_mode}
 use Rattle.history.specs.Shown.{AreMarked, IsRead}
 use Rattle.history.specs.Staged.{AreInShapes}
 use Rattle.history.specs.Steps.{write_alone, SessionStep, IsAnswered, done_line, read_done, read_shrunk, write_done, commit_done, resize_done, resolve_done}
 use Rattle.history.specs.Touch.{generation_of}
 use Rattle.history.specs.Viewing.{values_body, resolved_body}
-use Rattle.history.specs.Worked.{joint, split, array, metadata, first_key, second_key, chunk, cell, of_shape, first_cells, one_cell, whole, at, repeatable, event1, event2, event3, event4, event5, event6, event7, events, first_events, names, within, outside, mark2, begun3, read4, read5, written6, written9, written12, fault5, failing, fives, all_or_none, of_key, by_key, all_fives, three}
+use Rattle.history.specs.Worked.{joint, split, array, metadata, first_key, second_key, chunk, cell, of_shape, first_cells, one_cell, whole, at, event5, event6, event7, events, first_events, names, within, outside, mark2, read4, read5, written6, written9, written12, failing, fives, all_or_none, of_key, by_key, all_fives, three}
 use Rattle.history.specs.Writes.{Put, puts_of}
 use Rattle.history.proofs.AloneOpens.{no_bytes}
 use Rattle.history.proofs.Written.{same_cells}

@@ -1,8 +1,7 @@
 -- A wrong answer beside each step of the worked histories is none.
-use Rattle.std.proofs.Common.{◌≡◌, ℕ, ℤ, ◌+◌, ◌<◌, ◌≤◌, zero, suc, List, [], ◌∷◌, ◌++◌, codes, refl, sym, ap, subst, ◌∙◌, Bool, true, false, cond, length, take, map, Option, Some, None, Ok, ◌⊎◌, inl, inr, eqb-true, arith}
-use Rattle.std.specs.Prelude.{◌==◌, ◌||◌, Contains, IsTrue, option_map}
+use Rattle.std.proofs.Common.{◌≡◌, ℕ, ℤ, ◌+◌, ◌<◌, ◌≤◌, List, [], ◌∷◌, ◌++◌, codes, refl, sym, ap, subst, ◌∙◌, Bool, true, false, cond, length, take, map, Option, Some, None, Ok, inl, inr, arith}
+use Rattle.std.specs.Prelude.{◌||◌, Contains, IsTrue, option_map}
 use Rattle.std.specs.FinMap as finmap
-use Rattle.std.specs.Fmt.{digits}
 use Rattle.std.specs.List.{AllByRecursion}
 use Rattle.cells.specs.declared.dtype.Dtype.{Dtype}
 use Rattle.stack_driver.specs.declared.view.View.{View}
@@ -13,27 +12,27 @@ use Rattle.history.specs.Acts.{Act, Asked, reads, commits, resizes}
 use Rattle.history.specs.Answers as body
 use Rattle.history.specs.Answers.{Body}
 use Rattle.history.specs.Chunks.{Chunk, is_chunk, chunk_of}
-use Rattle.history.specs.Commit.{Key, Fixed, Transaction, commit_events, stored_keys, are_together, read_generation, HasConflict, IsConflict}
+use Rattle.history.specs.Commit.{Key, Fixed, Transaction, commit_events, stored_keys, are_together, read_generation, IsConflict}
 use Rattle.history.specs.CommitRows.{MayCommit, IsCommit, IsPart, is_done, conflicts, is_failed, left_by, own_after}
 use Rattle.history.specs.Legal.{is_present}
 use Rattle.history.specs.Lines as line
 use Rattle.history.specs.Lines.{Downsampling}
-use Rattle.history.specs.Own.{Numbered, numbered}
+use Rattle.history.specs.Own.{Numbered}
 use Rattle.history.specs.Reads.{Marks, first_reads, has_mark, mark_of, is_put, marked_world, visible_values}
 use Rattle.history.specs.Sessions.{Names, SessionState, reader}
 use Rattle.history.specs.Shown.{IsMarkWithin, IsRead}
 use Rattle.history.specs.Steps.{SessionStep, IsRow, open_done, open_refused, open_unbuilt, open_failed, open_wanting, view_done, read_done, read_shrunk, read_damaged, read_failed, write_staged, write_done, begin_done, commit_done, abort_done, resize_done, resize_many, resize_split, resize_damaged, resize_failed, resolve_done, resolve_refused, IsAnswered, refused_line, wanting, done_line}
 use Rattle.history.specs.Touch.{generation_of}
 use Rattle.history.specs.Viewing.{values_body}
-use Rattle.history.specs.Worked.{of_shape, joint, split, first_key, second_key, metadata, chunk, cell, whole, at, repeatable, event1, event2, event3, event6, events, first_events, names, within, outside, mark2, read4, written6, written9, written12, fault5, failing, all_or_none}
-use Rattle.history.specs.Writes.{puts_of, shown_in}
+use Rattle.history.specs.Worked.{of_shape, joint, split, chunk, cell, whole, at, repeatable, event1, event2, event3, events, first_events, names, within, outside, mark2, read4, written6, written9, written12, failing, all_or_none}
+use Rattle.history.specs.Writes.{shown_in}
 use Rattle.history.specs.Content.{world_after}
 use Rattle.history.proofs.Tests.{equal_or_not}
 use Rattle.stack_driver.specs.References.{Reference}
 use Rattle.stack_driver.specs.Targets.{outwards}
 use Rattle.stack_driver.specs.Views.{targets_of}
 use Rattle.history.proofs.Alone.{first_number, number_first}
-use Rattle.history.proofs.Worked.{found, resizes_to, to, reads_1, reads_all, reading_14, footprint_6, later, only_first, read_number, now_number, targets_whole, targets_0, targets_1, targets_3, events_9, two_keys, puts_12, marks_14, unwritten_14}
+use Rattle.history.proofs.Worked.{found, resizes_to, to, reads_1, reads_all, reading_14, footprint_6, later, only_first, read_number, now_number, targets_whole, targets_0, targets_1, targets_3, events_9, two_keys, puts_12, unwritten_14}
 
 -- what a commit that is answered so has done
 record IsDone (fixed : Fixed) (owner : ℕ) (h : History) (t : Transaction) (own : List Numbered) : Type 0 where

@@ -1,6 +1,6 @@
 -- Histories worked out by hand: two sessions over one array in memory, as docs/transactions.md tells them, and what befalls
 -- commits over stores that fail, or that can't change several keys at once.
-use Rattle.std.specs.Prelude.{ℕ, List, [], ◌∷◌, ◌++◌, take, codes, pos, true, false, Option, Some, None, Ok}
+use Rattle.std.specs.Prelude.{ℕ, List, [], ◌∷◌, take, codes, pos, true, false, Some, None, Ok}
 use Rattle.std.specs.FinMap as finmap
 use Rattle.cells.specs.declared.dtype.Dtype.TheVariants.{I32}
 use Rattle.cells.specs.declared.order.Order.TheVariants.{C}
@@ -15,7 +15,6 @@ use Rattle.history.specs.declared.array.Home.TheVariants.{Zarr}
 use Rattle.history.specs.declared.event.Event.{Event}
 use Rattle.history.specs.declared.event.Kind.TheVariants.{Opened, Done, Resized, Fault}
 use Rattle.history.specs.declared.event.Mode.{Mode}
-use Rattle.history.specs.declared.event.Op.{Op}
 use Rattle.history.specs.declared.event.Op.TheVariants.{Write, Read}
 use Rattle.history.specs.History.{History}
 use Rattle.history.specs.Alone.{single_store}
