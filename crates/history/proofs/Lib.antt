@@ -64,3 +64,4 @@ pub mod Worked
 pub mod WorkedWrong
 pub mod Typed
 pub mod Tabled
+pub mod GenerationTables

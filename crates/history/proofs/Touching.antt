@@ -33,7 +33,7 @@ pub content_of_resize : (start : Contents) (events : History) (owner a : ℕ) (s
     → content_after start (events ++ record { owner = owner; kind = Resized a shape } ∷ []) x ≡ cut_to (known_after events x.array) shape x (content_after start events x)
 content_of_resize start events owner a shape x touched = content_touched start events (record { owner = owner; kind = Resized a shape }) x touched
 
-opened_then : (h : History) (e : Event) (info : ArrayInfo) (a : ℕ) → e.kind ≡ Opened info → info.number ≡ a → known_after (h ++ e ∷ []) a ≡ Some (opened_as h info)
+pub opened_then : (h : History) (e : Event) (info : ArrayInfo) (a : ℕ) → e.kind ≡ Opened info → info.number ≡ a → known_after (h ++ e ∷ []) a ≡ Some (opened_as h info)
 opened_then h e info a is same =
     known_after-more h e a ∙ ap (λ kind. known_step a h kind (known_after h a)) is ∙ ap (λ b. cond b (Some (opened_as h info)) (known_after h a)) (eq-eqb info.number a same)
 
