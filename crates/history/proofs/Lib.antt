@@ -65,3 +65,4 @@ pub mod WorkedWrong
 pub mod Typed
 pub mod Tabled
 pub mod GenerationTables
+pub mod Changing
