@@ -34,7 +34,7 @@ older h e a k is low = elim (known_split h e a k is) [
   | inr (inr old) ↦ (k, old, refl, refl)
 ]
 
-as_opened : (i : ArrayInfo) (n : ℕ) (o : Option Known) → IsOpenedAs i n o → (k : Known) × (o ≡ Some k) × (k.info ≡ i) × (k.opened ≡ n)
+pub as_opened : (i : ArrayInfo) (n : ℕ) (o : Option Known) → IsOpenedAs i n o → (k : Known) × (o ≡ Some k) × (k.info ≡ i) × (k.opened ≡ n)
 unfolding IsOpenedAs
 as_opened i n None opened = absurd opened
 as_opened i n (Some k) opened = (k, refl, opened.0, opened.1)

@@ -66,3 +66,4 @@ pub mod Typed
 pub mod Tabled
 pub mod GenerationTables
 pub mod Changing
+pub mod Snapshots

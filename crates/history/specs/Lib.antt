@@ -40,3 +40,4 @@ pub mod SingleOpen
 pub mod Alone
 pub mod Single
 pub mod Worked
+pub mod Snapshots
