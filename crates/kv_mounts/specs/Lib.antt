@@ -1,3 +1,4 @@
 pub mod Parts
 pub mod Union
 pub mod Finish
+pub mod Files
