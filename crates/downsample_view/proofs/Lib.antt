@@ -1,0 +1,5 @@
+pub mod Offsets
+pub mod Rows
+pub mod Cells
+pub mod Filling
+pub mod Lists

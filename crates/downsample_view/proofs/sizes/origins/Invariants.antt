@@ -1,0 +1,6 @@
+use Rattle.std.proofs.Common.{◌≡◌, map, take}
+use Rattle.downsample_view.specs.Groups.{new_dims}
+use Rattle.downsample_view.proofs.sizes.origins.Given as goal
+
+abbrev pub invariant-loop-k : goal.invariant-loop-k
+invariant-loop-k l = l.all.items ≡ map (λ dim. dim.lo) (new_dims l.method (take l.k l.factors) (take l.k l.dims))
