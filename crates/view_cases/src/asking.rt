@@ -2,6 +2,7 @@
 ghost use Rattle.stack_driver.specs.Conditions.{IsView};
 
 use crate::args::{member, numbers};
+use crate::downs::downsampled;
 use crate::fault::Fault;
 use cells::{List, Words};
 use history::{Op, Ops};
@@ -22,6 +23,7 @@ pub(crate) fn asked(alloc: Global, view: &View, call: &str, v: &Value) -> Result
         "counts" => told(alloc, &(leaves(view), depth(view))),
         "casts" => told(alloc, &casts(alloc, view)?),
         "array" => told(alloc, &array_of(view)),
+        "down" => downsampled(alloc, view, v),
         "ops" => shared(&one_write(alloc, view)?, alloc),
         _ => Err(Fault::Line),
     }

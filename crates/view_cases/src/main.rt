@@ -9,6 +9,7 @@ mod arrays;
 mod asking;
 mod building;
 mod cases;
+mod downs;
 mod fault;
 mod joins;
 
