@@ -3,3 +3,4 @@ pub mod Rows
 pub mod Cells
 pub mod Filling
 pub mod Lists
+pub mod Reached

@@ -1,8 +1,9 @@
 -- Which cells of a domain come together in one cell of the downsampled domain.
-use Rattle.std.specs.Prelude.{ℕ, ◌≤◌, nat_le, ℤ, pos, ◌+ℤ◌, ◌-ℤ◌, ◌*ℤ◌, int_le, int_lt, unsigned_abs, Bool, true, false, ◌&&◌, if◌then◌else◌, List, [], ◌∷◌}
+use Rattle.std.specs.Prelude.{◌≡◌, ℕ, ◌≤◌, nat_le, ℤ, pos, ◌+ℤ◌, ◌-ℤ◌, ◌*ℤ◌, int_le, int_lt, unsigned_abs, Bool, true, false, ◌&&◌, if◌then◌else◌, List, [], ◌∷◌}
 use Rattle.std.specs.Ordering.{int_eq}
 use Rattle.index_intervals.specs.Bounds.{Bounds}
 use Rattle.index_intervals.specs.Stride.{quotient_down, quotient_up}
+use Rattle.index_transform.specs.Walks.{IsCell}
 use Rattle.downsample_view.specs.declared.method.Method.{Method}
 use Rattle.downsample_view.specs.declared.method.Method.TheVariants.{Stride, Min, Max}
 
@@ -52,3 +53,7 @@ is_in_group method [] (y ∷ ys) xs = false
 is_in_group method (f ∷ fs) [] xs = false
 is_in_group method (f ∷ fs) (y ∷ ys) [] = false
 is_in_group method (f ∷ fs) (y ∷ ys) (x ∷ xs) = comes_into method f y x && is_in_group method fs ys xs
+
+-- a cell of the domain comes into a new index vector
+abbrev pub HasCell : Method → List ℕ → List Bounds → List ℤ → Type 0
+HasCell method fs dims y = (x : List ℤ) × (IsCell dims x × is_in_group method fs y x ≡ true)

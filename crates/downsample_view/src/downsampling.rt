@@ -1,8 +1,9 @@
-ghost use Rattle.std.specs.Prelude.{◌≡◌, IsTrue, IfOk, length, map};
+ghost use Rattle.std.specs.Prelude.{◌≡◌, ℤ, List, IsTrue, IfOk, length, map};
 ghost use Rattle.std.specs.List.{AllByRecursion, list_all};
 ghost use Rattle.index_intervals.specs.Members.{is_finite};
 ghost use Rattle.index_transform.specs.Cells.{cells_of};
-ghost use Rattle.downsample_view.specs.Groups.{IsFactor, new_dims};
+ghost use Rattle.index_transform.specs.Walks.{IsCell};
+ghost use Rattle.downsample_view.specs.Groups.{IsFactor, new_dims, HasCell};
 ghost use Rattle.downsample_view.specs.Downsampled.{downsampled, new_word};
 
 use crate::method::Method;
@@ -37,7 +38,8 @@ pub fn down(
     requires ranks { length factors.now ≡ length domain.now.dims }
     requires factors { AllByRecursion IsFactor factors.now }
     requires words { length words.now ≡ length (cells_of domain.now.dims) }
-    ensures { IfOk result (λ d. d ≡ downsampled method dtype factors.now domain.now.dims words.now) }
+    ensures value { IfOk result (λ d. d ≡ downsampled method dtype factors.now domain.now.dims words.now) }
+    ensures reached { IfOk result (λ d. (y : List ℤ) → IsCell (new_dims method factors.now domain.now.dims) y → HasCell method factors.now domain.now.dims y) }
 {
     let dims = domain.dims.items();
     let origin = origins(alloc, dims, factors, method)?;
