@@ -15,9 +15,7 @@ use Rattle.stack_driver.specs.declared.error.RenewError.TheVariants.{NotArray, M
 use Rattle.stack_driver.specs.declared.view.View.{View, ind-View, roll-View, map-View, every_here-View, every_made-View}
 use Rattle.stack_driver.specs.declared.view.View.TheOpen.{View-F}
 use Rattle.stack_driver.specs.declared.view.View.TheVariants as view
-use Rattle.stack_driver.proofs.Laws.{every_base, every_layer}
-use Rattle.stack_driver.proofs.LeafTargets.{array-Stack}
-use Rattle.stack_driver.proofs.Renewals.{array-Leaf, array-Cast, renewed-Leaf, renewed-Cast, renewed-Stack}
+use Rattle.stack_driver.proofs.Laws.{every_base, every_layer, array-Leaf, array-Cast, array-Stack, renewed-Leaf, renewed-Cast, renewed-Stack}
 use Rattle.history.specs.History.{History}
 use Rattle.history.specs.Arrays.{known_after}
 use Rattle.history.specs.Refs.{IsKnownRef, HasKnownRef, HasKnownRefs}

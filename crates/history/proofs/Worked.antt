@@ -4,9 +4,8 @@ use Rattle.std.specs.Prelude.{filter, filter_map, ◌||◌, Result, Ok, Contains
 use Rattle.std.specs.FinMap as finmap
 use Rattle.std.specs.List.{AllByRecursion, IsDistinct, cons_option, list_any}
 use Rattle.std.specs.Fmt.{digits}
-use Rattle.stack_driver.proofs.Laws.{look-Leaf}
+use Rattle.stack_driver.proofs.Laws.{look-Leaf, array-Leaf, renewed-Leaf}
 use Rattle.stack_driver.proofs.Looks.{targets_by}
-use Rattle.stack_driver.proofs.Renewals.{array-Leaf, renewed-Leaf}
 use Rattle.stack_driver.specs.Renewed.{renewed}
 use Rattle.stack_driver.specs.Targets.{Cell, is_cell, Target}
 use Rattle.stack_driver.specs.declared.error.TargetError.{TargetError}
