@@ -1,5 +1,6 @@
 -- The changes of a commit or a resize, made one after another, are what the event does to the store.
-use Rattle.std.proofs.Common.{◌≡◌, ◌⊎◌, ℕ, List, [], ◌∷◌, ◌++◌, Bool, true, false, cond, Option, Some, None, inl, inr, refl, sym, ap, subst, ◌∙◌}
+use Rattle.std.proofs.Common.{◌≡◌, ◌⊎◌, ℕ, List, [], ◌∷◌, ◌++◌, Bool, true, false, cond, take, Option, Some, None, inl, inr, refl, sym, ap, subst, ◌∙◌}
+use Rattle.std.proofs.Math.Seq.{take-length}
 use Rattle.std.specs.FinMap as finmap
 use Rattle.std.specs.Str.{bytes_eq}
 use Rattle.std.proofs.lemmas.Slice.Eq.{bytes_eq-Decides}
@@ -8,9 +9,15 @@ use Rattle.kv_face.specs.declared.change.Change.{Change}
 use Rattle.kv_face.proofs.Laws.{get-put_bytes}
 use Rattle.history.specs.declared.event.Event.{Event}
 use Rattle.history.specs.History.{History}
+use Rattle.history.specs.Arrays.{known_after}
+use Rattle.history.specs.Chunks.{Chunk}
+use Rattle.history.specs.Touch.{touches}
+use Rattle.history.specs.Content.{present_shape}
 use Rattle.history.specs.Stored.{HasBytes, AreChangesOf, IsApplied}
 use Rattle.history.specs.Store.{IsChunkKept, shape_when_touched, metadata_bytes}
+use Rattle.history.proofs.Known.{length-more}
 use Rattle.history.proofs.Tests.{true_or_false}
+use Rattle.history.proofs.Untouched.{generation_touched}
 
 -- what is at a key behind changes
 last_bytes : List ℕ → List Change → Option (List ℕ) → Option (List ℕ)
@@ -60,3 +67,9 @@ changes_applied start events e store changes are = record {
 } where
   at : (key : List ℕ) (bytes : Option (List ℕ)) → HasBytes changes key bytes → finmap.get (after store changes) key ≡ bytes
   at key bytes has = get-after key changes store ∙ comes key changes bytes (finmap.get store key) has (λ more also. are.once key bytes more has also)
+
+-- a chunk that the event touches is written by the shape that its array has then
+pub shape_now : (events : History) (e : Event) (c : Chunk) → touches events e c ≡ true → shape_when_touched (events ++ e ∷ []) c ≡ present_shape (known_after (events ++ e ∷ []) c.array)
+shape_now events e c t =
+    ap (λ n. present_shape (known_after (take n (events ++ e ∷ [])) c.array)) (generation_touched events e c t ∙ sym (length-more events e))
+    ∙ ap (λ (h : History). present_shape (known_after h c.array)) (take-length (events ++ e ∷ []))
