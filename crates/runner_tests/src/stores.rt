@@ -5,7 +5,7 @@ use std::alloc::{AllocError, Global};
 use std::process::Abort;
 use std::test::Fail;
 
-fn change(alloc: Global, key: &str, bytes: Option<&[u8]>) -> Result<Change, AllocError> {
+pub(crate) fn change(alloc: Global, key: &str, bytes: Option<&[u8]>) -> Result<Change, AllocError> {
     let key = String::from_str(alloc, key)?;
     change_of(alloc, Name::wrap(key), bytes)
 }
