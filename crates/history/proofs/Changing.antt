@@ -2,9 +2,11 @@
 use Rattle.std.proofs.Common.{◌≡◌, ◌⊎◌, ℕ, List, [], ◌∷◌, ◌++◌, Bool, true, false, cond, take, Option, Some, None, inl, inr, refl, sym, ap, subst, ◌∙◌}
 use Rattle.std.proofs.Math.Seq.{take-length}
 use Rattle.std.specs.FinMap as finmap
+use Rattle.std.specs.List.{AllByRecursion, IsDistinct}
 use Rattle.std.specs.Str.{bytes_eq}
+use Rattle.std.proofs.lemmas.Map.Keys.{IsDistinct-head, IsDistinct-tail}
 use Rattle.std.proofs.lemmas.Slice.Eq.{bytes_eq-Decides}
-use Rattle.kv_face.specs.Store.{Contents, changed, after}
+use Rattle.kv_face.specs.Store.{Contents, changed, after, keys_of}
 use Rattle.kv_face.specs.declared.change.Change.{Change}
 use Rattle.kv_face.proofs.Laws.{get-put_bytes}
 use Rattle.history.specs.declared.event.Event.{Event}
@@ -57,6 +59,19 @@ passes key (c ∷ cs) o none =
       | inr f ↦ ap (λ b. last_bytes key cs (cond b c.bytes o)) f ∙ passes key cs o (λ bytes has. none bytes (inr has))
     ]
 
+later_key : (k key : List ℕ) (cs : List Change) (bytes : Option (List ℕ)) → AllByRecursion (λ y. bytes_eq k y ≡ false) (keys_of cs) → k ≡ key → HasBytes cs key bytes → ⊥
+later_key k key [] bytes apart same has = has
+later_key k key (c ∷ cs) bytes apart same (inl here) = let clash : false ≡ true = sym apart.0 ∙ (bytes_eq-Decides k c.key).1 (same ∙ sym here.0) in absurd (cc)
+later_key k key (c ∷ cs) bytes apart same (inr has) = later_key k key cs bytes apart.1 same has
+
+-- a key that no two changes have has one change
+one_change : (key : List ℕ) (cs : List Change) (bytes more : Option (List ℕ)) → IsDistinct bytes_eq (keys_of cs) → HasBytes cs key bytes → HasBytes cs key more → bytes ≡ more
+one_change key [] bytes more distinct has also = absurd has
+one_change key (c ∷ cs) bytes more distinct (inl here) (inl there) = sym here.1 ∙ there.1
+one_change key (c ∷ cs) bytes more distinct (inl here) (inr later) = absurd (later_key c.key key cs more (IsDistinct-head bytes_eq c.key (keys_of cs) distinct) here.0 later)
+one_change key (c ∷ cs) bytes more distinct (inr later) (inl here) = absurd (later_key c.key key cs bytes (IsDistinct-head bytes_eq c.key (keys_of cs) distinct) here.0 later)
+one_change key (c ∷ cs) bytes more distinct (inr has) (inr also) = one_change key cs bytes more (IsDistinct-tail bytes_eq c.key (keys_of cs) distinct) has also
+
 pub changes_applied : (start : Contents) (events : History) (e : Event) (store : Contents) (changes : List Change) → AreChangesOf start events e changes → IsApplied start events e store (after store changes)
 changes_applied start events e store changes are = record {
   chunks = λ c k key t is named.
@@ -66,7 +81,7 @@ changes_applied start events e store changes are = record {
   others = λ key free meta. get-after key changes store ∙ passes key changes (finmap.get store key) (are.others key free meta);
 } where
   at : (key : List ℕ) (bytes : Option (List ℕ)) → HasBytes changes key bytes → finmap.get (after store changes) key ≡ bytes
-  at key bytes has = get-after key changes store ∙ comes key changes bytes (finmap.get store key) has (λ more also. are.once key bytes more has also)
+  at key bytes has = get-after key changes store ∙ comes key changes bytes (finmap.get store key) has (λ more also. one_change key changes bytes more are.distinct has also)
 
 -- a chunk that the event touches is written by the shape that its array has then
 pub shape_now : (events : History) (e : Event) (c : Chunk) → touches events e c ≡ true → shape_when_touched (events ++ e ∷ []) c ≡ present_shape (known_after (events ++ e ∷ []) c.array)

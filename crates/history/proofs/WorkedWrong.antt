@@ -115,7 +115,7 @@ not_committed_13 numbers step =
 
 -- a store that changes each key alone commits no two chunks together
 abbrev both_chunks : Event
-both_chunks = record { owner = 0; kind = Done 3 (all_or_none.mode) all_or_none.ops None }
+both_chunks = record { owner = 0; kind = Done 2 (all_or_none.mode) all_or_none.ops None }
 
 pub not_committed_4 : (numbers : List ℕ) → SessionStep split 0 (event1 ∷ both_chunks ∷ []) (within 1 all_or_none) 4 line.committing (outside 2) (body.committed numbers) → ⊥
 not_committed_4 numbers step =

@@ -153,7 +153,7 @@ abbrev pub fives : List ℕ
 fives = 5 ∷ 5 ∷ 5 ∷ 5 ∷ []
 
 abbrev pub all_or_none : Transaction
-all_or_none = record { line = 3; mode = record { atomic = true; repeatable_read = false }; ops = Write whole fives ∷ []; marks = [] }
+all_or_none = record { line = 2; mode = record { atomic = true; repeatable_read = false }; ops = Write whole fives ∷ []; marks = [] }
 
 abbrev pub of_key : Key → Event
 of_key key = record { owner = 0; kind = Done 5 plain_mode (Write whole fives ∷ []) (Some key) }
