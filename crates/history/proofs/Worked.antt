@@ -1,5 +1,5 @@
 -- The worked histories: which steps hold of them, and that a wrong answer beside each doesn't.
-use Rattle.std.proofs.Common.{◌≡◌, ℕ, ◌<◌, lit≤, zero, suc, List, [], ◌∷◌, codes, refl, sym, ap, subst, ◌∙◌, Bool, true, false, cond, length, take, map, Option, Some, None, arith}
+use Rattle.std.proofs.Common.{◌≡◌, ℕ, ◌<◌, ◌≤◌, lit≤, zero, suc, List, [], ◌∷◌, codes, refl, sym, ap, subst, ◌∙◌, Bool, true, false, cond, length, take, map, Option, Some, None, arith}
 use Rattle.std.specs.Prelude.{filter, filter_map, ◌||◌, Result, Ok, Contains, IsTrue}
 use Rattle.std.specs.FinMap as finmap
 use Rattle.std.specs.List.{AllByRecursion, IsDistinct, cons_option, list_any}
@@ -33,7 +33,7 @@ use Rattle.history.specs.Staged.{AreInShapes}
 use Rattle.history.specs.Steps.{write_alone, SessionStep, IsAnswered, done_line, read_done, read_shrunk, write_done, commit_done, resize_done, resolve_done}
 use Rattle.history.specs.Touch.{generation_of}
 use Rattle.history.specs.Viewing.{values_body, resolved_body}
-use Rattle.history.specs.Worked.{joint, split, array, metadata, first_key, second_key, chunk, cell, of_shape, first_cells, one_cell, whole, at, event5, event6, event7, events, first_events, names, within, outside, mark2, read4, read5, written6, written9, written12, failing, fives, all_or_none, of_key, by_key, all_fives, three}
+use Rattle.history.specs.Worked.{joint, split, array, metadata, first_key, second_key, chunk, cell, of_shape, first_cells, one_cell, whole, at, event5, event6, event7, events, first_events, names, within, outside, mark2, read4, read5, written6, written9, reread, rereading, with_rereading, written12, failing, fives, all_or_none, of_key, by_key, all_fives, three}
 use Rattle.history.specs.Writes.{Put, puts_of}
 use Rattle.history.proofs.AloneOpens.{no_bytes}
 use Rattle.history.proofs.Written.{same_cells}
@@ -173,6 +173,68 @@ merges_10 = record {
   rises = lit≤ tt;
   within = lit≤ tt;
   row = done_line (commit_done (subst (λ es. IsCommit joint 0 (first_events 5) written9 None (body.committed (numbers_of (numbered 5 es))) (numbered 5 es)) (events_9 (first_events 4)) (is_done 4 (may_9 (first_events 4) refl) (no_damage (first_events 4) written9))));
+}
+
+-- line 9: cell 0 is read back behind the transaction's own write, without a mark; the commit is as if it hadn't been read
+reads_0 : act_of names (Some written9) (line.reading (codes "a") (to 0) None) ≡ Ok (reads (at 0) None)
+reads_0 = simp (look-Leaf (of_shape 4) (one_cell 0), targets_0)
+
+unwritten_9 : unwritten written9.ops (at 0) ≡ []
+unwritten_9 = simp targets_0
+
+shown_9 : map Some (5 ∷ []) ≡ visible_values finmap.empty (first_events 3) (mark_of []) written9.ops (at 0)
+shown_9 = simp (targets_whole, targets_0)
+
+read_9 : IsRead joint (first_events 3) 3 written9 (at 0) (5 ∷ []) []
+read_9 = record {
+  marked = record {
+    fresh = [];
+    marked = refl;
+    within = tt;
+    needed = tt;
+    new = tt;
+    once = none_once;
+    each = subst (AllByRecursion (λ x. IsTrue (has_mark [] (chunk_of (first_events 3) x)))) (sym unwritten_9) tt;
+  };
+  shown = shown_9;
+}
+
+pub rereads_9 : SessionStep joint 0 (first_events 3) (within 3 written9) 9 (line.reading (codes "a") (to 0) None) (within 3 reread) (values_body (at 0) None (5 ∷ []))
+rereads_9 = record {
+  rises = lit≤ tt;
+  within = lit≤ tt;
+  row = subst (λ asked. IsAnswered joint 0 (first_events 3) (within 3 written9) 9 asked names (Some reread) (values_body (at 0) None (5 ∷ [])) []) (sym reads_0) (done_line (read_done read_9));
+}
+
+puts_reread : puts_of reread.ops ≡ (cell 0, 5) ∷ []
+puts_reread = simp targets_0
+
+pub reads_reread : first_reads [] reread.ops ≡ []
+reads_reread = simp targets_0
+
+may_reread : (h : History) → is_present h (cell 0) ≡ true → MayCommit joint h reread
+may_reread h present = record {
+  no_conflict = λ asked. subst (AllByRecursion (λ x. generation_of h (chunk_of h x) ≤ read_generation h reread.marks (chunk_of h x))) (sym reads_reread) tt;
+  in_shapes = inside_of h 0 5 reread.ops puts_reread present;
+  whole = λ asked. absurd (cc);
+}
+
+together_reread : (h : History) → are_together joint.prefixes (stored_keys h reread.ops) ≡ true
+together_reread h =
+    ap (λ ps. are_together joint.prefixes (in_order (filter_map (λ (p : Put). cond (is_stored (known_after h p.0.array)) (key_of h (chunk_of h p.0)) None) ps))) puts_reread
+    ∙ one_key (cond (is_stored (known_after h 0)) (key_of h (chunk_of h (cell 0))) None)
+
+events_reread : (h : History) → commit_events joint h 0 reread ≡ rereading ∷ []
+events_reread h = ap (λ b. cond b (rereading ∷ []) (done_each 0 reread reread.ops (changed_keys h reread.ops))) (together_reread h)
+
+pub merges_reread : SessionStep joint 0 with_rereading (within 3 reread) 10 line.committing (outside 5) (body.committed (5 ∷ []))
+merges_reread = record {
+  rises = lit≤ tt;
+  within = lit≤ tt;
+  row =
+      done_line
+      (commit_done
+      (subst (λ es. IsCommit joint 0 with_rereading reread None (body.committed (numbers_of (numbered 5 es))) (numbered 5 es)) (events_reread (first_events 4)) (is_done 4 (may_reread (first_events 4) refl) (no_damage (first_events 4) reread))));
 }
 
 -- a commit whose store call fails leaves the transaction as it was, and may be made again

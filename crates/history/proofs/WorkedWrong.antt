@@ -24,7 +24,7 @@ use Rattle.history.specs.Shown.{IsMarkWithin, IsRead}
 use Rattle.history.specs.Steps.{SessionStep, IsRow, open_done, open_refused, open_unbuilt, open_failed, open_wanting, view_done, read_done, read_shrunk, read_damaged, read_failed, write_staged, write_done, begin_done, commit_done, abort_done, resize_done, resize_many, resize_split, resize_damaged, resize_failed, resolve_done, resolve_refused, IsAnswered, refused_line, wanting, done_line}
 use Rattle.history.specs.Touch.{generation_of}
 use Rattle.history.specs.Viewing.{values_body}
-use Rattle.history.specs.Worked.{of_shape, joint, split, chunk, cell, whole, at, repeatable, event1, event2, event3, events, first_events, names, within, outside, mark2, read4, written6, written9, written12, failing, all_or_none}
+use Rattle.history.specs.Worked.{of_shape, joint, split, chunk, cell, whole, at, repeatable, event1, event2, event3, events, first_events, names, within, outside, mark2, read4, written6, written9, reread, written12, failing, all_or_none}
 use Rattle.history.specs.Writes.{shown_in}
 use Rattle.history.specs.Content.{world_after}
 use Rattle.history.proofs.Tests.{equal_or_not}
@@ -32,7 +32,7 @@ use Rattle.stack_driver.specs.References.{Reference}
 use Rattle.stack_driver.specs.Targets.{outwards}
 use Rattle.stack_driver.specs.Views.{targets_of}
 use Rattle.history.proofs.Alone.{first_number, number_first}
-use Rattle.history.proofs.Worked.{found, resizes_to, to, reads_1, reads_all, reading_14, footprint_6, later, only_first, read_number, now_number, targets_whole, targets_0, targets_1, targets_3, events_9, two_keys, puts_12, unwritten_14}
+use Rattle.history.proofs.Worked.{reads_reread, found, resizes_to, to, reads_1, reads_all, reading_14, footprint_6, later, only_first, read_number, now_number, targets_whole, targets_0, targets_1, targets_3, events_9, two_keys, puts_12, unwritten_14}
 
 -- what a commit that is answered so has done
 record IsDone (fixed : Fixed) (owner : ℕ) (h : History) (t : Transaction) (own : List Numbered) : Type 0 where
@@ -83,6 +83,14 @@ pub no_conflict_10 : (key : Key) (read now : ℕ) → SessionStep joint 0 (first
 no_conflict_10 key read now step =
     let conflict : IsConflict (first_events 4) written9 key read now = conflict_of step.row in
     let low = conflict.conflict.was_read.1 in
+    omega (arith, low)
+
+-- nor does one that read its own write alone
+pub no_conflict_reread : (key : Key) (read now : ℕ) → SessionStep joint 0 (first_events 4) (within 3 reread) 10 line.committing (outside 4) (body.conflict key read now) → ⊥
+no_conflict_reread key read now step =
+    let conflict : IsConflict (first_events 4) reread key read now = conflict_of step.row in
+    let there : Contains [] conflict.chunk = subst (λ xs. Contains (map (chunk_of (first_events 4)) xs) conflict.chunk) reads_reread conflict.conflict.was_read in
+    let low = there.1 in
     omega (arith, low)
 
 -- a transaction of which nothing was done is not gone

@@ -137,6 +137,16 @@ written6 = record { line = 3; mode = repeatable; ops = Read (at 0) (1 ∷ []) �
 abbrev pub written9 : Transaction
 written9 = record { line = 8; mode = repeatable; ops = Write (at 0) (5 ∷ []) ∷ []; marks = [] }
 
+-- the same with cell 0 read back at line 9, behind its own write; its commit behind events 1 to 4
+abbrev pub reread : Transaction
+reread = record { line = 8; mode = repeatable; ops = Write (at 0) (5 ∷ []) ∷ Read (at 0) (5 ∷ []) ∷ []; marks = [] }
+
+abbrev pub rereading : Event
+rereading = record { owner = 0; kind = Done 8 repeatable (Write (at 0) (5 ∷ []) ∷ Read (at 0) (5 ∷ []) ∷ []) None }
+
+abbrev pub with_rereading : History
+with_rereading = event1 ∷ event2 ∷ event3 ∷ event4 ∷ rereading ∷ []
+
 -- its third: cell 3 written
 abbrev pub written12 : Transaction
 written12 = record { line = 11; mode = plain_mode; ops = Write (at 3) (9 ∷ []) ∷ []; marks = [] }
