@@ -1,10 +1,13 @@
 -- A table of generations, beside a history.
-use Rattle.std.proofs.Common.{◌≡◌, ℕ, ◌+◌, ◌<◌, ◌≤◌, length, List, [], ◌∷◌, ◌++◌, Bool, true, false, Option, Some, None, inl, inr, refl, sym, ap, subst, ◌∙◌, arith, eqb-true}
-use Rattle.std.specs.Prelude.{unwrap_or}
+use Rattle.std.proofs.Common.{◌≡◌, ℕ, ◌+◌, ◌<◌, ◌≤◌, length, List, [], ◌∷◌, ◌++◌, Bool, true, false, cond, Option, Some, None, inl, inr, refl, sym, ap, subst, ◌∙◌, arith, eqb-true}
+use Rattle.std.specs.Prelude.{◌||◌, unwrap_or}
 use Rattle.std.specs.FinMap as finmap
-use Rattle.std.specs.FinMap.{get-empty}
+use Rattle.std.specs.FinMap.{get-empty, get-insert}
+use Rattle.std.specs.List.{list_any}
+use Rattle.std.specs.Str.{bytes_eq}
+use Rattle.std.proofs.lemmas.Map.Text.{is_eq-slice_cmp}
 use Rattle.std.specs.Ordering.{nat_cmp}
-use Rattle.std.specs.Cmp.Lexicographic.{slice_cmp}
+use Rattle.std.specs.Cmp.Lexicographic.{slice_cmp, nat_list_cmp_total}
 use Rattle.kv_face.specs.Store.{Contents}
 use Rattle.chunk_forms.specs.Names as names
 use Rattle.history.specs.declared.array.ArrayInfo.{ArrayInfo}
@@ -23,6 +26,7 @@ use Rattle.history.proofs.Generations.{generation_of-le-length, generation_of-ri
 use Rattle.history.proofs.Longer.{IsOpenedAs, known-longer}
 use Rattle.history.proofs.Conflicts.{itself, opening_touches}
 use Rattle.history.proofs.Apart.{key_is, one_key}
+use Rattle.history.proofs.Ordering.{IsAmong}
 use Rattle.history.proofs.Tests.{true_or_false, less_or_not}
 use Rattle.history.proofs.Touching.{opened_then}
 
@@ -145,3 +149,34 @@ generation_by_table start events table c key legal is has =
     one_opening : (events : History) (c d : Chunk) (key : List ℕ) (has : HasKey events c key) (other : HasKey events d key) → c ≡ d → has.array.opened ≡ other.array.opened
     one_opening events c d key has other same =
         ap (λ (k : Known). k.opened) (some_inj has.array other.array (sym has.known ∙ ap (λ (c : Chunk). known_after events c.array) same ∙ other.known))
+
+-- a table with one number at each of some keys
+pub insert_all : ℕ → Generations → List (List ℕ) → Generations
+insert_all n table [] = table
+insert_all n table (key ∷ keys) = insert_all n (finmap.insert table key n) keys
+
+either_number : (a b : Bool) (n : ℕ) (o : Option ℕ) → cond b (Some n) (cond a (Some n) o) ≡ cond (a || b) (Some n) o
+either_number true true n o = refl
+either_number true false n o = refl
+either_number false b n o = refl
+
+pub get-insert_all : (n : ℕ) (q : List ℕ) (keys : List (List ℕ)) (table : Generations) → finmap.get (insert_all n table keys) q ≡ cond (list_any (bytes_eq q) keys) (Some n) (finmap.get table q)
+unfolding insert_all
+get-insert_all n q [] table = refl
+get-insert_all n q (key ∷ keys) table =
+    get-insert_all n q keys (finmap.insert table key n)
+    ∙ ap (cond (list_any (bytes_eq q) keys) (Some n)) (get-insert nat_list_cmp_total table key n q ∙ ap (λ b. cond b (Some n) (finmap.get table q)) (is_eq-slice_cmp q key))
+    ∙ either_number (bytes_eq q key) (list_any (bytes_eq q) keys) n (finmap.get table q)
+
+-- where these are exactly the keys that an event touches, they get its number
+pub keys_numbered : (h : History) (e : Event) (table : Generations) (keys : List (List ℕ)) → ((c : Chunk) (key : List ℕ) → IsKeyTouched h e c key → IsAmong key keys)
+    → ((key : List ℕ) → IsAmong key keys → (c : Chunk) × IsKeyTouched h e c key) → IsNumbered h e table (insert_all (length h + 1) table keys)
+keys_numbered h e table keys all only = record {
+  touched = λ c key it. get-insert_all (length h + 1) key keys table ∙ ap (λ b. cond b (Some (length h + 1)) (finmap.get table key)) (all c key it);
+  others = λ key none.
+      get-insert_all (length h + 1) key keys table
+      ∙ elim (true_or_false (list_any (bytes_eq key) keys)) [
+        | inl t ↦ let there = only key t in absurd (none there.0 there.1)
+        | inr f ↦ ap (λ b. cond b (Some (length h + 1)) (finmap.get table key)) f
+      ];
+}
