@@ -46,7 +46,7 @@ outcome_is start events leaf outcome empty is = by_array (array_at events (locat
         ap (λ o. unless_taken (taken events (location_of_leaf leaf)) (outcome_at leaf nothing o)) e ∙ sym (ap (λ o. unless_taken (taken events (location_of_leaf leaf)) (outcome_at leaf is.stored o)) e) ∙ sym is.same
 
 -- what was added lies behind the moment of the first leaf
-first_after : {start : Contents} {owner : ℕ} {now : History} {at fin : ℕ} {leaves rest : List SpecLeaf} {refs : List Reference} {own : List Numbered} (cur : ℕ) → AreOpened start owner now at leaves refs own fin rest → cur ≤ at → at ≤ length now
+pub first_after : {start : Contents} {owner : ℕ} {now : History} {at fin : ℕ} {leaves rest : List SpecLeaf} {refs : List Reference} {own : List Numbered} (cur : ℕ) → AreOpened start owner now at leaves refs own fin rest → cur ≤ at → at ≤ length now
     → own ≡ numbered (cur + 1) (drop cur now) → at ≡ cur
 first_after {now = now} {at = at} cur no_leaf low high is = let end : cur ≡ length now = no_more cur now (none (drop cur now) is) (omega (arith, low, high)) in omega arith
   where
@@ -77,14 +77,14 @@ stopped : (owner : ℕ) (now : History) (cur : ℕ) (rest : List SpecLeaf) → I
 stopped owner now cur [] stops all = refl
 stopped owner now cur (leaf ∷ rest) stops all = ap (leaves_from owner (leaf ∷ rest)) all ∙ stops owner
 
-take_to_end : (cur : ℕ) (now : History) → drop cur now ≡ [] → take cur now ≡ now
+pub take_to_end : (cur : ℕ) (now : History) → drop cur now ≡ [] → take cur now ≡ now
 take_to_end cur now none = sym (append-nil (take cur now)) ∙ ap (λ es. take cur now ++ es) (sym none) ∙ take-append-drop cur now
 
-nothing_left : (k : ℕ) (es : List Event) → [] ≡ numbered k es → es ≡ []
+pub nothing_left : (k : ℕ) (es : List Event) → [] ≡ numbered k es → es ≡ []
 nothing_left k [] same = refl
 nothing_left k (e ∷ es) same = absurd (cc)
 
-room_for : {o : Numbered} {os : List Numbered} (at : ℕ) (now : History) → o ∷ os ≡ numbered (at + 1) (drop at now) → at ≤ length now → at + 1 ≤ length now
+pub room_for : {o : Numbered} {os : List Numbered} (at : ℕ) (now : History) → o ∷ os ≡ numbered (at + 1) (drop at now) → at ≤ length now → at + 1 ≤ length now
 room_for {o} {os} at now is within = room (drop at now) refl is
   where
     room : (es : List Event) → drop at now ≡ es → o ∷ os ≡ numbered (at + 1) es → at + 1 ≤ length now
@@ -108,7 +108,7 @@ new_at owner now at leaf leaves rest refs own info (y ∷ ys) left within opens 
     opens ∙ ap (with_new owner h info) inner ∙ ap (λ n. record { refs = new_ref h info ∷ refs; own = record { number = n + 1; event = e } ∷ own; rest = rest }) size
 
 -- the first leaf gives a new array
-opens_new : (start : Contents) (owner : ℕ) (events : History) (leaf : Leaf) (leaves : List SpecLeaf) (meta : Form) → start ≡ finmap.empty → IsNew start events leaf meta
+pub opens_new : (start : Contents) (owner : ℕ) (events : History) (leaf : Leaf) (leaves : List SpecLeaf) (meta : Form) → start ≡ finmap.empty → IsNew start events leaf meta
     → leaves_from owner (stored leaf ∷ leaves) events ≡ opened_then owner events (new_info (next_array events) leaf meta) (leaves_from owner leaves)
 opens_new start owner events leaf leaves meta empty (read_there is) = ap (by_outcome owner events leaf (stored leaf ∷ leaves) (leaves_from owner leaves)) (outcome_is start events leaf (found meta) empty is)
 opens_new start owner events leaf leaves meta empty (made_here is) = ap (by_outcome owner events leaf (stored leaf ∷ leaves) (leaves_from owner leaves)) (outcome_is start events leaf (made meta) empty is)
@@ -137,7 +137,7 @@ leaves_same {owner = owner} {now = now} {cur = cur} {rest = last} {own = own} em
     ap (λ n. leaves_from owner (given numbers ∷ leaves) (take n now)) (sym here)
     ∙ new_at owner now at (given numbers) leaves last refs others (given_info (next_array (take at now)) numbers) (drop at now) refl within refl is_at (λ more. leaves_same empty rest room more stops)
 
-rest_at : {o : Numbered} {os : List Numbered} (at : ℕ) (now : History) → o ∷ os ≡ numbered (at + 1) (drop at now) → os ≡ numbered (at + 1 + 1) (drop (at + 1) now)
+pub rest_at : {o : Numbered} {os : List Numbered} (at : ℕ) (now : History) → o ∷ os ≡ numbered (at + 1) (drop at now) → os ≡ numbered (at + 1 + 1) (drop (at + 1) now)
 rest_at {o} {os} at now is = rest (drop at now) refl is
   where
     rest : (es : List Event) → drop at now ≡ es → o ∷ os ≡ numbered (at + 1) es → os ≡ numbered (at + 1 + 1) (drop (at + 1) now)

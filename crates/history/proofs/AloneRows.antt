@@ -73,7 +73,7 @@ module _ (mount : Text) (owner : ℕ) (s : SessionState) (now : History) where
     alone = here.alone;
   }
 
-  still : IsAloneHere mount owner s now [] → now ≡ take s.seen now
+  pub still : IsAloneHere mount owner s now [] → now ≡ take s.seen now
   still here = nothing_new owner (take s.seen now) now (grown_of [] here)
 
   seen_is : IsAloneHere mount owner s now [] → s.seen ≡ length now
@@ -83,7 +83,7 @@ module _ (mount : Text) (owner : ℕ) (s : SessionState) (now : History) where
   pub kept_line : (done : LineDone) (names : Names) (t : Option Transaction) (answer : Body) → IsAloneHere mount owner s now [] → IsDoneTo done names (take s.seen now) t answer → IsDoneTo done names now t answer
   kept_line done names t answer here is = subst (λ h. IsDoneTo done names h t answer) (sym (still here)) is
 
-  events_are : (own : List Numbered) → IsAloneHere mount owner s now own → with_own (take s.seen now) own ≡ now
+  pub events_are : (own : List Numbered) → IsAloneHere mount owner s now own → with_own (take s.seen now) own ≡ now
   events_are own here = ap (λ es. take s.seen now ++ es) (ap (map (λ (o : Numbered). o.event)) here.in_order ∙ numbered_events (s.seen + 1) (drop s.seen now)) ∙ take-append-drop s.seen now
 
 commit_row : (mount : Text) (owner : ℕ) (x : Single) (now : History) (t : Transaction) (left : Option Transaction) (answer : Body) (own : List Numbered) → IsLegal finmap.empty now → AreOnMount mount now → IsMarkedNow x.events t → IsGrown owner x.events now own → is_memory answer ≡ false

@@ -1,5 +1,5 @@
 -- A run over a history of its own events alone is the single session.
-use Rattle.std.proofs.Common.{◌≡◌, ℕ, ◌+◌, List, [], ◌∷◌, ◌++◌, length, take, take-take, drop, false, Option, refl, sym, ap, subst, ◌∙◌, append_assoc, append-nil, arith}
+use Rattle.std.proofs.Common.{◌≡◌, ℕ, ◌+◌, ◌≤◌, List, [], ◌∷◌, ◌++◌, length, take, take-take, drop, false, Option, refl, sym, ap, subst, ◌∙◌, append_assoc, append-nil, arith}
 use Rattle.std.specs.FinMap as finmap
 use Rattle.std.specs.Prelude.{fold}
 use Rattle.std.specs.List.{AllByRecursion}
@@ -46,11 +46,10 @@ pub record IsAloneAt (mount : Text) (events : History) (s : SessionState) : Type
   pub known : AreKnown (take s.seen events) s.names s.transaction
   pub on_mount : AreOnMount mount (take s.seen events)
 
--- over a history of its own events, a step of the session is what the single one does
-pub step_alone : (mount : Text) (owner : ℕ) (events : History) (s : SessionState) (line : ℕ) (asked : Line) (next : SessionState) (answer : Body) → IsLegal finmap.empty events → AreAlone owner events → IsLineWithin asked → IsLineOn mount asked → IsAloneAt mount events s → is_memory answer ≡ false
-    → SessionStep (single_store mount) owner events s line asked next answer
-    → IsDoneTo (asked_alone (single_store mount) owner (single_at s (take s.seen events)) line (act_of s.names (single_at s (take s.seen events)).transaction asked)) next.names (take next.seen events) next.transaction answer × IsAloneAt mount events next
-step_alone mount owner events s line asked next answer legal alone parts on here good step =
+-- over a history of its own events, a step finds the session alone
+pub alone_here : (mount : Text) (owner : ℕ) (events : History) (s : SessionState) (line : ℕ) (asked : Line) (next : SessionState) (answer : Body) → IsLegal finmap.empty events → AreAlone owner events → IsLineOn mount asked → IsAloneAt mount events s
+    → SessionStep (single_store mount) owner events s line asked next answer → IsAloneHere mount owner s (take next.seen events) (own_events owner (s.seen + 1) (drop s.seen (take next.seen events)))
+alone_here mount owner events s line asked next answer legal alone on here step =
     let now : History = take next.seen events in
     let rises = step.rises in
     let size : length now ≡ next.seen = length-take-le next.seen events step.within in
@@ -62,21 +61,35 @@ step_alone mount owner events s line asked next answer legal alone parts on here
     let own_on : AreOwnOn mount own = answered_on mount owner now (take s.seen now) s line (act_of s.names s.transaction asked) next.names next.transaction answer own fit step.row in
     let on_now : AreOnMount mount now =
     subst (AreOnMount mount) (take-append-drop s.seen now) (grown_on mount (s.seen + 1) (take s.seen now) (drop s.seen now) (subst (AreOnMount mount) (sym past) here.on_mount) (subst (AreOwnOn mount) in_order own_on)) in
-    let at : IsAloneHere mount owner s now own = record {
+    record {
       legal = legal_take finmap.empty events next.seen legal;
       within = omega (arith, size, rises);
       in_order = in_order;
       alone = alone_new;
       marks = subst (λ h. HasMarks h s.transaction) (sym past) here.marks;
       on_mount = on_now;
-    } in
+    }
+
+-- what the single one is asked over these events
+pub asked_same : (mount : Text) (owner : ℕ) (events : History) (s : SessionState) (line : ℕ) (asked : Line) (seen : ℕ) → s.seen ≤ seen
+    → asked_alone (single_store mount) owner (single_at s (take s.seen events)) line (act_of s.names (single_at s (take s.seen events)).transaction asked) ≡ asked_alone (single_store mount) owner (single_at s (take s.seen (take seen events))) line (bare_asked (act_of s.names s.transaction asked))
+asked_same mount owner events s line asked seen rises =
+    ap (asked_alone (single_store mount) owner (single_at s (take s.seen events)) line) (act_of-bare s.names s.transaction asked)
+    ∙ ap (λ h. asked_alone (single_store mount) owner (single_at s h) line (bare_asked (act_of s.names s.transaction asked))) (sym (take-take s.seen seen events rises))
+
+-- and is what the single session does
+pub step_alone : (mount : Text) (owner : ℕ) (events : History) (s : SessionState) (line : ℕ) (asked : Line) (next : SessionState) (answer : Body) → IsLegal finmap.empty events → AreAlone owner events → IsLineWithin asked → IsLineOn mount asked → IsAloneAt mount events s → is_memory answer ≡ false
+    → SessionStep (single_store mount) owner events s line asked next answer
+    → IsDoneTo (asked_alone (single_store mount) owner (single_at s (take s.seen events)) line (act_of s.names (single_at s (take s.seen events)).transaction asked)) next.names (take next.seen events) next.transaction answer × IsAloneAt mount events next
+step_alone mount owner events s line asked next answer legal alone parts on here good step =
+    let now : History = take next.seen events in
+    let past : take s.seen now ≡ take s.seen events = take-take s.seen next.seen events step.rises in
+    let own : List Numbered = own_events owner (s.seen + 1) (drop s.seen now) in
+    let fit : IsAskedBy (IsActFit mount (take s.seen now)) (act_of s.names s.transaction asked) = act_of-fit mount (take s.seen now) s.names s.transaction asked (subst (λ h. AreKnown h s.names s.transaction) (sym past) here.known).0 on in
+    let at = alone_here mount owner events s line asked next answer legal alone on here step in
     let done = answered_done mount owner now s line (act_of s.names s.transaction asked) next.names next.transaction answer own at (act_of-in s.names s.transaction asked) fit good step.row in (
-      (
-        ap (asked_alone (single_store mount) owner (single_at s (take s.seen events)) line) (act_of-bare s.names s.transaction asked)
-            ∙ ap (λ h. asked_alone (single_store mount) owner (single_at s h) line (bare_asked (act_of s.names s.transaction asked))) (sym past) ∙ done.0,
-        done.1,
-      ),
-      record { marks = done.1; known = step_known (single_store mount) owner events s line asked next answer legal parts step here.known; on_mount = on_now },
+      (asked_same mount owner events s line asked next.seen step.rises ∙ done.0, done.1),
+      record { marks = done.1; known = step_known (single_store mount) owner events s line asked next answer legal parts step here.known; on_mount = at.on_mount },
     )
 
 -- the run of the single session from here on
@@ -98,7 +111,7 @@ run_from {mount} {owner} events legal alone parts on here good (next_line {s} {m
     )
 run_from events legal alone parts on here good (last_line step) before = absurd (let never = good.0 in cc)
 
-none_known : (mount : Text) → AreOnMount mount []
+pub none_known : (mount : Text) → AreOnMount mount []
 none_known mount a k is = absurd (no_array a k is)
 
 -- a session alone over one mount has the answers and the events of the single session, where it saw all that happened: each event is

@@ -67,3 +67,5 @@ pub mod Tabled
 pub mod GenerationTables
 pub mod Changing
 pub mod Snapshots
+pub mod AloneWanting
+pub mod AloneEnds

@@ -183,7 +183,7 @@ unwritten_9 : unwritten written9.ops (at 0) ≡ []
 unwritten_9 = simp targets_0
 
 shown_9 : map Some (5 ∷ []) ≡ visible_values finmap.empty (first_events 3) (mark_of []) written9.ops (at 0)
-shown_9 = simp (targets_whole, targets_0)
+shown_9 = simp targets_0
 
 read_9 : IsRead joint (first_events 3) 3 written9 (at 0) (5 ∷ []) []
 read_9 = record {
