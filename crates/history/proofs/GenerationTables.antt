@@ -113,11 +113,11 @@ module _ (start : Contents) (h : History) (e : Event) (table next : Generations)
 pub opening_numbers_none : (h : History) (e : Event) (info : ArrayInfo) (table : Generations) → e.kind ≡ Opened info → IsNumbered h e table table
 opening_numbers_none h e info table kind = record {
   touched = λ c key it.
-  let number : info.number ≡ c.array = eqb-true info.number c.array (ap (λ g. touches_by h g c) (sym kind) ∙ it.touched) in
-  let new = some_inj it.has.array (opened_as h info) (sym it.has.known ∙ opened_then h e info c.array kind number) in
-  let opened : it.has.array.opened ≡ length h + 1 = ap (λ (l : Known). l.opened) new in
-  let low = it.opened in
-  absurd (omega arith);
+      let number : info.number ≡ c.array = eqb-true info.number c.array (ap (λ g. touches_by h g c) (sym kind) ∙ it.touched) in
+      let new = some_inj it.has.array (opened_as h info) (sym it.has.known ∙ opened_then h e info c.array kind number) in
+      let opened : it.has.array.opened ≡ length h + 1 = ap (λ (l : Known). l.opened) new in
+      let low = it.opened in
+      absurd (omega arith);
   others = λ key none. refl;
 }
 
