@@ -1,8 +1,9 @@
 -- A snapshot of a chunk is right for as long as its generation is the chunk's.
-use Rattle.std.proofs.Common.{◌≡◌, ℕ, ◌≤◌, ◌<◌, ◌+◌, List, [], ◌∷◌, ◌++◌, length, map, arith, Bool, true, false, cond, eq-eqb, Option, Some, None, refl, sym, ap, subst, ◌∙◌}
+use Rattle.std.proofs.Common.{◌≡◌, ◌≢◌, ℕ, ◌≤◌, ◌<◌, ◌+◌, List, [], ◌∷◌, ◌++◌, length, map, arith, Bool, true, false, cond, eq-eqb, Option, Some, None, refl, sym, ap, subst, ◌∙◌}
 use Rattle.std.specs.Prelude.{max, unwrap_or}
 use Rattle.cells.specs.Places.{IsInside}
 use Rattle.chunk_forms.specs.Words.{is_inside}
+use Rattle.chunk_forms.specs.Grammar.{WritesChunk}
 use Rattle.kv_face.specs.Store.{Contents}
 use Rattle.stack_driver.specs.Targets.{Cell}
 use Rattle.history.specs.declared.array.ArrayInfo.{ArrayInfo}
@@ -11,7 +12,7 @@ use Rattle.history.specs.declared.array.Home.TheVariants.{Zarr, N5, Zarr3, Local
 use Rattle.history.specs.declared.event.Event.{Event}
 use Rattle.history.specs.declared.event.Op.{Op}
 use Rattle.history.specs.History.{History}
-use Rattle.history.specs.Arrays.{Known, known_after, known_reshaped, is_local, chunk_shape, chunk_shape_in}
+use Rattle.history.specs.Arrays.{Known, known_after, known_reshaped, form_of, is_local, chunk_shape, chunk_shape_in}
 use Rattle.history.specs.Chunks.{Chunk, IsIndexOf, cell_at, in_array, chunk_index, chunk_in, chunk_of}
 use Rattle.history.specs.Commit.{Key, Transaction, done}
 use Rattle.history.specs.Own.{resized_event}
@@ -19,6 +20,7 @@ use Rattle.history.specs.Touch.{touches, generation_of}
 use Rattle.history.specs.Writes.{puts_of}
 use Rattle.history.specs.Content.{content_after, cut_to, present_shape, word_outside}
 use Rattle.history.specs.Legal.{IsLegal}
+use Rattle.history.specs.Store.{IsChunkKept}
 use Rattle.history.specs.Snapshots.{IsSnapshotOf, box_in, chunk_box}
 use Rattle.history.proofs.Geometry.{chunk_index-in_array}
 use Rattle.history.proofs.Generations.{generation_of-le-length}
@@ -27,6 +29,7 @@ use Rattle.history.proofs.Conflicts.{itself}
 use Rattle.history.proofs.Longer.{known-longer}
 use Rattle.history.proofs.Moments.{unchanged_between}
 use Rattle.history.proofs.Histories.{known_after-more}
+use Rattle.history.proofs.Known.{some_inj}
 use Rattle.history.proofs.Touching.{content_of_done, content_of_resize}
 use Rattle.history.proofs.Untouched.{generation_touched}
 use Rattle.history.proofs.Written.{else_word, last_put}
@@ -130,3 +133,24 @@ snapshot_of_resize start events owner shape k c generation word stored snapshot 
           content_of_resize start events owner c.array shape x (ap (touches events e) in_c ∙ touched) ∙ ap (λ o. cut_to o shape x (content_after start events x)) snapshot.known ∙ ap (cut_to (Some k) shape x) (snapshot.cells index inside)
           ∙ cut_word k shape x (word index) stored;
     }
+
+-- the words of a stored chunk tell what is kept of it: nothing where all are the fill, else the bytes that are written for them
+stored_inside : (home : Home) (shape index : List ℕ) → is_local home ≡ false → IsInside (chunk_shape_in home shape) index → IsInside (box_in home shape) index
+stored_inside home shape index stored inside = subst (λ ns. IsInside ns index) (sym (ap (λ b. cond b shape (chunk_shape_in home shape)) stored)) inside
+
+pub kept_of_fill : (start : Contents) (events : History) (k : Known) (c : Chunk) (generation : ℕ) (word : List ℕ → ℕ) (shape : List ℕ) → is_local k.info.home ≡ false → IsSnapshotOf start events k c generation word
+    → ((index : List ℕ) → IsInside (chunk_shape k.info) index → word index ≡ k.info.fill) → IsChunkKept start events k c shape None
+kept_of_fill start events k c generation word shape stored snapshot all index inside = snapshot.cells index (stored_inside k.info.home k.info.shape index stored inside) ∙ ap Some (all index inside)
+
+-- a cell whose word isn't the fill
+pub record HasOther (k : Known) (word : List ℕ → ℕ) : Type 0 where
+  pub index : List ℕ
+  pub inside : IsInside (chunk_shape k.info) index
+  pub other : word index ≢ k.info.fill
+
+pub kept_of_words : (start : Contents) (events : History) (k : Known) (c : Chunk) (generation : ℕ) (word : List ℕ → ℕ) (shape bytes : List ℕ) → is_local k.info.home ≡ false → IsSnapshotOf start events k c generation word
+    → WritesChunk (form_of k.info.home) c.index shape bytes word → HasOther k word → IsChunkKept start events k c shape (Some bytes)
+kept_of_words start events k c generation word shape bytes stored snapshot writes other = (
+  record { word = word; writes = writes; cells = λ index inside. snapshot.cells index (stored_inside k.info.home k.info.shape index stored inside) },
+  λ all. other.other (some_inj (word other.index) k.info.fill (sym (snapshot.cells other.index (stored_inside k.info.home k.info.shape other.index stored other.inside)) ∙ all other.index other.inside)),
+)
