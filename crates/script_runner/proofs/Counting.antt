@@ -4,7 +4,7 @@ use Rattle.std.specs.Prelude.{◌==◌, ◌||◌, nat_le}
 use Rattle.std.specs.List.{list_any}
 use Rattle.std.proofs.lemmas.Bool.Decides.{nat_tests}
 use Rattle.cells.specs.Places.{cell_count}
-use Rattle.shared_state.proofs.Tests.{true_or_false}
+use Rattle.whole_arrays.proofs.Tests.{true_or_false}
 use Rattle.script_runner.specs.Limits.{first_over}
 
 -- a shape with a size of 0 has no cell

@@ -3,7 +3,7 @@ use Rattle.std.proofs.Common.{◌≡◌, ℕ, ◌+◌, ◌<◌, ◌≤◌, ◌^�
 use Rattle.std.specs.Prelude.{IfSome, MatchOption, OnErr, OnOk, IsErr, Result, Ok, Err, fold}
 use Rattle.std.proofs.lemmas.List.{map-append}
 use Rattle.std.proofs.lemmas.List.Sums.{fold-append}
-use Rattle.shared_state.specs.History.{History}
+use Rattle.whole_arrays.specs.History.{History}
 use Rattle.script_lines.specs.Script.{lines_of, lines_left, is_blank}
 use Rattle.script_lines.specs.Line.{command_of_line}
 use Rattle.script_lines.specs.declared.answer.Answer.{Answer}

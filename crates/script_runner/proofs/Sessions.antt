@@ -6,33 +6,33 @@ use Rattle.std.specs.FinMap as finmap
 use Rattle.kv_face.specs.Store.{Contents}
 use Rattle.zarr_chunks.specs.Metadata.{Metadata}
 use Rattle.script_lines.specs.declared.answer.Body.TheVariants as body
-use Rattle.shared_state.specs.History.{History}
-use Rattle.shared_state.specs.Arrays.{Known, known_after, ref_of}
-use Rattle.shared_state.specs.declared.array.ArrayInfo.{ArrayInfo}
-use Rattle.shared_state.specs.declared.array.ArrayRef.{ArrayRef}
-use Rattle.shared_state.specs.declared.array.Home.{Home}
-use Rattle.shared_state.specs.declared.array.Home.TheVariants.{Zarr}
-use Rattle.shared_state.specs.declared.error.Damage.{Damage}
-use Rattle.shared_state.specs.declared.event.Mode.{Mode}
-use Rattle.shared_state.specs.declared.event.Kind.TheVariants.{Opened}
-use Rattle.shared_state.specs.Legal.{is_opening}
-use Rattle.shared_state.specs.Joint.{IsJoint}
-use Rattle.shared_state.specs.Counting.{IsCounted}
-use Rattle.shared_state.specs.Writes.{read_values}
-use Rattle.shared_state.specs.Content.{world_after}
-use Rattle.shared_state.specs.Chunks.{chunk_key}
-use Rattle.shared_state.specs.Reads.{IsNoChunk, IsDamagedIn}
-use Rattle.shared_state.specs.Paste.{IsWholeArray}
-use Rattle.shared_state.specs.Outcomes.{made}
-use Rattle.shared_state.specs.Calls.{Adds, opened, done_write, fault, mount_of}
-use Rattle.shared_state.proofs.Tests.{true_or_false}
-use Rattle.shared_state.proofs.Histories.{known_after-more}
-use Rattle.shared_state.proofs.Known.{known_good}
-use Rattle.shared_state.proofs.Untouched.{known_kept}
-use Rattle.shared_state.proofs.Apart.{as_metadata, meta_of}
-use Rattle.shared_state.proofs.Openings.{known_below}
-use Rattle.shared_state.proofs.Plain.{joint_more, plain-values}
-use Rattle.shared_state.proofs.Fetching.{consistent_fault}
+use Rattle.whole_arrays.specs.History.{History}
+use Rattle.whole_arrays.specs.Arrays.{Known, known_after, ref_of}
+use Rattle.whole_arrays.specs.declared.array.ArrayInfo.{ArrayInfo}
+use Rattle.whole_arrays.specs.declared.array.ArrayRef.{ArrayRef}
+use Rattle.whole_arrays.specs.declared.array.Home.{Home}
+use Rattle.whole_arrays.specs.declared.array.Home.TheVariants.{Zarr}
+use Rattle.whole_arrays.specs.declared.error.Damage.{Damage}
+use Rattle.whole_arrays.specs.declared.event.Mode.{Mode}
+use Rattle.whole_arrays.specs.declared.event.Kind.TheVariants.{Opened}
+use Rattle.whole_arrays.specs.Legal.{is_opening}
+use Rattle.whole_arrays.specs.Joint.{IsJoint}
+use Rattle.whole_arrays.specs.Counting.{IsCounted}
+use Rattle.whole_arrays.specs.Writes.{read_values}
+use Rattle.whole_arrays.specs.Content.{world_after}
+use Rattle.whole_arrays.specs.Chunks.{chunk_key}
+use Rattle.whole_arrays.specs.Reads.{IsNoChunk, IsDamagedIn}
+use Rattle.whole_arrays.specs.Paste.{IsWholeArray}
+use Rattle.whole_arrays.specs.Outcomes.{made}
+use Rattle.whole_arrays.specs.Calls.{Adds, opened, done_write, fault, mount_of}
+use Rattle.whole_arrays.proofs.Tests.{true_or_false}
+use Rattle.whole_arrays.proofs.Histories.{known_after-more}
+use Rattle.whole_arrays.proofs.Known.{known_good}
+use Rattle.whole_arrays.proofs.Untouched.{known_kept}
+use Rattle.whole_arrays.proofs.Apart.{as_metadata, meta_of}
+use Rattle.whole_arrays.proofs.Openings.{known_below}
+use Rattle.whole_arrays.proofs.Plain.{joint_more, plain-values}
+use Rattle.whole_arrays.proofs.Fetching.{consistent_fault}
 use Rattle.script_runner.specs.Session.{Names, bind, info_of, open_turn, words_now}
 use Rattle.script_runner.specs.Kept.{IsReady, IsOverEmpty, IsArray, IsTurn, IsFault, session_of}
 

@@ -1,11 +1,11 @@
 -- The turn of a line that names an array, and of one at which the store fails.
 use Rattle.std.proofs.Common.{◌≡◌, ℕ, ◌+◌, List, [], ◌∷◌, ◌++◌, length, codes, Bool, true, cond, Option, Some, None, inl, inr, refl, sym, ap, subst, ◌∙◌}
-use Rattle.shared_state.specs.History.{History}
-use Rattle.shared_state.specs.declared.array.ArrayRef.{ArrayRef}
-use Rattle.shared_state.specs.Calls.{Adds, fault, opened}
-use Rattle.shared_state.specs.Outcomes.{Outcome, made}
+use Rattle.whole_arrays.specs.History.{History}
+use Rattle.whole_arrays.specs.declared.array.ArrayRef.{ArrayRef}
+use Rattle.whole_arrays.specs.Calls.{Adds, fault, opened}
+use Rattle.whole_arrays.specs.Outcomes.{Outcome, made}
 use Rattle.zarr_chunks.specs.Metadata.{Metadata}
-use Rattle.shared_state.proofs.Known.{length-more}
+use Rattle.whole_arrays.proofs.Known.{length-more}
 use Rattle.script_lines.specs.Status.{is_ok_body}
 use Rattle.script_lines.specs.declared.answer.Body.{Body}
 use Rattle.script_lines.specs.declared.answer.Body.TheVariants as body

@@ -1,7 +1,7 @@
 -- A session whose store may fail at some lines.
 use Rattle.std.specs.Prelude.{◌≡◌, ◌≤◌, ◌⊎◌, ℕ, ◌+◌, List, [], ◌∷◌, ◌++◌, map, length, codes, Bool, false, Option, Some, None, fold, if◌then◌else◌}
-use Rattle.shared_state.specs.History.{History}
-use Rattle.shared_state.specs.Calls.{fault}
+use Rattle.whole_arrays.specs.History.{History}
+use Rattle.whole_arrays.specs.Calls.{fault}
 use Rattle.script_lines.specs.Script.{lines_of, is_blank}
 use Rattle.script_lines.specs.Line.{Line, not_json, not_command, bad_member, opening, writing, reading, not_built, command_of_line}
 use Rattle.script_lines.specs.Status.{is_ok_body}

@@ -2,12 +2,12 @@
 use Rattle.std.specs.Prelude.{◌≡◌, ◌<◌, ◌⊎◌, codes, ℕ, List, Option, Some}
 use Rattle.std.specs.FinMap as finmap
 use Rattle.kv_face.specs.Store.{Contents}
-use Rattle.shared_state.specs.History.{History}
-use Rattle.shared_state.specs.declared.array.ArrayRef.{ArrayRef}
-use Rattle.shared_state.specs.Arrays.{Known, known_after, ref_of}
-use Rattle.shared_state.specs.Joint.{IsJoint}
-use Rattle.shared_state.specs.Store.{IsConsistent}
-use Rattle.shared_state.specs.Calls.{Adds, fault, mount_of}
+use Rattle.whole_arrays.specs.History.{History}
+use Rattle.whole_arrays.specs.declared.array.ArrayRef.{ArrayRef}
+use Rattle.whole_arrays.specs.Arrays.{Known, known_after, ref_of}
+use Rattle.whole_arrays.specs.Joint.{IsJoint}
+use Rattle.whole_arrays.specs.Store.{IsConsistent}
+use Rattle.whole_arrays.specs.Calls.{Adds, fault, mount_of}
 use Rattle.script_runner.specs.Session.{Names, Session, Turn}
 use Rattle.script_runner.specs.Failing.{failing}
 use Rattle.script_lines.specs.declared.answer.Body.{Body}

@@ -1,6 +1,6 @@
 -- A run of a script that is under way.
 use Rattle.std.specs.Prelude.{◌≡◌, ◌≤◌, ◌+◌, ◌++◌, ℕ, List, Option}
-use Rattle.shared_state.specs.History.{History}
+use Rattle.whole_arrays.specs.History.{History}
 use Rattle.script_lines.specs.Script.{lines_of, lines_left}
 use Rattle.script_lines.specs.declared.answer.Answer.{Answer}
 use Rattle.script_runner.specs.Failing.{Attempt, run_of, lines_tried, failures}

@@ -2,18 +2,18 @@
 use Rattle.std.specs.Prelude.{ℕ, ◌+◌, pos, List, [], ◌∷◌, ◌++◌, map, length, replicate, codes, Option, Some, None, Ok, Err, unwrap_or, count_by, if◌then◌else◌}
 use Rattle.std.specs.Str.{bytes_eq}
 use Rattle.zarr_chunks.specs.Metadata.{Metadata}
-use Rattle.shared_state.specs.History.{History}
-use Rattle.shared_state.specs.declared.array.ArrayInfo.{ArrayInfo}
-use Rattle.shared_state.specs.declared.array.ArrayRef.{ArrayRef}
-use Rattle.shared_state.specs.declared.event.Event.{Event}
-use Rattle.shared_state.specs.declared.event.Op.TheVariants.{Write}
-use Rattle.shared_state.specs.declared.event.Kind.TheVariants.{Done}
-use Rattle.shared_state.specs.Arrays.{ref_of}
-use Rattle.shared_state.specs.Writes.{read_values}
-use Rattle.shared_state.specs.Plain.{plain_after}
-use Rattle.shared_state.specs.Legal.{is_opening}
-use Rattle.shared_state.specs.Outcomes.{Outcome, path_taken, exists, made, making_outcome}
-use Rattle.shared_state.specs.Calls.{new_info, opened, plain}
+use Rattle.whole_arrays.specs.History.{History}
+use Rattle.whole_arrays.specs.declared.array.ArrayInfo.{ArrayInfo}
+use Rattle.whole_arrays.specs.declared.array.ArrayRef.{ArrayRef}
+use Rattle.whole_arrays.specs.declared.event.Event.{Event}
+use Rattle.whole_arrays.specs.declared.event.Op.TheVariants.{Write}
+use Rattle.whole_arrays.specs.declared.event.Kind.TheVariants.{Done}
+use Rattle.whole_arrays.specs.Arrays.{ref_of}
+use Rattle.whole_arrays.specs.Writes.{read_values}
+use Rattle.whole_arrays.specs.Plain.{plain_after}
+use Rattle.whole_arrays.specs.Legal.{is_opening}
+use Rattle.whole_arrays.specs.Outcomes.{Outcome, path_taken, exists, made, making_outcome}
+use Rattle.whole_arrays.specs.Calls.{new_info, opened, plain}
 use Rattle.script_lines.specs.NestedWords.{Given, words_of}
 use Rattle.script_lines.specs.Line.{Line, not_json, not_command, bad_member, opening, writing, reading, not_built}
 use Rattle.script_lines.specs.declared.answer.Body.{Body}

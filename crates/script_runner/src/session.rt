@@ -5,7 +5,7 @@ ghost use Rattle.script_runner.specs.Session.{bind};
 
 use indexmap::IndexMap;
 use kv_face::KvStore;
-use shared_state::{ArrayRef, State};
+use whole_arrays::{ArrayRef, State};
 
 /// The arrays that names are bound to.
 pub(crate) type Names = IndexMap<String, ArrayRef>;

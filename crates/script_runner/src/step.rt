@@ -7,10 +7,10 @@ ghost use Rattle.cells.specs.Places.{cell_count};
 ghost use Rattle.kv_face.specs.Store.{are_together, keys_of};
 ghost use Rattle.kv_face.specs.declared.change.Change.{Change as ChangeOf};
 ghost use Rattle.serde_json.specs.View.{view};
-ghost use Rattle.shared_state.specs.Joint.{IsJoint};
-ghost use Rattle.shared_state.specs.Counting.{IsCounted};
+ghost use Rattle.whole_arrays.specs.Joint.{IsJoint};
+ghost use Rattle.whole_arrays.specs.Counting.{IsCounted};
 ghost use Rattle.std.specs.FinMap as finmap;
-ghost use Rattle.shared_state.specs.Outcomes.{making_outcome};
+ghost use Rattle.whole_arrays.specs.Outcomes.{making_outcome};
 ghost use Rattle.script_lines.specs.Line.{command_of_line};
 ghost use Rattle.script_lines.specs.NestedWords.{words_of};
 ghost use Rattle.script_lines.specs.Refusals.{bad_line_of, refused_line};
@@ -27,7 +27,7 @@ use script_lines::{
     Body, Command, LineError, ValuesError, bad_line_text, list_count, read_command, words_of_values,
 };
 use serde_json::Value;
-use shared_state::{ArrayRef, FetchError, OpenError, Opening, State, WriteNowError};
+use whole_arrays::{ArrayRef, FetchError, OpenError, Opening, State, WriteNowError};
 use std::alloc::{AllocError, Global};
 use zarr_chunks::ZarrMeta;
 

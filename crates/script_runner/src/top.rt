@@ -6,7 +6,7 @@ ghost use Rattle.std.specs.FinMap as finmap;
 ghost use Rattle.indexmap.specs.IndexMap.{get_by_text};
 ghost use Rattle.kv_face.specs.Store.{are_together, keys_of};
 ghost use Rattle.kv_face.specs.declared.change.Change.{Change as ChangeOf};
-ghost use Rattle.shared_state.specs.Counting.{IsCounted};
+ghost use Rattle.whole_arrays.specs.Counting.{IsCounted};
 ghost use Rattle.script_lines.specs.AnswerText.{text_of};
 ghost use Rattle.script_lines.specs.Status.{status_of, is_ok_answer};
 ghost use Rattle.script_runner.specs.Failing.{IsWholeRun, IsCutRun, AreRuns};
@@ -23,7 +23,7 @@ use cells::List;
 use indexmap::IndexMap;
 use kv_face::KvStore;
 use script_lines::{Answer, Body, cut, is_blank, is_ok, render};
-use shared_state::{Event, State};
+use whole_arrays::{Event, State};
 use std::alloc::{AllocError, Global};
 
 /// How a run ended.

@@ -2,12 +2,12 @@ use Rattle.std.proofs.Common.{Err, Some, ◌≡◌, ◌++◌, ◌∷◌, [], tru
 use Rattle.std.specs.Prelude.{IfSome, count_by}
 use Rattle.std.specs.FinMap as finmap
 use Rattle.indexmap.specs.IndexMap.{get_by_text}
-use Rattle.shared_state.specs.Arrays.{ref_of}
-use Rattle.shared_state.specs.Calls.{Adds, opened, new_info}
-use Rattle.shared_state.specs.Legal.{is_opening}
+use Rattle.whole_arrays.specs.Arrays.{ref_of}
+use Rattle.whole_arrays.specs.Calls.{Adds, opened, new_info}
+use Rattle.whole_arrays.specs.Legal.{is_opening}
 use Rattle.script_lines.specs.Status.{is_ok_body}
 use Rattle.script_lines.specs.declared.answer.Body.TheVariants as body
-use Rattle.shared_state.specs.Outcomes.{making_outcome}
+use Rattle.whole_arrays.specs.Outcomes.{making_outcome}
 use Rattle.script_runner.specs.Session.{Names, bind, info_of, open_turn, in_memory}
 use Rattle.script_runner.specs.Kept.{IsReady, session_of}
 use Rattle.script_runner.proofs.Sessions.{ready_opened, ready_bound, ready_faulted, ready_with}

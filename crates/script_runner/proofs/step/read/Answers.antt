@@ -1,12 +1,12 @@
 use Rattle.std.proofs.Common.{◌≡◌, [], rules, Err, None, inl, inr, refl, ap, subst, ◌∙◌, length}
 use Rattle.std.specs.Prelude.{replicate, pos}
 use Rattle.std.specs.FinMap as finmap
-use Rattle.shared_state.specs.Calls.{Adds, fault, mount_of}
+use Rattle.whole_arrays.specs.Calls.{Adds, fault, mount_of}
 use Rattle.script_lines.specs.declared.answer.Body.TheVariants as body
 use Rattle.script_runner.specs.Session.{stays, values_body}
 use Rattle.script_runner.specs.Kept.{session_of}
 use Rattle.script_runner.proofs.Turns.{failed_turn}
-use Rattle.shared_state.proofs.Counting.{counted_fault}
+use Rattle.whole_arrays.proofs.Counting.{counted_fault}
 use Rattle.script_runner.proofs.Sessions.{ready_fault, read_words, not_damaged}
 use Rattle.script_runner.proofs.step.read.Goals as goal
 

@@ -1,6 +1,6 @@
 use Rattle.std.proofs.Common.{Err, ap}
 use Rattle.std.specs.FinMap as finmap
-use Rattle.shared_state.specs.Calls.{plain, mount_of}
+use Rattle.whole_arrays.specs.Calls.{plain, mount_of}
 use Rattle.script_runner.proofs.Sessions.{ready_done, ready_faulted, ready_with}
 use Rattle.script_runner.proofs.step.write.Goals as goal
 

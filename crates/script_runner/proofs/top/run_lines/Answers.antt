@@ -7,7 +7,7 @@ use Rattle.script_runner.specs.Logged.{IsBegunLog, numbers_behind}
 use Rattle.script_runner.specs.Failing.{IsCutRun}
 use Rattle.script_runner.specs.Progress.{IsUnderWay}
 use Rattle.std.specs.FinMap as finmap
-use Rattle.shared_state.specs.Counting.{IsCounted}
+use Rattle.whole_arrays.specs.Counting.{IsCounted}
 use Rattle.script_runner.proofs.Sessions.{counted_start}
 use Rattle.script_runner.proofs.Lines.{past_blank, past_line, cut_in, cut_behind, on_err, not_ok, at_start, short_more}
 use Rattle.script_runner.proofs.Logs.{begun_log, HasAnswered, none_answered, line_answered, blank_passed, one_more_line}

@@ -3,7 +3,7 @@ use Rattle.std.specs.Prelude.{MatchOption}
 use Rattle.std.specs.Option.{option_copied, option_map_or}
 use Rattle.std.specs.FinMap as finmap
 use Rattle.indexmap.specs.IndexMap.{get_by_text}
-use Rattle.shared_state.specs.Counting.{IsCounted}
+use Rattle.whole_arrays.specs.Counting.{IsCounted}
 use Rattle.script_runner.specs.Kept.{IsReady}
 use Rattle.script_runner.specs.Progress.{IsUnderWay}
 use Rattle.script_runner.proofs.Logs.{HasAnswered}
