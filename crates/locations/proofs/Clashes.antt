@@ -2,7 +2,8 @@
 use Rattle.std.proofs.Common.{◌≡◌, ℕ, suc, ◌<◌, List, [], ◌∷◌, ◌++◌, length, Bool, true, false, cond, Option, Some, None, ◌⊎◌, inl, inr, refl, sym, ap, subst, ◌∙◌, arith, eqb-true, eq-eqb, append_assoc}
 use Rattle.std.specs.Prelude.{◌==◌, ◌||◌}
 use Rattle.std.specs.Ordering.{is_lt}
-use Rattle.locations.specs.Paths.{Located, begins, is_below, clashes, IsLeastClash, HasNoClash}
+use Rattle.std.specs.FinMap as finmap
+use Rattle.locations.specs.Paths.{Located, begins, is_below, clashes, IsLeastClash, HasNoClash, IsFirstAbove, HasNoneAbove, AreApart}
 use Rattle.locations.specs.Tables.{Table, place_at, numbers_of, AreNamed, first_or, first_above, IsLeastBelow}
 use Rattle.locations.specs.declared.table.Place.{Place}
 use Rattle.locations.proofs.Tables.{number_some, number_none, place_of}
@@ -161,3 +162,50 @@ module _ (table : Table) (named : AreNamed table) (here : List ℕ) where
         | inl below ↦ no_below s below
         | inr above ↦ let up = is_above s above in above_none at [] here none s up.0 up.1
       ])
+
+  pub first_number : (place : Place) → first_above at [] here ≡ Some place → IsFirstAbove (numbers_of table.entries) here place.number
+  first_number place e =
+      let f = above_some at [] here place e in
+      record {
+        upper = f.more;
+        rest = f.tail;
+        parts = f.parts;
+        there = number_some table f.more place f.there;
+        shortest = λ other more parts shorter. number_none table other (f.first other more parts shorter);
+      }
+
+  pub none_number : first_above at [] here ≡ None → HasNoneAbove (numbers_of table.entries) here
+  none_number e upper rest parts = number_none table upper (above_none at [] here e upper rest parts)
+
+behind_same : (us xs ys : List ℕ) → us ++ xs ≡ us ++ ys → xs ≡ ys
+behind_same [] xs ys e = e
+behind_same (u ∷ us) xs ys e = behind_same us xs ys (cc)
+
+whole : (us : List ℕ) → us ++ [] ≡ us
+whole [] = refl
+whole (u ∷ us) = ap (λ ys. u ∷ ys) (whole us)
+
+-- where no two locations clash, the first array above a text is the only one
+pub only_above : (places : Located) (text : List ℕ) (first : ℕ) → AreApart places → IsFirstAbove places text first → (upper rest : List ℕ) (number : ℕ) → text ≡ upper ++ 47 ∷ rest → finmap.get places upper ≡ Some number → first ≡ number
+only_above places text first are_apart f upper rest number parts there =
+    elim (less_or_not (length upper) (length f.upper)) [
+      | inl shorter ↦ let clash : None ≡ Some number = sym (f.shortest upper rest parts shorter) ∙ there in absurd (cc)
+      | inr longer_one ↦
+          let more = longer f.upper upper (47 ∷ f.rest) (47 ∷ rest) (sym f.parts ∙ parts) longer_one in
+          by_more more.0 more.1
+    ]
+  where
+    some_same : (n m : ℕ) → Some n ≡ Some m → n ≡ m
+    some_same n m e = cc
+
+    by_more : (more : List ℕ) → upper ≡ f.upper ++ more → first ≡ number
+    by_more [] e = some_same first number (sym f.there ∙ ap (finmap.get places) (sym (whole f.upper) ∙ sym e) ∙ there)
+    by_more (x ∷ more) e =
+        let behind : 47 ∷ f.rest ≡ x ∷ more ++ 47 ∷ rest = behind_same f.upper (47 ∷ f.rest) (x ∷ more ++ 47 ∷ rest) (sym f.parts ∙ parts ∙ ap (λ w. w ++ 47 ∷ rest) e ∙ append_assoc f.upper (x ∷ more) (47 ∷ rest)) in
+        let slash : x ≡ 47 = cc in
+        let on : upper ≡ (f.upper ++ 47 ∷ []) ++ more = e ∙ ap (λ y. f.upper ++ y ∷ more) slash ∙ sym (append_assoc f.upper (47 ∷ []) more) in
+        let below : is_below f.upper upper ≡ true = ap (begins (f.upper ++ 47 ∷ [])) on ∙ begins_whole (f.upper ++ 47 ∷ []) more in
+        let clash : clashes f.upper upper ≡ true = ap (λ b. b || is_below upper f.upper) below in
+        let no_clash = are_apart f.upper upper first number f.there there in
+        let both : true ≡ false = sym clash ∙ no_clash in
+        absurd (cc)

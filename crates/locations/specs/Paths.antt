@@ -1,5 +1,5 @@
 -- Locations that lie one below another.
-use Rattle.std.specs.Prelude.{◌≡◌, ℕ, List, [], ◌∷◌, ◌++◌, Bool, true, false, Option, Some, None, ◌==◌, ◌&&◌, ◌||◌}
+use Rattle.std.specs.Prelude.{◌≡◌, ◌<◌, ℕ, List, [], ◌∷◌, ◌++◌, length, Bool, true, false, Some, None, ◌==◌, ◌&&◌, ◌||◌}
 use Rattle.std.specs.Coded.{Coded, coded_list, coded_ℕ}
 use Rattle.std.specs.FinMap as finmap
 use Rattle.std.specs.FinMap.{FinMap}
@@ -37,3 +37,19 @@ pub record IsLeastClash (places : Located) (here other : List ℕ) : Type 0 wher
 -- no location that clashes with this one has an array
 abbrev pub HasNoClash : Located → List ℕ → Type 0
 HasNoClash places here = (s : List ℕ) → clashes here s ≡ true → finmap.get places s ≡ None
+
+-- of the parts of a text that end before a "/" the shortest at which an array lies, and its number
+pub record IsFirstAbove (places : Located) (text : List ℕ) (number : ℕ) : Type 0 where
+  pub upper : List ℕ
+  pub rest : List ℕ
+  pub parts : text ≡ upper ++ 47 ∷ rest
+  pub there : finmap.get places upper ≡ Some number
+  pub shortest : (other more : List ℕ) → text ≡ other ++ 47 ∷ more → length other < length upper → finmap.get places other ≡ None
+
+-- no array lies at a part of a text that ends before a "/"
+abbrev pub HasNoneAbove : Located → List ℕ → Type 0
+HasNoneAbove places text = (upper rest : List ℕ) → text ≡ upper ++ 47 ∷ rest → finmap.get places upper ≡ None
+
+-- no two locations at which arrays lie clash
+abbrev pub AreApart : Located → Type 0
+AreApart places = (one other : List ℕ) (n m : ℕ) → finmap.get places one ≡ Some n → finmap.get places other ≡ Some m → clashes one other ≡ false

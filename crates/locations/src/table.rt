@@ -1,7 +1,7 @@
 ghost use Rattle.std.specs.Prelude.{◌≡◌, ◌++◌, ◌∷◌, [], ℕ, List, Option, Some, None, Ok, IfSome, OnOk, OnErr, true};
 ghost use Rattle.std.specs.Option.{option_copied};
 ghost use Rattle.std.specs.FinMap as finmap;
-ghost use Rattle.locations.specs.Paths.{begins, IsLeastClash, HasNoClash};
+ghost use Rattle.locations.specs.Paths.{begins, IsLeastClash, HasNoClash, IsFirstAbove, HasNoneAbove, AreApart};
 ghost use Rattle.locations.specs.Tables.{place_at, numbers_of, AreNamed, first_above, IsLeastBelow};
 
 use cells::Name;
@@ -102,6 +102,20 @@ impl Locations {
                 number: place.number,
             }),
             None => Ok(Found::Free),
+        }
+    }
+
+    /// The number of the array at the shortest part of a key that ends before a "/" and at which an array lies. Where no two
+    /// locations clash, no other part has one.
+    pub fn above(&self, key: &[u8]) -> Option<u64>
+        ensures some { IfSome result (λ number. IsFirstAbove self.now key.now number) }
+        ensures none { result ≡ None → HasNoneAbove self.now key.now }
+        ensures only { AreApart self.now → (upper rest : List ℕ) (number : ℕ) → key.now ≡ upper ++ 47 ∷ rest
+            → finmap.get self.now upper ≡ Some number → result ≡ Some number }
+    {
+        match above(&self.table, key) {
+            Some(place) => Some(place.number),
+            None => None,
         }
     }
 }

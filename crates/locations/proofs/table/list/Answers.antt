@@ -1,6 +1,4 @@
-use Rattle.std.proofs.Common.{◌≡◌, List, ℕ, Some, cond, ◌∙◌}
-use Rattle.std.specs.Str.{bytes_eq}
-use Rattle.locations.specs.Tables.{Table, place_at}
+use Rattle.std.proofs.Common.{◌∙◌}
 use Rattle.locations.specs.declared.table.Place.{Place}
 use Rattle.locations.proofs.Tables.{put_in, put_named, put_numbers}
 use Rattle.locations.proofs.table.list.Goals as goal

@@ -1,6 +1,6 @@
 use Rattle.std.proofs.Common.{◌≡◌, List, ℕ, None, cond, subst}
 use Rattle.std.specs.Str.{bytes_eq}
-use Rattle.locations.specs.Tables.{Table, place_at}
+use Rattle.locations.specs.Tables.{place_at}
 use Rattle.locations.proofs.Tables.{took_out, out_named, out_numbers}
 use Rattle.locations.proofs.table.unlist.Goals as goal
 

@@ -1,9 +1,8 @@
-use Rattle.std.proofs.Common.{◌≡◌, List, ℕ, [], ◌∷◌, ◌++◌, true, Option, Some, None, Result, Ok, Err, refl, sym, ap, subst, ◌∙◌}
+use Rattle.std.proofs.Common.{◌≡◌, [], ◌∷◌, ◌++◌, true, Some, None, sym, ap, subst, ◌∙◌}
 use Rattle.std.specs.FinMap as finmap
 use Rattle.std.specs.Option.{option_copied}
-use Rattle.locations.specs.Paths.{Located, begins, IsLeastClash, HasNoClash}
-use Rattle.locations.specs.Tables.{Table, place_at, numbers_of, IsLeastBelow}
-use Rattle.locations.specs.declared.table.Place.{Place}
+use Rattle.locations.specs.Paths.{begins, IsLeastClash, HasNoClash}
+use Rattle.locations.specs.Tables.{place_at, numbers_of, IsLeastBelow}
 use Rattle.locations.proofs.Clashes.{taken_above, taken_below, not_taken}
 use Rattle.locations.proofs.Tables.{number_some, number_none}
 use Rattle.locations.proofs.table.Locations.find.Goals as goal
