@@ -1,3 +1,4 @@
 pub mod NumberLaws
 pub mod NameLaws
 pub mod ReadingLaws
+pub mod Laws
