@@ -1,0 +1,267 @@
+ghost use Rattle.std.specs.Prelude.{◌≡◌, ◌≤◌, ◌<◌, ◌+◌, ◌^◌, ◌++◌, ◌∷◌, [], ℕ, List, length, Some, None, Option, true, IsSome, IsOk, IfOk, IfErr, OnOk, OnErr, count_by, string_bytes, vec_len, vec_capacity};
+ghost use Rattle.std.specs.FinMap as finmap;
+ghost use Rattle.std.specs.Option.{option_copied, option_map};
+ghost use Rattle.chunk_cache.specs.Cache.{kept, after_hit, after_keep};
+ghost use Rattle.chunk_forms.specs.Metadata.{with_shape};
+ghost use Rattle.history.specs.Arrays.{Known, known_after, form_of, is_local};
+ghost use Rattle.history.specs.Legal.{is_opening};
+ghost use Rattle.history.specs.Own.{fault, opened_event};
+ghost use Rattle.history.specs.Places.{array_at};
+ghost use Rattle.history.specs.Store.{resized_after};
+ghost use Rattle.run_records.specs.Recorded.{cells_held};
+
+use crate::arrays::{Entry, entry_at, info_at};
+use crate::generations::KeyNumbers;
+use cells::Name;
+use chunk_cache::{ChunkCache, KeepRefused, Snapshot};
+use chunk_forms::Form;
+use history::{ArrayInfo, Event, Home, Kind};
+use std::alloc::{AllocError, Global};
+use std::marker::Model;
+
+/// What a run keeps of its events. Contracts see the history, a table of generations, the chunks that were used last, and the
+/// cells of local arrays.
+#[derive(Drop)]
+pub struct Records {
+    events: Vec<Event>,
+    arrays: Vec<Entry>,
+    generations: KeyNumbers,
+    cache: ChunkCache,
+}
+
+impl Model for Records {
+    ghost use Rattle.std.specs.Prelude.{◌-◌, map, min, vec_capacity, length};
+    ghost use Rattle.std.specs.Coded.{codes};
+    ghost use Rattle.stack_driver.specs.contracts.view.View as view_type;
+    ghost use Rattle.run_records.specs.declared.arrays.Entry.{Entry};
+    ghost use Rattle.run_records.specs.Recorded.{RecordsOf};
+    ghost use Rattle.run_records.specs.Numbers.{generations_code};
+    ghost use Rattle.run_records.specs.Indexed.{AreArrays};
+
+    ghost Value = { RecordsOf };
+
+    ghost coded = { Prim.hlevel (codes, view_type.the_row.coded, generations_code) };
+
+    ghost view = { λ r. record {
+      events = r.events.items;
+      generations = r.generations;
+      cache = r.cache;
+      locals = map (λ (e : Entry). e.local) r.arrays.items;
+      room = min (vec_capacity r.events - length r.events.items) (vec_capacity r.arrays - length r.arrays.items);
+    } };
+
+    ghost invariant = { λ r. AreArrays r.events.items r.arrays.items };
+}
+
+impl Records {
+    /// No event, and a cache that keeps at most so many cells.
+    ///
+    /// # Errors
+    /// `AllocError` where memory is wanting.
+    pub fn new(alloc: Global, limit: u64) -> Result<Records, AllocError>
+        requires { limit ≤ 2 ^ 27 }
+        ensures events { IfOk result (λ r. r.events ≡ []) }
+        ensures generations { IfOk result (λ r. r.generations ≡ finmap.empty) }
+        ensures cache { IfOk result (λ r. r.cache ≡ record { limit = limit; entries = [] }) }
+        ensures locals { IfOk result (λ r. r.locals ≡ []) }
+    {
+        Ok(Records {
+            events: Vec::new(alloc),
+            arrays: Vec::new(alloc),
+            generations: KeyNumbers::new(alloc),
+            cache: ChunkCache::new(alloc, limit)?,
+        })
+    }
+
+    /// The events so far, the first with the number 1.
+    pub fn events(&self) -> &[Event]
+        ensures { result.now ≡ self.now.events }
+    {
+        &self.events
+    }
+
+    /// The events, which are given up.
+    pub fn into_events(self) -> Vec<Event>
+        ensures { result.items ≡ self.events }
+    {
+        self.events
+    }
+
+    /// How many arrays were opened: the number of the next one.
+    pub fn array_count(&self) -> u64
+        ensures value { result ≡ count_by is_opening self.now.events }
+        ensures there { (here : List ℕ) (k : Known) → array_at self.now.events here ≡ Some k → known_after self.now.events k.info.number ≡ Some k }
+    {
+        self.arrays.len() as u64
+    }
+
+    /// The array of a number, as it was opened.
+    pub fn info(&self, array: u64) -> &ArrayInfo
+        requires { IsSome (known_after self.now.events array) }
+        ensures value { Some result.now ≡ option_map (λ (k : Known). k.info) (known_after self.now.events array) }
+        // A local array keeps the shape that it was opened with.
+        ensures local { is_local result.now.home ≡ true → Some result.now.shape ≡ option_map (λ (k : Known). k.shape) (known_after self.now.events array) }
+    {
+        let Some(info) = info_at(&self.events, &self.arrays, array) else {
+            unreachable!();
+        };
+        info
+    }
+
+    /// The number of the event that opened an array.
+    pub fn opened(&self, array: u64) -> u64
+        requires { IsSome (known_after self.now.events array) }
+        ensures { Some result ≡ option_map (λ (k : Known). k.opened) (known_after self.now.events array) }
+    {
+        let entry = entry_at(&self.events, &self.arrays, array);
+        entry.place as u64 + 1
+    }
+
+    /// How an array's chunks are stored, with its present shape.
+    pub fn form(&self, array: u64) -> &Form
+        requires { IsSome (known_after self.now.events array) }
+        ensures { Some result.now ≡ option_map (λ (k : Known). with_shape (form_of k.info.home) k.shape) (known_after self.now.events array) }
+    {
+        let entry = entry_at(&self.events, &self.arrays, array);
+        &entry.form
+    }
+
+    /// An array's present shape, in cells.
+    pub fn shape(&self, array: u64) -> &[u64]
+        requires { IsSome (known_after self.now.events array) }
+        ensures { Some result.now ≡ option_map (λ (k : Known). k.shape) (known_after self.now.events array) }
+    {
+        let info = self.info(array);
+        match &info.home {
+            Home::Local { .. } => info.shape.items(),
+            _ => self.form(array).shape(),
+        }
+    }
+
+    /// The number of the event that gave an array its present shape, or 0 where none did since its opening.
+    pub fn resized(&self, array: u64) -> u64
+        requires { IsSome (known_after self.now.events array) }
+        ensures { result ≡ resized_after self.now.events array }
+    {
+        let entry = entry_at(&self.events, &self.arrays, array);
+        entry.resized
+    }
+
+    /// The cells that the run holds of an array; none of an array that a store holds.
+    pub fn held(&self, array: u64) -> Option<&Snapshot>
+        requires { IsSome (known_after self.now.events array) }
+        ensures { option_copied result ≡ cells_held self.now array }
+    {
+        let entry = entry_at(&self.events, &self.arrays, array);
+        entry.local.as_ref()
+    }
+
+    /// The number that the table of generations has at a key.
+    pub fn number_at(&self, key: &[u8]) -> Option<u64>
+        ensures { result ≡ finmap.get self.now.generations key.now }
+    {
+        self.generations.get(key)
+    }
+
+    /// The chunk that is kept under a key, which becomes the last used.
+    ///
+    /// # Errors
+    /// `AllocError` where the chunk can't be shared any more. Nothing has changed then.
+    pub fn hit(&mut self, key: &str) -> Result<Option<Snapshot>, AllocError>
+        ensures value { IfOk result (λ found. found ≡ kept key.now self.old.cache.entries) }
+        ensures after { OnOk result (self.new ≡ record self.old { cache = record self.old.cache { entries = after_hit key.now self.old.cache.entries } }) }
+        ensures err { OnErr result (self.new ≡ self.old) }
+        ensures miss { kept key.now self.old.cache.entries ≡ None → IsOk result }
+    {
+        self.cache.hit(key)
+    }
+
+    /// Keeps a chunk under a key, as the last used.
+    ///
+    /// # Errors
+    /// `KeepRefused` where there is no memory, with the key and the chunk. Nothing has changed then.
+    pub fn keep(&mut self, key: String, snapshot: Snapshot) -> Result<(), KeepRefused>
+        ensures ok { OnOk result (self.new ≡ record self.old {
+          cache = record self.old.cache {
+            entries = after_keep self.old.cache.limit (string_bytes key) snapshot self.old.cache.entries;
+          };
+        }) }
+        ensures err { OnErr result (self.new ≡ self.old) }
+        ensures handed_back { IfErr result (λ refused. (refused.key ≡ string_bytes key) × (refused.snapshot ≡ snapshot)) }
+    {
+        self.cache.keep(key, snapshot)
+    }
+
+    /// Makes room for one event and one array more.
+    ///
+    /// # Errors
+    /// `AllocError` where memory is wanting.
+    pub fn reserve(&mut self) -> Result<(), AllocError>
+        ensures room { OnOk result (0 < self.new.room) }
+        ensures same { self.new ≡ record self.old { room = self.new.room } }
+    {
+        self.events.reserve(1)?;
+        self.arrays.reserve(1)
+    }
+
+    /// Adds a failed store call where there is room; gives the event's number.
+    pub fn add_fault(&mut self, owner: u32, mount: Name) -> u64
+        requires { 0 < self.old.room }
+        ensures number { result ≡ length self.old.events + 1 }
+        ensures after { self.new ≡ record self.old { events = self.old.events ++ fault owner mount ∷ []; room = self.new.room } }
+    {
+        let kind = Kind::Fault { mount };
+        add(&mut self.events, Event { owner, kind })
+    }
+
+    /// Adds the opening of the next array where there is room; gives the event's number. Of a local array the cells are given too.
+    pub fn add_opened(
+        &mut self,
+        owner: u32,
+        info: ArrayInfo,
+        form: Form,
+        local: Option<Snapshot>,
+    ) -> u64
+        requires room { 0 < self.old.room }
+        requires number { info.number ≡ count_by is_opening self.old.events }
+        requires form { form ≡ with_shape (form_of info.home) info.shape }
+        ensures number { result ≡ length self.old.events + 1 }
+        ensures after { self.new ≡ record self.old {
+          events = self.old.events ++ opened_event owner info ∷ [];
+          locals = self.old.locals ++ local ∷ [];
+          room = self.new.room;
+        } }
+    {
+        let entry = Entry {
+            place: self.events.len(),
+            form,
+            resized: 0,
+            local,
+        };
+        add_entry(&mut self.arrays, entry);
+        let kind = Kind::Opened { array: info };
+        add(&mut self.events, Event { owner, kind })
+    }
+}
+
+/// Adds an event where there is room; gives its number.
+fn add(events: &mut Vec<Event>, event: Event) -> u64
+    requires { vec_len events.old < vec_capacity events.old }
+    ensures items { events.new.items ≡ events.old.items ++ event ∷ [] }
+    ensures number { result ≡ length events.new.items }
+{
+    let Ok(()) = events.push(event) else {
+        unreachable!();
+    };
+    events.len() as u64
+}
+
+/// Adds an array where there is room.
+fn add_entry(entries: &mut Vec<Entry>, entry: Entry)
+    requires { vec_len entries.old < vec_capacity entries.old }
+    ensures { entries.new.items ≡ entries.old.items ++ entry ∷ [] }
+{
+    let Ok(()) = entries.push(entry) else {
+        unreachable!();
+    };
+}
