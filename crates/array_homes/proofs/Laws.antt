@@ -5,6 +5,11 @@ use Rattle.std.specs.List.{AllByRecursion}
 use Rattle.cells.specs.Shapes.{IsShape, IsChunkShape}
 use Rattle.kv_face.specs.Store.{Contents}
 use Rattle.chunk_forms.specs.declared.form.Form.{Form}
+use Rattle.chunk_forms.specs.declared.form.Form.TheVariants as form
+use Rattle.chunk_forms.specs.declared.form.Want.{Want}
+use Rattle.chunk_forms.specs.declared.form.Want.TheVariants as want
+use Rattle.chunk_forms.specs.Metadata.{is_local as is_local_form}
+use Rattle.chunk_forms.specs.Wants.{is_asked_form}
 use Rattle.stack_driver.specs.References.{Reference, IsReference}
 use Rattle.history.specs.declared.array.ArrayInfo.{ArrayInfo}
 use Rattle.history.specs.declared.array.Home.{Home}
@@ -12,15 +17,17 @@ use Rattle.history.specs.declared.array.Home.TheVariants.{Zarr, N5, Zarr3, Local
 use Rattle.history.specs.History.{History}
 use Rattle.history.specs.Arrays.{Known, known_after, chunk_shape_in, is_local, ref_of}
 use Rattle.history.specs.Chunks.{IsIndexOf}
-use Rattle.history.specs.Leaves.{Leaf}
+use Rattle.history.specs.Leaves.{Leaf, location_of_leaf}
 use Rattle.history.specs.Legal.{IsLegal, IsAsKept, MayTake}
-use Rattle.history.specs.Outcomes.{new_info}
+use Rattle.history.specs.Outcomes.{home_of, new_info}
+use Rattle.history.specs.Places.{location}
 use Rattle.history.proofs.Histories.{each_history, legal_step}
 use Rattle.history.proofs.Known.{known_split, no_array, opening_of, resize_of, known_good, kept_rank}
 use Rattle.array_homes.specs.Names.{HasRank}
 use Rattle.array_homes.specs.Homes.{MayHaveShape, info_at, reference_of}
 
-rank_in : (home : Home) (shape index : List ℕ) → length index ≡ length (chunk_shape_in home shape) → HasRank home index
+-- an index of the rank of the array's chunks has the rank that its key wants
+pub rank_in : (home : Home) (shape index : List ℕ) → length index ≡ length (chunk_shape_in home shape) → HasRank home index
 rank_in (Zarr mount path meta) shape index is = is
 rank_in (N5 mount path meta) shape index is = is
 rank_in (Zarr3 mount path meta) shape index is = is
@@ -30,9 +37,42 @@ rank_in (Local start) shape index is = tt
 pub rank_of_index : (info : ArrayInfo) (index : List ℕ) → IsIndexOf info index → HasRank info.home index
 rank_of_index info index is = rank_in info.home info.shape index is.rank
 
+-- an array's shape of the rank of its chunks is one that it may have
+pub shape_in : (home : Home) (first shape : List ℕ) → IsShape shape → length shape ≡ length (chunk_shape_in home first) → MayHaveShape home shape
+shape_in (Zarr mount path meta) first shape rules rank = (rules, rank)
+shape_in (N5 mount path meta) first shape rules rank = (rules, rank)
+shape_in (Zarr3 mount path meta) first shape rules rank = (rules, rank)
+shape_in (Local start) first shape rules rank = tt
+
+-- a local array is one chunk
+pub whole_in : (home : Home) (shape : List ℕ) → is_local home ≡ true → chunk_shape_in home shape ≡ map (max 1) shape
+whole_in (Zarr mount path meta) shape run = absurd (cc)
+whole_in (N5 mount path meta) shape run = absurd (cc)
+whole_in (Zarr3 mount path meta) shape run = absurd (cc)
+whole_in (Local start) shape run = refl
+
 -- the array that a leaf opens is the one at its place
 pub info_at-leaf : (number : ℕ) (leaf : Leaf) (meta : Form) → info_at number leaf.mount leaf.path meta ≡ new_info number leaf meta
 info_at-leaf number leaf meta = refl
+
+-- metadata of a format that is asked is stored
+pub asked_stored : (w : Want) (meta : Form) → is_asked_form w meta ≡ true → is_local_form meta ≡ false
+asked_stored w (form.Zarr m) asked = refl
+asked_stored w (form.N5 m) asked = refl
+asked_stored w (form.Zarr3 m) asked = refl
+asked_stored (want.Zarr w) form.Local asked = absurd (cc)
+asked_stored (want.N5 w) form.Local asked = absurd (cc)
+asked_stored (want.Zarr3 w) form.Local asked = absurd (cc)
+
+stored_location : (leaf : Leaf) (meta : Form) → is_local_form meta ≡ false → location (home_of leaf.mount leaf.path meta) ≡ Some (location_of_leaf leaf)
+stored_location leaf (form.Zarr m) stored = refl
+stored_location leaf (form.N5 m) stored = refl
+stored_location leaf (form.Zarr3 m) stored = refl
+stored_location leaf form.Local stored = absurd (cc)
+
+-- and an array with it lies at its leaf's place
+pub asked_location : (leaf : Leaf) (meta : Form) → is_asked_form leaf.want meta ≡ true → location (home_of leaf.mount leaf.path meta) ≡ Some (location_of_leaf leaf)
+asked_location leaf meta asked = stored_location leaf meta (asked_stored leaf.want meta asked)
 
 -- the reference of an array of the history
 pub reference_of-known : (k : Known) → reference_of k.info k.shape ≡ ref_of k

@@ -1,11 +1,12 @@
 -- What opening a leaf gives by what the store holds, and by what an array of the history is.
-use Rattle.std.specs.Prelude.{◌≡◌, ◌≢◌, ℕ, List, Bool, Option, Some, Result, Ok, Err, if◌then◌else◌}
+use Rattle.std.specs.Prelude.{◌≡◌, ◌≢◌, ℕ, List, Bool, Option, Some, None, Result, Ok, Err, if◌then◌else◌}
 use Rattle.meta_forms.specs.declared.error.MetaError.{MetaError}
 use Rattle.chunk_forms.specs.declared.form.Form.{Form}
 use Rattle.chunk_forms.specs.declared.form.Want.{Want}
 use Rattle.chunk_forms.specs.declared.form.Want.TheVariants as want
 use Rattle.chunk_forms.specs.Members.{member_name}
-use Rattle.chunk_forms.specs.Metadata.{shape_of}
+use Rattle.chunk_forms.specs.Made.{form_made}
+use Rattle.chunk_forms.specs.Metadata.{shape_of, SpellsMetadata}
 use Rattle.chunk_forms.specs.Wants.{mismatch_of}
 use Rattle.history.specs.Arrays.{Known}
 use Rattle.history.specs.Leaves.{Leaf, Stored, IsStoredAs}
@@ -59,6 +60,11 @@ IsDecision leaf bytes answer = answer ≢ Err Memory → (outcome : Outcome) × 
 abbrev pub meta_in : Decided → Form
 meta_in (Found meta) = meta
 meta_in (Made meta) = meta
+
+-- where the metadata comes from: the store's bytes spell it, or it is made as it is asked
+abbrev pub IsFrom : Want → Option (List ℕ) → Decided → Type 0
+IsFrom want bytes (Found meta) = (text : List ℕ) × (bytes ≡ Some text) × SpellsMetadata meta text
+IsFrom want bytes (Made meta) = (bytes ≡ None) × (form_made want ≡ Ok meta)
 
 -- the answer where the store has this metadata
 abbrev pub IsFoundAs : Want → Bool → Form → Result Decided OpeningRefusal → Type 0

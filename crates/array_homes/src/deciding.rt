@@ -6,7 +6,7 @@ ghost use Rattle.chunk_forms.specs.Wants.{is_asked_form, mismatch_of};
 ghost use Rattle.history.specs.Arrays.{Known};
 ghost use Rattle.history.specs.Leaves.{Stored};
 ghost use Rattle.history.specs.Outcomes.{outcome_at, unless_differs, there};
-ghost use Rattle.array_homes.specs.Opening.{leaf_at, IsDecision, meta_in, IsChecked, IsFoundAs};
+ghost use Rattle.array_homes.specs.Opening.{leaf_at, IsDecision, meta_in, IsChecked, IsFoundAs, IsFrom};
 
 use crate::forms::first_form;
 use crate::read::{FormReadError, MetaCause, read_form};
@@ -66,6 +66,7 @@ pub fn decide(
 ) -> Result<Decided, OpeningRefusal>
     ensures outcome { (mount path : List ℕ) → IsDecision (leaf_at mount path want.now may_open may_create)
         (option_map (λ b. b.now) bytes.entry) result }
+    ensures source { IfOk result (λ d. IsFrom want.now (option_map (λ b. b.now) bytes.entry) d) }
     ensures asked { IfOk result (λ d. is_asked_form want.now (meta_in d) ≡ true) }
     ensures valid { IfOk result (λ d. IsMetadata (meta_in d)) }
 {
@@ -83,6 +84,7 @@ fn stored(
 ) -> Result<Decided, OpeningRefusal>
     ensures outcome { (mount path : List ℕ) (may_create : Bool)
         → IsDecision (leaf_at mount path want.now may_open may_create) (Some bytes.now) result }
+    ensures source { IfOk result (λ d. IsFrom want.now (Some bytes.now) d) }
     ensures asked { IfOk result (λ d. is_asked_form want.now (meta_in d) ≡ true) }
     ensures valid { IfOk result (λ d. IsMetadata (meta_in d)) }
 {
@@ -97,6 +99,7 @@ fn found(want: &Want, may_open: bool, form: Form) -> Result<Decided, OpeningRefu
     requires asked { is_asked_form want.now form ≡ true }
     requires valid { IsMetadata form }
     ensures outcome { IsFoundAs want.now may_open form result }
+    ensures source { IfOk result (λ d. d ≡ Decided.Found form) }
     ensures asked { IfOk result (λ d. is_asked_form want.now (meta_in d) ≡ true) }
     ensures valid { IfOk result (λ d. IsMetadata (meta_in d)) }
 {
@@ -112,6 +115,7 @@ fn found(want: &Want, may_open: bool, form: Form) -> Result<Decided, OpeningRefu
 fn missing(alloc: Global, want: &Want, may_create: bool) -> Result<Decided, OpeningRefusal>
     ensures outcome { (mount path : List ℕ) (may_open : Bool)
         → IsDecision (leaf_at mount path want.now may_open may_create) None result }
+    ensures source { IfOk result (λ d. IsFrom want.now None d) }
     ensures asked { IfOk result (λ d. is_asked_form want.now (meta_in d) ≡ true) }
     ensures valid { IfOk result (λ d. IsMetadata (meta_in d)) }
 {

@@ -1,7 +1,8 @@
-use Rattle.std.proofs.Common.{◌≡◌, Some, refl, subst}
+use Rattle.std.proofs.Common.{◌≡◌, Some, refl, sym, subst}
+use Rattle.std.proofs.lemmas.Result.{IfOk-weaker}
 use Rattle.history.specs.Leaves.{readable, unreadable}
 use Rattle.history.specs.Outcomes.{bad_metadata, outcome_in_store}
-use Rattle.array_homes.specs.Opening.{leaf_at, IsBadBy}
+use Rattle.array_homes.specs.Opening.{leaf_at, IsBadBy, IsFrom}
 use Rattle.array_homes.proofs.deciding.stored.Goals as goal
 
 pub returns-in-Ok-clause-outcome : goal.returns-in-Ok-clause-outcome
@@ -22,3 +23,7 @@ returns-in-Err-Bad-clause-outcome c = λ mount path may_create other.
 
 pub returns-in-Err-Memory-clause-outcome : goal.returns-in-Err-Memory-clause-outcome
 returns-in-Err-Memory-clause-outcome c = λ mount path may_create other. absurd (other refl)
+
+pub returns-in-Ok-clause-source : goal.returns-in-Ok-clause-source
+returns-in-Ok-clause-source c =
+    IfOk-weaker c.found.result _ _ (λ d is. subst (IsFrom c.args.want.now (Some c.args.bytes.now)) (sym is) (c.args.bytes.now, refl, c.in-Ok.ensures.spells)) c.found.ensures.source
