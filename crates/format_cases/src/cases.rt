@@ -1,6 +1,6 @@
 use crate::fault::Fault;
 use crate::read::word;
-use crate::{forms, json, wants};
+use crate::{forms, homes, json, opening, wants};
 use json_forms::parse;
 use std::alloc::{AllocError, Global};
 
@@ -20,6 +20,12 @@ fn told(alloc: Global, line: &str) -> Result<String, Fault> {
     }
     if let Some(call) = word(&v, "want") {
         return wants::answer(alloc, call, &v);
+    }
+    if let Some(call) = word(&v, "home") {
+        return homes::answer(alloc, call, &v);
+    }
+    if let Some(call) = word(&v, "opening") {
+        return opening::answer(alloc, call, &v);
     }
     if let Some(call) = word(&v, "json") {
         return json::answer(alloc, call, &v);
