@@ -1,4 +1,4 @@
 pub mod Store
-pub mod Slots
+pub mod Table
 pub mod Memory
 pub mod Standing

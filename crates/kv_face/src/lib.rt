@@ -9,8 +9,8 @@ mod calls;
 mod change;
 mod error;
 mod memory;
-mod slots;
 mod store;
+mod table;
 
 pub use calls::CountedCalls;
 pub use change::Change;

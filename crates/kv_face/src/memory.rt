@@ -3,16 +3,15 @@ ghost use Rattle.std.specs.Option.{option_copied};
 ghost use Rattle.std.specs.List.{IsDistinct};
 ghost use Rattle.std.specs.Str.{IsCharBoundary, bytes_eq};
 ghost use Rattle.std.specs.FinMap as finmap;
-ghost use Rattle.kv_face.specs.Slots.{held_by};
+ghost use Rattle.kv_face.specs.Table.{held_by};
 ghost use Rattle.kv_face.specs.Store.{after, keys_of, are_together, takes, opened, finished, failing, OneMore, HasCause};
-ghost use Rattle.kv_face.specs.declared.change.Change.{Change as ChangeOf};
 
 use crate::calls::CountedCalls;
 use crate::change::Change;
 use crate::error::{Failed, KvError};
-use crate::slots::{Slots, clear_all, fill_all, make_all};
 use crate::store::KvStore;
-use cells::List;
+use crate::table::{Table, change_all};
+use cells::{List, Name};
 use std::alloc::{AllocError, Global};
 use std::marker::Model;
 
@@ -25,13 +24,13 @@ enum State {
 
 /// A store in memory, whose calls fail exactly where a test says so.
 ///
-/// It takes every key, and makes all changes together where it is atomic. A `get` and a change of a key take time by the
-/// logarithm of the number of keys, and the memory is that of what is held.
+/// It takes every key, and makes all changes together where it is atomic. A `get` and a change of a key look the key up
+/// once in a hash table, and the memory is that of what is held, and of as many keys as there were at most.
 #[derive(Drop)]
 pub struct MemoryKv {
     alloc: Global,
     atomic: bool,
-    slots: Slots,
+    table: Table,
     state: State,
     change_calls: u64,
     gets: CountedCalls,
@@ -44,7 +43,7 @@ pub struct MemoryKv {
 impl Model for MemoryKv {
     ghost use Rattle.std.specs.Prelude.{◌≤◌};
     ghost use Rattle.kv_face.specs.Memory.{MemoryStore};
-    ghost use Rattle.kv_face.specs.Slots.{held_by};
+    ghost use Rattle.kv_face.specs.Table.{held_by};
     ghost use Rattle.kv_face.specs.Standing.{standing_of};
     ghost use Rattle.std.specs.Coded.{codes};
     ghost use Rattle.kv_face.specs.Store.{contents_code};
@@ -54,7 +53,7 @@ impl Model for MemoryKv {
     ghost coded = { Prim.hlevel (codes, contents_code) };
 
     ghost view = { λ s. record {
-      contents = held_by s.slots.map.entries;
+      contents = held_by s.table.map.entries;
       is_atomic = s.atomic;
       standing = standing_of s.state;
       change_calls = s.change_calls;
@@ -78,7 +77,7 @@ impl MemoryKv {
         MemoryKv {
             alloc,
             atomic,
-            slots: Slots::new(alloc),
+            table: Table::new(alloc),
             state: State::Opened,
             change_calls: 0,
             gets: CountedCalls::new(alloc),
@@ -93,7 +92,7 @@ impl MemoryKv {
     pub fn held(&self, key: &str) -> Option<&[u8]>
         ensures { option_copied result ≡ finmap.get self.now.contents key.now }
     {
-        match self.slots.get(key) {
+        match self.table.get(key) {
             Some(bytes) => Some(bytes.items()),
             None => None,
         }
@@ -136,7 +135,7 @@ impl MemoryKv {
     }
 }
 
-fn copy(alloc: Global, bytes: &Option<List<u8>>) -> Result<Option<List<u8>>, AllocError>
+fn copy_bytes(alloc: Global, bytes: &Option<List<u8>>) -> Result<Option<List<u8>>, AllocError>
     ensures { IfOk result (λ b. b ≡ bytes.now) }
 {
     match bytes {
@@ -145,28 +144,32 @@ fn copy(alloc: Global, bytes: &Option<List<u8>>) -> Result<Option<List<u8>>, All
     }
 }
 
-fn copies(alloc: Global, changes: &[Change]) -> Result<Vec<Option<List<u8>>>, AllocError>
-    ensures { IfOk result (λ v. v.items ≡ map (λ (c : ChangeOf). c.bytes) changes.now) }
+fn copy(alloc: Global, change: &Change) -> Result<Change, AllocError>
+    ensures { IfOk result (λ c. c ≡ change.now) }
+{
+    let bytes = copy_bytes(alloc, &change.bytes)?;
+    let key = Name::wrap(String::from_str(alloc, change.key.items())?);
+    Ok(Change { key, bytes })
+}
+
+fn copies(alloc: Global, changes: &[Change]) -> Result<Vec<Change>, AllocError>
+    ensures { IfOk result (λ v. v.items ≡ changes.now) }
 {
     let mut all = Vec::with_capacity(alloc, changes.len())?;
     for change in changes {
-        all.push(copy(alloc, &change.bytes)?)?;
+        all.push(copy(alloc, change)?)?;
     }
     Ok(all)
 }
 
 /// Makes all changes, or none where memory is wanting.
-fn change(alloc: Global, slots: &mut Slots, changes: &[Change]) -> Result<(), AllocError>
-    ensures ok { OnOk result (held_by slots.new.map.entries ≡ after (held_by slots.old.map.entries) changes.now) }
-    ensures err { OnErr result (held_by slots.new.map.entries ≡ held_by slots.old.map.entries) }
+fn change(alloc: Global, table: &mut Table, changes: &[Change]) -> Result<(), AllocError>
+    ensures ok { OnOk result (held_by table.new.map.entries ≡ after (held_by table.old.map.entries) changes.now) }
+    ensures err { OnErr result (held_by table.new.map.entries ≡ held_by table.old.map.entries) }
 {
-    let copies = copies(alloc, changes)?;
-    let made = make_all(alloc, slots, changes);
-    if made.is_ok() {
-        fill_all(slots, changes, copies);
-    }
-    clear_all(slots, changes);
-    made
+    table.reserve(changes.len())?;
+    change_all(table, copies(alloc, changes)?);
+    Ok(())
 }
 
 impl KvStore for MemoryKv {
@@ -193,7 +196,7 @@ impl KvStore for MemoryKv {
         if self.gets.call() {
             return Err(KvError::Failed);
         }
-        match self.slots.get(key) {
+        match self.table.get(key) {
             Some(bytes) => Ok(Some(Vec::from_slice(self.alloc, bytes.items())?)),
             None => Ok(None),
         }
@@ -217,7 +220,7 @@ impl KvStore for MemoryKv {
             }
             return Err(KvError::Failed);
         }
-        change(self.alloc, &mut self.slots, changes)?;
+        change(self.alloc, &mut self.table, changes)?;
         if !changes.is_empty() {
             self.state = State::Opened;
             if self.change_calls < u64::MAX {
