@@ -1,8 +1,22 @@
-ghost use Rattle.std.specs.Prelude.{◌≡◌, ◌++◌, ◌∷◌, [], OnOk, OnErr};
-ghost use Rattle.kv_face.specs.Memory.{fails, called};
+ghost use Rattle.std.specs.Prelude.{◌≡◌, ◌≤◌, ◌++◌, ◌∷◌, [], OnOk, OnErr};
+ghost use Rattle.kv_face.specs.Memory.{fails, called, counted};
+ghost use Rattle.kv_face.specs.Streams.{HasRisen};
 
 use std::alloc::{AllocError, Global};
 use std::marker::Model;
+
+/// A count of faults after one more, which stops at its last value.
+pub fn one_more(faults: u64) -> u64
+    ensures count { result ≡ counted faults }
+    ensures risen { HasRisen faults result }
+    ensures later { faults ≤ result }
+{
+    if faults < u64::MAX {
+        faults + 1
+    } else {
+        faults
+    }
+}
 
 /// Calls of one kind: how many there were, which of them are to fail, and how many failed.
 ///

@@ -4,4 +4,3 @@ pub mod BadLines
 pub mod Turns
 pub mod Lines
 pub mod Logs
-pub mod Added

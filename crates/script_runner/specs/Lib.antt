@@ -1,4 +1,3 @@
-pub mod Outside
 pub mod Limits
 pub mod Session
 pub mod Solo
@@ -7,5 +6,3 @@ pub mod Kept
 pub mod Progress
 pub mod Top
 pub mod Logged
-pub mod Memory
-pub mod Added

@@ -1,26 +1,10 @@
 // The ends of a real program. They tell no bytes: what a file holds and what a terminal shows is the system's.
 ghost use Rattle.std.specs.Prelude.{◌≡◌, ◌≤◌, None};
-ghost use Rattle.kv_face.specs.Memory.{counted};
-ghost use Rattle.script_runner.specs.Outside.{HasRisen};
 
-use crate::outside::{Scripts, Sink};
-use kv_face::Failed;
+use kv_face::{Failed, Scripts, Sink, one_more};
 use std::fs::{self, Files};
 use std::io::{Print, Read};
 use std::marker::Model;
-
-/// A count of faults after one more, which stops at its last value.
-pub(crate) fn one_more(faults: u64) -> u64
-    ensures count { result ≡ counted faults }
-    ensures risen { HasRisen faults result }
-    ensures later { faults ≤ result }
-{
-    if faults < u64::MAX {
-        faults + 1
-    } else {
-        faults
-    }
-}
 
 /// Scripts that are files, by their paths. A contract sees its count of faults alone.
 #[derive(Drop)]
@@ -52,7 +36,7 @@ impl<R: Files + Drop> FileScripts<R> {
 }
 
 impl<R: Files + Drop> Scripts for FileScripts<R> {
-    ghost content = { λ s name. None };
+    ghost contents = { λ s. None };
 
     ghost left = { λ s. None };
 

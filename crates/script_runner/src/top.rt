@@ -5,23 +5,21 @@ ghost use Rattle.std.specs.Str.{bytes_eq};
 ghost use Rattle.std.specs.FinMap as finmap;
 ghost use Rattle.indexmap.specs.IndexMap.{get_by_text};
 ghost use Rattle.kv_face.specs.Store.{are_together, keys_of};
+ghost use Rattle.kv_face.specs.Streams.{WhereTold, Rises, HasRisen, IsPartOf, IsMissing, script_of};
 ghost use Rattle.kv_face.specs.declared.change.Change.{Change as ChangeOf};
 ghost use Rattle.whole_arrays.specs.Counting.{IsCounted};
 ghost use Rattle.script_lines.specs.AnswerText.{text_of};
 ghost use Rattle.script_lines.specs.Status.{status_of, is_ok_answer};
 ghost use Rattle.script_runner.specs.Failing.{IsWholeRun, IsCutRun, AreRuns};
 ghost use Rattle.script_runner.specs.Kept.{IsReady, IsOverEmpty};
-ghost use Rattle.script_runner.specs.Outside.{WhereTold, Rises, HasRisen, IsPartOf};
 ghost use Rattle.script_runner.specs.Top.{name_of, named_script, HasAnswers, answers_in, IsSoloRun};
 ghost use Rattle.script_runner.specs.Logged.{IsBegunLog, IsWholeLog, AreLogs};
 
-use crate::outside::{Scripts, Sink, write_all};
-use crate::reading::{ReadError, read_script};
 use crate::session::Session;
 use crate::step::step;
 use cells::List;
 use indexmap::IndexMap;
-use kv_face::KvStore;
+use kv_face::{KvStore, ReadError, Scripts, Sink, read_script, write_all};
 use script_lines::{Answer, Body, cut, is_blank, is_ok, render};
 use whole_arrays::{Event, State};
 use std::alloc::{AllocError, Global};
@@ -225,16 +223,16 @@ pub fn run<S: Scripts, O: Sink, K: KvStore>(
     ensures unopened { result.0.status ≡ 2 → scripts.new ≡ scripts.old }
     // Without a fault of the store, what was written and what happened is what one session on plain arrays gives.
     ensures solo { (name : List ℕ) → named_script words.now ≡ Some name → HasAnswers result.0.status → K.faults result.1 ≡ K.faults store
-        → WhereTold (S.content scripts.old name) (λ script. WhereTold (O.content sink.old) (λ before. IsSoloRun script result.0 before (O.content sink.new))) }
+        → WhereTold (script_of (S.contents scripts.old) name) (λ script. WhereTold (O.content sink.old) (λ before. IsSoloRun script result.0 before (O.content sink.new))) }
     // Under every status the log and the history are those of the session at some of whose lines the store failed, at no more
     // of them than its count of faults rose by. Only where memory was wanting do they end before the script does.
     ensures runs { (name : List ℕ) → named_script words.now ≡ Some name
-        → WhereTold (S.content scripts.old name) (λ script. AreRuns script result.0.status (K.faults store) (K.faults result.1) result.0.history result.0.logs) }
+        → WhereTold (script_of (S.contents scripts.old) name) (λ script. AreRuns script result.0.status (K.faults store) (K.faults result.1) result.0.history result.0.logs) }
     // The store's number of changes, where it tells it, rose by one for each event that changes the store.
     ensures changes { IsCounted finmap.empty (K.change_count store) (K.change_count result.1) result.0.history }
     // Under every status the log answers lines in order; all of them where memory was there.
     ensures log { (name : List ℕ) → named_script words.now ≡ Some name
-        → WhereTold (S.content scripts.old name) (λ script. AreLogs script result.0.status result.0.logs) }
+        → WhereTold (script_of (S.contents scripts.old) name) (λ script. AreLogs script result.0.status result.0.logs) }
     ensures answers { HasAnswers result.0.status → result.0.status ≡ status_of (answers_in result.0.logs) }
     // What was written is the text of the log, or a beginning of it where the sink failed.
     ensures written { HasAnswers result.0.status → WhereTold (O.content sink.old) (λ before. O.content sink.new ≡ Some (before ++ text_of (answers_in result.0.logs))) }
@@ -248,10 +246,12 @@ pub fn run<S: Scripts, O: Sink, K: KvStore>(
     // Without a log nothing was run or written.
     ensures unstarted { result.0.logs ≡ [] → (result.0.history ≡ []) × (sink.new ≡ sink.old) × (result.1 ≡ store) }
     ensures nothing { (result.0.status ≡ 2) ⊎ (result.0.status ≡ 3) → result.0.logs ≡ [] }
+    // Where scripts are told and none has the name, none is read.
+    ensures missing { (name : List ℕ) → named_script words.now ≡ Some name → IsMissing (S.contents scripts.old) name → result.0.status ≡ 3 }
     // A script is not read only where the scripts failed or it is too long.
     ensures unread { result.0.status ≡ 3 → (name : List ℕ) → named_script words.now ≡ Some name
-        → HasRisen (S.faults scripts.old) (S.faults scripts.new) ⊎ WhereTold (S.content scripts.old name) (λ script. 67108864 < length script) }
-    ensures content { S.content scripts.new ≡ S.content scripts.old }
+        → HasRisen (S.faults scripts.old) (S.faults scripts.new) ⊎ WhereTold (script_of (S.contents scripts.old) name) (λ script. 67108864 < length script) }
+    ensures contents { S.contents scripts.new ≡ S.contents scripts.old }
     ensures reading { S.faults scripts.old ≤ S.faults scripts.new }
     ensures place { result.0.script ≡ (if result.0.status == 3 then Some 0 else None) }
     // Answers are not written only where the sink failed.

@@ -5,7 +5,7 @@ use Rattle.std.specs.Map.{lookup}
 use Rattle.indexmap.specs.IndexMap.{get_by_text}
 use Rattle.script_lines.specs.AnswerText.{text_of}
 use Rattle.script_lines.specs.declared.answer.Answer.{Answer}
-use Rattle.script_runner.specs.Outside.{IsPartOf}
+use Rattle.kv_face.specs.Streams.{IsPartOf}
 use Rattle.script_lines.specs.Status.{status_of}
 use Rattle.script_runner.specs.Solo.{Run, single_session}
 use Rattle.script_runner.specs.Top.{HasAnswers, answers_in}

@@ -1,5 +1,17 @@
 -- What scripts and a sink mean: bytes, where they are told.
-use Rattle.std.specs.Prelude.{◌≡◌, ◌≤◌, ◌<◌, ◌⊎◌, ◌^◌, ◌-◌, ℕ, List, [], ◌++◌, length, take, drop, Option, Some}
+use Rattle.std.specs.Prelude.{◌≡◌, ◌≤◌, ◌<◌, ◌⊎◌, ◌^◌, ◌-◌, ℕ, List, [], ◌++◌, length, take, drop, Option, Some, None}
+use Rattle.std.specs.FinMap as finmap
+use Rattle.kv_face.specs.Store.{Contents}
+
+-- the script of a name, where scripts are told and there is one
+abbrev pub script_of : Option Contents → List ℕ → Option (List ℕ)
+script_of None name = None
+script_of (Some scripts) name = finmap.get scripts name
+
+-- scripts are told, and none has the name
+abbrev pub IsMissing : Option Contents → List ℕ → Type 0
+IsMissing None name = ⊥
+IsMissing (Some scripts) name = finmap.get scripts name ≡ None
 
 -- n bytes of what is left came into the buffer; none came only at the end
 pub record TakesBytes (left : List ℕ) (n : ℕ) (buf : List ℕ) (after : Option (List ℕ)) : Type 0 where

@@ -2,7 +2,7 @@
 use Rattle.std.specs.Prelude.{ℕ, List, [], fold, drop, slice_get, Option, Some, None}
 use Rattle.std.specs.FinMap as finmap
 use Rattle.kv_face.specs.Store.{Contents}
-use Rattle.script_runner.specs.declared.memory.Script.{Script}
+use Rattle.kv_face.specs.declared.scripts.Script.{Script}
 
 -- the map with a script, whose name may be there already
 abbrev pub with_script : Contents → Script → Contents

@@ -1,10 +1,10 @@
 use Rattle.std.proofs.Common.{◌≡◌, ap, ◌∙◌, ◌++◌, ◌∷◌, []}
 use Rattle.std.specs.FinMap as finmap
-use Rattle.script_runner.specs.Added.{scripts_of, left_of}
-use Rattle.script_runner.specs.declared.memory.Script.{Script}
-use Rattle.script_runner.specs.Memory.{ScriptsInMemory}
-use Rattle.script_runner.proofs.Added.{scripts_more, left_stays}
-use Rattle.script_runner.proofs.memory.MemoryScripts.add.Goals as goal
+use Rattle.kv_face.specs.Added.{scripts_of, left_of}
+use Rattle.kv_face.specs.declared.scripts.Script.{Script}
+use Rattle.kv_face.specs.MemoryStreams.{ScriptsInMemory}
+use Rattle.kv_face.proofs.Added.{scripts_more, left_stays}
+use Rattle.kv_face.proofs.scripts.MemoryScripts.add.Goals as goal
 
 pub returns-clause-ok : goal.returns-clause-ok
 returns-clause-ok c =

@@ -1,13 +1,14 @@
 // Where scripts come from and where answers go.
 ghost use Rattle.std.specs.Prelude.{◌≡◌, ◌≤◌, ◌<◌, ◌++◌, ℕ, List, length, take, Option, Some, None, IfOk, OnOk, OnErr, IsErr};
-ghost use Rattle.script_runner.specs.Outside.{TakesBytes, WhereTold, Rises, IsPartOf};
+ghost use Rattle.kv_face.specs.Store.{Contents};
+ghost use Rattle.kv_face.specs.Streams.{TakesBytes, WhereTold, Rises, IsPartOf, IsMissing, script_of};
 
-use kv_face::Failed;
+use crate::error::Failed;
 
 /// Scripts under names.
 pub trait Scripts {
-    /// The bytes of each script, where they are told.
-    ghost content: { Self → List ℕ → Option (List ℕ) };
+    /// The scripts under their names, where they are told.
+    ghost contents: { Self → Option Contents };
 
     /// What is left of the script that is read, where it is told.
     ghost left: { Self → Option (List ℕ) };
@@ -18,10 +19,12 @@ pub trait Scripts {
     /// Goes to the start of a script.
     ///
     /// # Errors
-    /// `Failed` where the script can't be read; the count of faults rose, unless it stands at its last value.
+    /// `Failed` where there is no script of that name, or it can't be read; the count of faults rose, unless it stands at its
+    /// last value.
     fn select(&mut self, name: &str) -> Result<(), Failed>
-        ensures content { content self.new ≡ content self.old }
-        ensures left { OnOk result (left self.new ≡ content self.old name.now) }
+        ensures contents { contents self.new ≡ contents self.old }
+        ensures missing { IsMissing (contents self.old) name.now → IsErr result }
+        ensures left { OnOk result (left self.new ≡ script_of (contents self.old) name.now) }
         ensures cause { Rises (faults self.old) (faults self.new) (IsErr result) };
 
     /// Reads some bytes of the script into the front of the buffer, and says how many; none at the end alone.
@@ -30,7 +33,7 @@ pub trait Scripts {
     /// `Failed` where the script can't be read on; the count of faults rose, unless it stands at its last value.
     fn next(&mut self, buf: &mut [u8]) -> Result<usize, Failed>
         requires { 0 < length buf.old }
-        ensures content { content self.new ≡ content self.old }
+        ensures contents { contents self.new ≡ contents self.old }
         ensures within { IfOk result (λ n. n ≤ length buf.new) }
         ensures bytes { IfOk result (λ n. WhereTold (left self.old)
             (λ bytes. TakesBytes bytes n buf.new (left self.new))) }
@@ -61,7 +64,7 @@ pub trait Sink {
 }
 
 /// Writes all of a text, or a front part of it.
-pub(crate) fn write_all<O: Sink>(sink: &mut O, text: &[u8]) -> Result<(), Failed>
+pub fn write_all<O: Sink>(sink: &mut O, text: &[u8]) -> Result<(), Failed>
     ensures all { OnOk result (WhereTold (O.content sink.old)
         (λ bytes. O.content sink.new ≡ Some (bytes ++ text.now))) }
     ensures part { WhereTold (O.content sink.old) (λ bytes. IsPartOf (O.content sink.new) bytes text.now) }

@@ -1,8 +1,8 @@
 use Rattle.std.proofs.Common.{◌≡◌, ◌<◌, length, take}
 use Rattle.std.specs.Prelude.{IfSome, option_map, slice_get}
 use Rattle.std.specs.FinMap as finmap
-use Rattle.script_runner.specs.Added.{scripts_of, bytes_of}
-use Rattle.script_runner.proofs.memory.place_of.Given as goal
+use Rattle.kv_face.specs.Added.{scripts_of, bytes_of}
+use Rattle.kv_face.proofs.scripts.place_of.Given as goal
 
 -- the place of the last script of the name so far
 abbrev pub invariant-loop-i : goal.invariant-loop-i

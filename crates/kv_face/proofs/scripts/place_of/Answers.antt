@@ -1,9 +1,9 @@
 use Rattle.std.proofs.Common.{◌≡◌, ◌<◌, sym, ap, ◌∙◌, bytes_eq, length, arith}
 use Rattle.std.specs.FinMap as finmap
-use Rattle.script_runner.specs.declared.memory.Script.{Script}
-use Rattle.script_runner.proofs.Added.{last_here, last_before}
-use Rattle.script_runner.proofs.memory.place_of.Goals.{then-eq, else-eq}
-use Rattle.script_runner.proofs.memory.place_of.Goals as goal
+use Rattle.kv_face.specs.declared.scripts.Script.{Script}
+use Rattle.kv_face.proofs.Added.{last_here, last_before}
+use Rattle.kv_face.proofs.scripts.place_of.Goals.{then-eq, else-eq}
+use Rattle.kv_face.proofs.scripts.place_of.Goals as goal
 
 pub loop-i-init : goal.loop-i-init
 loop-i-init c = record { bytes = sym (finmap.get-empty _ c.args.name.now); within = tt }

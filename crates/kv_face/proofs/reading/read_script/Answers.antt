@@ -1,6 +1,6 @@
 use Rattle.std.proofs.Common.{◌≡◌, ◌++◌, sym, ap, ◌∙◌, take, drop, append_assoc, append-nil, length, arith, length-append, ◌+◌}
 use Rattle.std.proofs.lemmas.List.{take-append-drop}
-use Rattle.script_runner.proofs.reading.read_script.Goals as goal
+use Rattle.kv_face.proofs.reading.read_script.Goals as goal
 
 pub returns-then-n-eq0-clause-all : goal.returns-then-n-eq0-clause-all
 returns-then-n-eq0-clause-all g c = λ bytes is.
@@ -21,6 +21,6 @@ loop-n-preserved g c = record {
       let n = c.in-Ok.n in
       let grown : length c.extend_from_slice.new.self.items ≡ length c.loop-n.bytes.items + n = ap length c.in_ok-extend_from_slice.ensures.items ∙ length-append c.loop-n.bytes.items c.split_at.result.0.now ∙ ap (λ m. length c.loop-n.bytes.items + m) c.split_at.ensures.front_len in
       omega (arith, grown, c.len.ensures, c.if-n-len.false, c.loop-n.invariant.size);
-  content = c.next.ensures.content ∙ c.loop-n.invariant.content;
+  contents = c.next.ensures.contents ∙ c.loop-n.invariant.contents;
   later = omega (arith, c.next.ensures.cause.later, c.loop-n.invariant.later);
 }

@@ -1,6 +1,6 @@
 use Rattle.std.proofs.Common.{◌≡◌, ◌≤◌, ◌++◌, Some, length, List, ℕ}
-use Rattle.script_runner.specs.Outside.{WhereTold}
-use Rattle.script_runner.proofs.outside.write_all.Given as goal
+use Rattle.kv_face.specs.Streams.{WhereTold}
+use Rattle.kv_face.proofs.streams.write_all.Given as goal
 
 abbrev pub invariant-loop-rest : goal.invariant-loop-rest
 invariant-loop-rest g l = record {

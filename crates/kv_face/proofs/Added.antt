@@ -5,9 +5,9 @@ use Rattle.std.specs.FinMap as finmap
 use Rattle.std.proofs.lemmas.Grind.{fold-append}
 use Rattle.std.proofs.lemmas.List.{take_more}
 use Rattle.std.proofs.lemmas.Option.{slice_get-get_or}
-use Rattle.kv_face.proofs.Laws.{get-put_bytes}
-use Rattle.script_runner.specs.Added.{with_script, scripts_of, bytes_of, left_of}
-use Rattle.script_runner.specs.declared.memory.Script.{Script}
+use Rattle.kv_face.proofs.Changes.{get-put_bytes}
+use Rattle.kv_face.specs.Added.{with_script, scripts_of, bytes_of, left_of}
+use Rattle.kv_face.specs.declared.scripts.Script.{Script}
 
 pub scripts_more : (scripts : List Script) (s : Script) → scripts_of (scripts ++ s ∷ []) ≡ with_script (scripts_of scripts) s
 scripts_more scripts s = fold-append with_script finmap.empty scripts (s ∷ [])
