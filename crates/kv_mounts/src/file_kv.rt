@@ -10,8 +10,8 @@ use std::marker::Model;
 /// A store of files: a key is the path of a file below a folder, and an absent key has no file.
 ///
 /// Bytes are written beside the file, under its name with `~new` behind, flushed, and take its place. Folders are made as they
-/// are needed. A key of which a part is empty, `.` or `..`, or that ends in `~new`, fails. Changes are made one at a time. Each
-/// error of the system is a fault; that a file is missing isn't one. What the files hold no contract tells.
+/// are needed. A key of which a part between "/" is empty, `.` or `..`, or ends in `~new`, fails. Changes are made one at a time.
+/// Each error of the system is a fault; that a file is missing isn't one. What the files hold no contract tells.
 #[derive(Drop)]
 pub struct FileKv<R: Files + AllocGlobal + Drop> {
     rt: R,

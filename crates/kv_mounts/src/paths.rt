@@ -1,16 +1,40 @@
 // Files below a folder, by keys.
+ghost use Rattle.std.specs.Prelude.{◌≡◌, codes, false, nat_eq, Err};
+ghost use Rattle.std.specs.List.{ends_with};
+ghost use Rattle.kv_mounts.specs.Files.{is_inside, is_part, is_step};
+
 use kv_face::KvError;
 use std::alloc::{AllocError, Global};
 use std::fs::{self, Files, OpenFile};
 use std::io::{self, ErrorKind, Read, Write};
 
-// Whether the key names a file below the folder: no part of it is empty, "." or "..", and it isn't a name beside which a
-// file is written.
-fn is_inside(key: &str) -> bool {
-    !key.ends_with("~new")
-        && key
-            .split('/')
-            .all(|part| !part.is_empty() && part != "." && part != "..")
+// Whether the key names a file below the folder, by what its parts are.
+fn is_inside(key: &str) -> bool
+    ensures { result ≡ is_inside key.now }
+{
+    key.split('/').all(|part| is_part(part))
+}
+
+// Whether a part of a key may name a file or a folder: it names no folder by where it stands, and isn't a name under which the
+// bytes of another key are written first.
+fn is_part(part: &str) -> bool
+    ensures { result ≡ is_part part.now }
+{
+    if is_step(part) { false } else { !is_new(part) }
+}
+
+// Whether it is empty, "." or "..".
+fn is_step(part: &str) -> bool
+    ensures { result ≡ is_step part.now }
+{
+    part.is_empty() || part == "." || part == ".."
+}
+
+// Whether it ends in "~new".
+fn is_new(part: &str) -> bool
+    ensures { result ≡ ends_with nat_eq part.now (codes "~new") }
+{
+    part.ends_with("~new")
 }
 
 fn path_of(alloc: Global, root: &str, key: &str, ending: &str) -> Result<String, AllocError> {
@@ -30,7 +54,9 @@ pub(crate) fn read_file<R: Files + AllocGlobal>(
     rt: &R,
     root: &str,
     key: &str,
-) -> Result<Option<Vec<u8>>, KvError> {
+) -> Result<Option<Vec<u8>>, KvError>
+    ensures outside { is_inside key.now ≡ false → result ≡ Err KvError.Failed }
+{
     if !is_inside(key) {
         return Err(KvError::Failed);
     }
@@ -62,7 +88,9 @@ pub(crate) fn put_file<R: Files + AllocGlobal>(
     root: &str,
     key: &str,
     bytes: &[u8],
-) -> Result<(), KvError> {
+) -> Result<(), KvError>
+    ensures outside { is_inside key.now ≡ false → result ≡ Err KvError.Failed }
+{
     if !is_inside(key) {
         return Err(KvError::Failed);
     }
@@ -112,7 +140,9 @@ pub(crate) fn remove_file<R: Files + AllocGlobal>(
     rt: &R,
     root: &str,
     key: &str,
-) -> Result<(), KvError> {
+) -> Result<(), KvError>
+    ensures outside { is_inside key.now ≡ false → result ≡ Err KvError.Failed }
+{
     if !is_inside(key) {
         return Err(KvError::Failed);
     }
