@@ -24,6 +24,7 @@ bin/bench_chunks: crates.txt $(wildcard crates/*/src/*.rt crates/*/specs/*.antt 
 
 bench: bin/tensor_run bin/bench_views bin/bench_chunks
 	bench/run.sh bin/tensor_run
+	bench/stores.sh bin/tensor_run
 	bench/views.sh bin/bench_views
 	bench/chunks.sh bin/bench_chunks
 
