@@ -24,7 +24,8 @@ use Rattle.stack_targets.proofs.Meeting.{agrees}
 pub leaf_node : (array : Reference) (t : DomainAndMaps) → IsView (view.Leaf array t) → length t.maps ≡ length array.shape
 leaf_node array t h = subst IsNode (view.outs-Leaf array t) (every_here-View IsNode (view.Leaf array t) h)
 
-layer_at : (P : View → Type 0) (layers : List View) (k : ℕ) (d : View) → k < length layers → AllByRecursion P layers → P (get_or layers k d)
+-- what holds of each layer holds of the layer at a place
+pub layer_at : (P : View → Type 0) (layers : List View) (k : ℕ) (d : View) → k < length layers → AllByRecursion P layers → P (get_or layers k d)
 layer_at P [] k d h all = absurd (omega arith)
 layer_at P (l ∷ ls) zero d h all = all.0
 layer_at P (l ∷ ls) (suc k) d h all = layer_at P ls k d (omega (arith, h)) all.1

@@ -5,4 +5,5 @@ pub mod Shapes
 pub mod Layers
 pub mod Reached
 pub mod Gathered
+pub mod Named
 pub mod Laws

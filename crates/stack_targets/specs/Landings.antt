@@ -118,3 +118,9 @@ pub record IsInside (inside : Result (List ℕ) ℕ) (before now : List ℕ) : T
   pub index : List ℕ
   pub is : inside ≡ Ok index
   pub put : now ≡ before ++ index
+
+-- a leaf of a stack is this one of a layer, by its place and the leaf's number among the layer's own
+pub record IsLeafOfLayer (layers : List View) (leaf place own : ℕ) : Type 0 where
+  pub inside : place < length layers
+  pub is : leaf ≡ length (all_leaves (map ground_of (take place layers))) + own
+  pub own_leaf : (d : View) → own < length (leaves_of (slice_index_or layers place d))

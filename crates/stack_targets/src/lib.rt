@@ -7,8 +7,10 @@
 mod buffers;
 mod error;
 mod landing;
+mod naming;
 mod targeting;
 
 pub use buffers::Targets;
 pub use error::TargetsError;
+pub use naming::{array_at, casts_at};
 pub use targeting::targets;

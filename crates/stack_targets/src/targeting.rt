@@ -14,11 +14,11 @@ use crate::landing::land;
 use cells::List;
 use index_transform::Walk;
 use stack_driver::{TargetError, View, leaves, transform_of};
-use std::alloc::Global;
+use std::alloc::{AllocError, Global};
 
 /// Where each cell of a view lies, whose domain is finite by its bounds as they stand.
 ///
-/// No memory is taken for a cell by itself: the buffers grow as lists do.
+/// No memory is taken for a cell by itself.
 ///
 /// # Errors
 ///
@@ -80,14 +80,24 @@ fn gathered(
     ensures landings { IfOk result (λ t. all_landings v.now ≡ Ok (told_landings (leaves_of v.now) t.leaves t.numbers)) }
     ensures err { IfErr result (λ e. e ≢ TargetsError.Memory → all_targets v.now ≡ Err e) }
 {
-    let mut buffers = Buffers {
-        leaves: Vec::new(alloc),
-        numbers: Vec::new(alloc),
-    };
+    let mut buffers = room_for(alloc, v)?;
     match gather(v, walk, index, &mut buffers) {
         Ok(()) => Ok(told(buffers)),
         Err(e) => Err(e),
     }
+}
+
+// Empty buffers, with room for the leaves and indices of as many cells as the domain has.
+fn room_for(alloc: Global, v: &View) -> Result<Buffers, AllocError>
+    ensures leaves { IfOk result (λ b. b.leaves.items ≡ []) }
+    ensures numbers { IfOk result (λ b. b.numbers.items ≡ []) }
+{
+    let domain = transform_of(v);
+    let cells = domain.count().unwrap_or(0) as usize;
+    let rank = domain.domain().dims.items().len();
+    let leaves = Vec::with_capacity(alloc, cells)?;
+    let numbers = Vec::with_capacity(alloc, cells.saturating_mul(rank))?;
+    Ok(Buffers { leaves, numbers })
 }
 
 fn told(buffers: Buffers) -> Targets
