@@ -4,6 +4,7 @@ ghost use Rattle.cells.specs.Shapes.{IsShape};
 ghost use Rattle.index_intervals.specs.Bounds.{Bounds};
 ghost use Rattle.index_transform.specs.Values.{value_at};
 ghost use Rattle.stack_driver.specs.Conditions.{IsView};
+ghost use Rattle.stack_driver.specs.Counts.{leaves_of as leaf_count};
 ghost use Rattle.stack_driver.specs.Targets.{IsOutside, has_index, in_shape};
 ghost use Rattle.stack_driver.specs.Views.{look_of};
 ghost use Rattle.stack_targets.specs.Landings.{IsInside, IsLastLayer, IsPut, all_leaves, first_landing, ground_of, landing_of, leaves_of};
@@ -102,9 +103,20 @@ fn leaves_in(layers: &[View]) -> u32
 {
     let mut count = 0u32;
     for layer in layers {
-        count = count.saturating_add(leaves(layer));
+        count = count.saturating_add(leaves_of_layer(layer));
     }
     count
+}
+
+// How many leaves a layer has: an array is one.
+fn leaves_of_layer(layer: &View) -> u32
+    ensures { result ≡ min (leaf_count layer.now) 4294967295 }
+{
+    match layer {
+        View::Leaf { .. } => 1,
+        View::Cast { .. } => leaves(layer),
+        View::Stack { .. } => leaves(layer),
+    }
 }
 
 // The same in an array, which is the first leaf of its view.

@@ -12,5 +12,5 @@ mod targeting;
 
 pub use buffers::Targets;
 pub use error::TargetsError;
-pub use naming::{array_at, casts_at};
+pub use naming::{array_at, casts_at, has_leaf};
 pub use targeting::targets;

@@ -1,5 +1,5 @@
 // The array and the casts of a leaf, by its number.
-ghost use Rattle.std.specs.Prelude.{◌≡◌, ◌<◌, ◌+◌, ◌++◌, ◌∷◌, [], length, map, take, slice_index_or, IfOk};
+ghost use Rattle.std.specs.Prelude.{◌≡◌, ◌<◌, ◌≤◌, ◌+◌, ◌++◌, ◌∷◌, [], length, map, take, slice_index_or, false, IfOk, IsTrue};
 ghost use Rattle.stack_driver.specs.Conditions.{IsView};
 ghost use Rattle.stack_driver.specs.Targets.{LeadTo};
 ghost use Rattle.stack_driver.specs.Views.{look_of};
@@ -9,6 +9,16 @@ use cast_driver::{Cast, Chain};
 use cells::Dtype;
 use stack_driver::{ArrayRef, View, dtype, leaves};
 use std::alloc::{AllocError, Global};
+
+/// Whether a view has a leaf of this number, and fewer than 2^32 - 1 leaves.
+pub fn has_leaf(v: &View, leaf: u32) -> bool
+    ensures has { IsTrue result → leaf < length (leaves_of v.now) }
+    ensures few { IsTrue result → length (leaves_of v.now) < 4294967295 }
+    ensures lacks { result ≡ false → length (leaves_of v.now) < 4294967295 → length (leaves_of v.now) ≤ leaf }
+{
+    let all = leaves(v);
+    all < u32::MAX && leaf < all
+}
 
 /// The array of a leaf of a view, by the leaf's number.
 pub fn array_at(v: &View, leaf: u32) -> &ArrayRef

@@ -7,6 +7,6 @@ pub loop-layer-preserved : goal.loop-layer-preserved
 loop-layer-preserved c =
     let layers = c.args.layers.now in
     let k = c.loop-layer.layer-index in
-    c.saturating_add-count.ensures ∙ ap (λ n. min (n + c.leaves.result) 4294967295) c.loop-layer.invariant
-    ∙ ap (λ n. min (min (length (all_leaves (map ground_of (take k layers)))) 4294967295 + n) 4294967295) c.leaves.ensures
+    c.saturating_add-count.ensures ∙ ap (λ n. min (n + c.leaves_of_layer.result) 4294967295) c.loop-layer.invariant
+    ∙ ap (λ n. min (min (length (all_leaves (map ground_of (take k layers)))) 4294967295 + n) 4294967295) c.leaves_of_layer.ensures
     ∙ counted-more layers k c.layer-item.result c.loop-layer-test.true c.layer-item.is
