@@ -22,11 +22,17 @@ bin/bench_chunks: crates.txt $(wildcard crates/*/src/*.rt crates/*/specs/*.antt 
 	mkdir -p bin
 	cp crates/bench_chunks/out/bench_chunks bin/bench_chunks
 
-bench: bin/tensor_run bin/bench_views bin/bench_chunks
+bin/bench_stacks: crates.txt $(wildcard crates/*/src/*.rt crates/*/specs/*.antt crates/*/proofs/*.antt)
+	cd crates/bench_stacks && rt run -- row 1 > "$(CURDIR)/build.log" 2>&1
+	mkdir -p bin
+	cp crates/bench_stacks/out/bench_stacks bin/bench_stacks
+
+bench: bin/tensor_run bin/bench_views bin/bench_chunks bin/bench_stacks
 	bench/run.sh bin/tensor_run
 	bench/stores.sh bin/tensor_run
 	bench/views.sh bin/bench_views
 	bench/chunks.sh bin/bench_chunks
+	bench/stacks.sh bin/bench_stacks
 
 test:
 	rt ci
