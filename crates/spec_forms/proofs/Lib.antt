@@ -1,0 +1,3 @@
+mod Slashes
+mod Rows
+mod GivenLaws
