@@ -1,0 +1,5 @@
+mod Told
+mod Trees
+mod Fits
+mod Rooms
+mod BuiltLaws

@@ -1,0 +1,4 @@
+pub mod Nodes
+pub mod Specs
+pub mod Conditions
+pub mod Built
