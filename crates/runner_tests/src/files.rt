@@ -2,6 +2,7 @@
 use crate::stores::change;
 use kv_face::{KvError, KvStore};
 use kv_mounts::FileKv;
+use std::os::unix::fs::{PermissionsExt, symlink};
 use std::process::Abort;
 use std::test::Fail;
 use std::{fs, slice};
@@ -72,6 +73,7 @@ fn keys_stay_below_the_folder(rt: HostRuntime) -> Result<(), Fail> {
     assert!(rt; put(rt, &mut store, "/x", Some(b"1"))? == Err(KvError::Failed));
     assert!(rt; put(rt, &mut store, "a/./x", Some(b"1"))? == Err(KvError::Failed));
     assert!(rt; put(rt, &mut store, "x~new", Some(b"1"))? == Err(KvError::Failed));
+    assert!(rt; put(rt, &mut store, "x~new/y", Some(b"1"))? == Err(KvError::Failed));
     assert!(rt; put(rt, &mut store, "", Some(b"1"))? == Err(KvError::Failed));
     assert!(rt; get_fails(&mut store, "../x"));
     assert!(rt; get_fails(&mut store, ""));
@@ -90,5 +92,55 @@ fn folders_and_files_in_the_way_are_faults(rt: HostRuntime) -> Result<(), Fail> 
     assert!(rt; put(rt, &mut store, "a/b/c", Some(b"2"))? == Err(KvError::Failed));
     assert!(rt; has(&mut store, "a/b", Some(b"1")));
     fs::remove_dir_all(&rt, "runner_tests_way")?;
+    Ok(())
+}
+
+// Sets the permissions of a file or folder.
+fn set_mode(rt: HostRuntime, path: &str, mode: u32) -> Result<(), Fail> {
+    let mut permissions = fs::metadata(&rt, path)?.permissions();
+    permissions.set_mode(mode);
+    fs::set_permissions(&rt, path, permissions)?;
+    Ok(())
+}
+
+// Whether calls fail on a file that may not be read, in a folder that may not be written.
+fn closed_fails(rt: HostRuntime, store: &mut FileKv<HostRuntime>) -> Result<bool, Fail> {
+    let replaced = put(rt, store, "a/b", Some(b"2"))?.is_ok();
+    let removed = put(rt, store, "a/b", None)?.is_ok();
+    let kept = has(store, "a/b", Some(b"1"));
+    set_mode(rt, "runner_tests_closed/a/b", 0)?;
+    Ok(!replaced && !removed && kept && get_fails(store, "a/b"))
+}
+
+#[test]
+fn want_of_permission_is_a_fault(rt: HostRuntime) -> Result<(), Fail> {
+    let mut store = FileKv::new(rt, "runner_tests_closed")?;
+    assert!(rt; put(rt, &mut store, "a/b", Some(b"1"))? == Ok(()));
+    set_mode(rt, "runner_tests_closed/a", 0o555)?;
+    if fs::write(&rt, "runner_tests_closed/a/c", "").is_ok() {
+        println!(rt; "want of permission isn't tried: whoever runs this may write everywhere")?;
+    } else {
+        assert!(rt; closed_fails(rt, &mut store)?);
+    }
+    set_mode(rt, "runner_tests_closed/a", 0o755)?;
+    fs::remove_dir_all(&rt, "runner_tests_closed")?;
+    Ok(())
+}
+
+#[test]
+fn a_full_device_is_a_fault(rt: HostRuntime) -> Result<(), Fail> {
+    if fs::metadata(&rt, "/dev/full").is_err() {
+        println!(rt; "a full device isn't tried: this machine has none")?;
+        return Ok(());
+    }
+    let mut store = FileKv::new(rt, "runner_tests_full")?;
+    assert!(rt; put(rt, &mut store, "a", Some(b"1"))? == Ok(()));
+    symlink(&rt, "/dev/full", "runner_tests_full/a~new")?;
+    assert!(rt; put(rt, &mut store, "a", Some(b"2"))? == Err(KvError::Failed));
+    assert!(rt; has(&mut store, "a", Some(b"1")));
+    assert!(rt; fs::symlink_metadata(&rt, "runner_tests_full/a~new").is_err());
+    assert!(rt; put(rt, &mut store, "a", Some(b"3"))? == Ok(()));
+    assert!(rt; has(&mut store, "a", Some(b"3")));
+    fs::remove_dir_all(&rt, "runner_tests_full")?;
     Ok(())
 }

@@ -1,16 +1,22 @@
 // A store in memory whose calls fail where a test names them.
+ghost use Rattle.std.specs.Prelude.{◌≡◌, IfOk};
+
 use cells::{List, Name};
 use kv_face::{Change, KvError, KvStore, MemoryKv};
 use std::alloc::{AllocError, Global};
 use std::process::Abort;
 use std::test::Fail;
 
-pub(crate) fn change(alloc: Global, key: &str, bytes: Option<&[u8]>) -> Result<Change, AllocError> {
+pub(crate) fn change(alloc: Global, key: &str, bytes: Option<&[u8]>) -> Result<Change, AllocError>
+    ensures { IfOk result (λ c. c.key ≡ key.now) }
+{
     let key = String::from_str(alloc, key)?;
     change_of(alloc, Name::wrap(key), bytes)
 }
 
-fn change_of(alloc: Global, key: Name, bytes: Option<&[u8]>) -> Result<Change, AllocError> {
+fn change_of(alloc: Global, key: Name, bytes: Option<&[u8]>) -> Result<Change, AllocError>
+    ensures { IfOk result (λ c. c.key ≡ key) }
+{
     let bytes = match bytes {
         Some(bytes) => Some(List::wrap(Vec::from_slice(alloc, bytes)?)),
         None => None,
@@ -99,4 +105,15 @@ fn changes_come_one_at_a_time_where_the_store_is_not_atomic(rt: HostRuntime) -> 
     let store = MemoryKv::new(rt.alloc(), false);
     assert!(rt; are_apart(rt.alloc(), &store)?);
     Ok(())
+}
+
+// A value that may go to another thread.
+fn may_go<T: Send>(_value: &T) -> bool {
+    true
+}
+
+#[test]
+fn a_store_in_memory_may_go_to_another_thread(rt: HostRuntime) {
+    let store = MemoryKv::new(rt.alloc(), true);
+    assert!(rt; may_go(&store));
 }
