@@ -10,6 +10,7 @@ use serde_json::Value;
 use stack_driver::{
     TargetError, View, array_of, casts, contains, copy, depth, dtype, leaves, target, transform_of,
 };
+use stack_targets::{TargetsError, array_at, casts_at, has_leaf, targets};
 use std::alloc::Global;
 use std::fmt::Debug;
 use transform_json::write_transform;
@@ -25,6 +26,8 @@ pub(crate) fn asked(alloc: Global, view: &View, call: &str, v: &Value) -> Result
         "array" => told(alloc, &array_of(view)),
         "down" => downsampled(alloc, view, v),
         "ops" => shared(&one_write(alloc, view)?, alloc),
+        "targets" => all_targets(alloc, view),
+        "leaf" => leaf_told(alloc, view, member(v, "leaf")?.as_u64().ok_or(Fault::Line)?),
         _ => Err(Fault::Line),
     }
 }
@@ -64,6 +67,32 @@ fn target_told(alloc: Global, view: &View, index: &[i64]) -> Result<String, Faul
         Err(TargetError::Memory) => Err(Fault::Memory),
         Err(e) => told(alloc, &e),
     }
+}
+
+// The targets of all cells of a finite view.
+fn all_targets(alloc: Global, view: &View) -> Result<String, Fault>
+    requires { IsView view.now }
+{
+    if !transform_of(view).is_finite() {
+        return Err(Fault::Line);
+    }
+    match targets(alloc, view) {
+        Ok(found) => told(alloc, &found),
+        Err(TargetsError::Memory) => Err(Fault::Memory),
+        Err(e) => told(alloc, &e),
+    }
+}
+
+// The array and the casts of a leaf.
+fn leaf_told(alloc: Global, view: &View, leaf: u64) -> Result<String, Fault>
+    requires { IsView view.now }
+{
+    let leaf = u32::try_from(leaf).unwrap_or(u32::MAX);
+    if !has_leaf(view, leaf) {
+        return Err(Fault::Line);
+    }
+    let chain = casts_at(alloc, view, leaf)?;
+    told(alloc, &(array_at(view, leaf).number, chain))
 }
 
 // A list of one operation, a write of no words.
