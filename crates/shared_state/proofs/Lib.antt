@@ -1,0 +1,14 @@
+pub mod Outline
+pub mod Later
+pub mod Decoded
+pub mod Cached
+pub mod Got
+pub mod Looked
+pub mod Fresh
+pub mod Tables
+pub mod Leafs
+pub mod Answered
+pub mod Located
+pub mod Begun
+pub mod Entered
+pub mod Filled

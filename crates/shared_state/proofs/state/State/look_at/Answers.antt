@@ -1,0 +1,54 @@
+use Rattle.std.proofs.Common.{◌≡◌, None, Some, Ok, false, sym, ap, subst, ◌∙◌}
+use Rattle.chunk_cache.specs.Cache.{kept}
+use Rattle.history.specs.Arrays.{Known, known_after, is_local}
+use Rattle.history.specs.Chunks.{Chunk}
+use Rattle.shared_state.specs.Agreement.{Agrees, IsState}
+use Rattle.shared_state.specs.Seen.{seen_of}
+use Rattle.shared_state.specs.Log.{StateOf}
+use Rattle.shared_state.specs.Looks.{HasBounds, IsFailedLook}
+use Rattle.shared_state.specs.Fetches.{IsNamed}
+use Rattle.shared_state.proofs.Looked.{unkept_by}
+use Rattle.shared_state.proofs.state.State.look_at.Goals as goal
+
+pub stored_look-requires-clause-agrees : goal.stored_look-requires-clause-agrees
+stored_look-requires-clause-agrees g c =
+    let seen = seen_of g.K.KvStore.contents g.K.KvStore.faults g.K.KvStore.prefixes g.K.KvStore.names g.K.KvStore.standing g.K.KvStore.change_count in
+    let same = c.kept_at.ensures.missed (c.in-Ok-None.is ∙ ap Ok c.in-Ok-None.field-0-is) in
+    subst (λ (st : StateOf g.row.K.Denot). IsState (seen st.store) st.log) (sym same) c.requires.agrees
+
+pub stored_look-requires-clause-named : goal.stored_look-requires-clause-named
+stored_look-requires-clause-named g c =
+    let chunk : Chunk = record { array = c.args.array; index = c.args.chunk.now } in
+    let same = c.kept_at.ensures.missed (c.in-Ok-None.is ∙ ap Ok c.in-Ok-None.field-0-is) in
+    subst (λ (st : StateOf g.row.K.Denot). IsNamed st.log.events chunk c.args.key.now) (sym same) c.requires.named
+
+pub stored_look-requires-clause-unkept : goal.stored_look-requires-clause-unkept
+stored_look-requires-clause-unkept g c =
+    let named = c.requires.named in
+    let log = c.args.self.now.log in
+    let same = c.kept_at.ensures.missed (c.in-Ok-None.is ∙ ap Ok c.in-Ok-None.field-0-is) in
+    subst (λ (st : StateOf g.row.K.Denot). (k : Known) → known_after st.log.events c.args.array ≡ Some k → (is_local k.info.home ≡ false) × (kept c.args.key.now st.log.cache.entries ≡ None)) (sym same)
+    (λ k known. unkept_by _ log c.args.array k c.args.key.now c.requires.agrees known (sym c.in-Ok-None.field-0-is ∙ c.in-Ok-None.ensures.value k known))
+
+pub stored_look-requires-clause-bounds : goal.stored_look-requires-clause-bounds
+stored_look-requires-clause-bounds g c =
+    let same = c.kept_at.ensures.missed (c.in-Ok-None.is ∙ ap Ok c.in-Ok-None.field-0-is) in
+    subst (λ (st : StateOf g.row.K.Denot). HasBounds st.log c.args.array c.in_ok-bounds.bounds) (sym same) c.in_ok-bounds.ensures
+
+pub returns-in-Ok-None-clause-failed : goal.returns-in-Ok-None-clause-failed
+returns-in-Ok-None-clause-failed g c = λ event e.
+    let seen = seen_of g.K.KvStore.contents g.K.KvStore.faults g.K.KvStore.prefixes g.K.KvStore.names g.K.KvStore.standing g.K.KvStore.change_count in
+    let chunk : Chunk = record { array = c.args.array; index = c.args.chunk.now } in
+    let same = c.kept_at.ensures.missed (c.in-Ok-None.is ∙ ap Ok c.in-Ok-None.field-0-is) in
+    subst (λ (st : StateOf g.row.K.Denot). IsFailedLook c.args.owner chunk (seen st.store) (seen c.stored_look.new.self.store) st.log c.stored_look.new.self.log event) same (c.stored_look.ensures.failed event e)
+
+pub returns-in-Ok-None-clause-memory : goal.returns-in-Ok-None-clause-memory
+returns-in-Ok-None-clause-memory g c = λ e.
+    let same = c.kept_at.ensures.missed (c.in-Ok-None.is ∙ ap Ok c.in-Ok-None.field-0-is) in
+    c.stored_look.ensures.memory e ∙ ap (λ (st : StateOf g.row.K.Denot). st.log) same
+
+pub returns-in-Ok-None-clause-kept : goal.returns-in-Ok-None-clause-kept
+returns-in-Ok-None-clause-kept g c = λ opening agrees.
+    let seen = seen_of g.K.KvStore.contents g.K.KvStore.faults g.K.KvStore.prefixes g.K.KvStore.names g.K.KvStore.standing g.K.KvStore.change_count in
+    let same = c.kept_at.ensures.missed (c.in-Ok-None.is ∙ ap Ok c.in-Ok-None.field-0-is) in
+    c.stored_look.ensures.kept opening (subst (λ (st : StateOf g.row.K.Denot). Agrees opening (seen st.store) st.log) (sym same) agrees)

@@ -1,0 +1,57 @@
+use Rattle.std.proofs.Common.{◌≡◌, [], ◌∷◌, ◌++◌, true, Some, None, length, sym, ap, subst, ◌∙◌, arith}
+use Rattle.std.specs.Prelude.{count_by}
+use Rattle.std.specs.FinMap as finmap
+use Rattle.std.proofs.lemmas.List.{append_assoc}
+use Rattle.chunk_forms.specs.Metadata.{metadata_text}
+use Rattle.chunk_forms.specs.Wants.{metadata_name_asked}
+use Rattle.kv_face.specs.declared.change.Change.{Change}
+use Rattle.kv_face.specs.Store.{Contents, put_bytes, after}
+use Rattle.array_homes.specs.Homes.{info_at}
+use Rattle.array_homes.specs.Opening.{leaf_at}
+use Rattle.history.specs.declared.array.ArrayInfo.{ArrayInfo}
+use Rattle.history.specs.Legal.{is_opening}
+use Rattle.history.specs.Places.{IsFree}
+use Rattle.shared_state.specs.declared.place.Place.{Place}
+use Rattle.shared_state.specs.Agreement.{Agrees}
+use Rattle.shared_state.specs.Seen.{seen_of}
+use Rattle.shared_state.specs.Log.{StateOf}
+use Rattle.shared_state.specs.Placed.{entered}
+use Rattle.shared_state.proofs.Leafs.{agrees_made, agrees_stored, one_distinct, one_taken, either_ok, both_err}
+use Rattle.shared_state.proofs.state.State.make.Goals as goal
+
+pub write_new-requires-clause-keys : goal.write_new-requires-clause-keys
+write_new-requires-clause-keys g c =
+    let place = c.args.place.now in
+    let mount = place.names.mount in
+    let rest = place.names.path ++ 47 ∷ metadata_name_asked c.args.want.now in
+    let at = ap (λ (p : Place). p.key) c.requires.place ∙ append_assoc mount (47 ∷ place.names.path) (47 ∷ metadata_name_asked c.args.want.now) in
+    let changes = c.deref.ensures.value ∙ c.in_ok-changes.ensures in
+    one_taken (g.K.KvStore.names c.args.self.now.store) c.deref.result.now (record { key = c.items.result.now; bytes = Some (metadata_text c.args.form) }) mount rest changes (c.items.ensures ∙ at) c.requires.taken
+
+pub write_new-requires-clause-distinct : goal.write_new-requires-clause-distinct
+write_new-requires-clause-distinct g c = one_distinct c.deref.result.now _ (c.deref.ensures.value ∙ c.in_ok-changes.ensures)
+
+pub returns-clause-kept : goal.returns-clause-kept
+returns-clause-kept g c = λ opening agrees.
+    let log = c.args.self.now.log in
+    let seen = seen_of g.K.KvStore.contents g.K.KvStore.faults g.K.KvStore.prefixes g.K.KvStore.names g.K.KvStore.standing g.K.KvStore.change_count in
+    let store = seen c.args.self.now.store in
+    let next = seen c.write_new.new.self.store in
+    let place = c.args.place.now in
+    let form = c.args.form in
+    let leaf = leaf_at place.names.mount place.names.path c.args.want.now true true in
+    let at = ap (λ (p : Place). p.key) c.requires.place in
+    let free = subst (IsFree log.events) (ap (λ (p : Place). p.location) c.requires.place) c.requires.free in
+    let missing = subst (λ key. (m : Contents) → store.contents ≡ Some m → finmap.get m key ≡ None) at c.requires.missing in
+    let number = c.array_count-number.ensures.value ∙ ap (λ (s : StateOf g.row.K.Denot). count_by is_opening s.log.events) c.self.view_is in
+    let info : c.in_ok-new.new.info ≡ info_at (count_by is_opening log.events) place.names.mount place.names.path form = c.in_ok-new.ensures.info ∙ (λ i. info_at (number i) (c.items-2.ensures i) (c.items-3.ensures i) form) in
+    let one : Change = record { key = place.key; bytes = Some (metadata_text form) } in
+    let changes : c.deref.result.now ≡ one ∷ [] = c.deref.ensures.value ∙ c.in_ok-changes.ensures ∙ (λ i. record { key = c.items.ensures i; bytes = Some (metadata_text form) } ∷ []) in
+    let count : length c.deref.result.now ≡ 1 = ap length changes in
+    let made = agrees_made opening store next log c.args.owner leaf form agrees free c.requires.mount c.requires.valid c.requires.asked c.write_new.ensures.frame c.requires.taken in
+    agrees_stored opening store next log c.write_new.new.self.log c.args.owner c.in_ok-mount.mount c.write_new.result
+    (either_ok c.write_new.result c.write_new.ensures.after c.write_new.ensures.done c.write_new.ensures.one_more (λ later done more.
+    subst (Agrees opening next) (sym (later ∙ ap (λ (i : ArrayInfo). entered log c.args.owner i None) info))
+    (made (λ m told. done m told ∙ ap (λ cs. Some (after m cs)) changes ∙ ap (λ key. Some (put_bytes m key (Some (metadata_text form)))) at) (more (omega (arith, count))) missing)))
+    (both_err c.write_new.result c.write_new.ensures.contents c.write_new.ensures.count (λ contents changes. record { frame = c.write_new.ensures.frame; contents = contents; changes = changes }))
+    c.write_new.ensures.failed c.write_new.ensures.memory c.write_new.ensures.errors agrees

@@ -1,0 +1,38 @@
+use Rattle.std.proofs.Common.{◌≡◌, None, Some, Err, false, sym, ap, subst, ◌∙◌}
+use Rattle.std.proofs.lemmas.Result.{IfOk-weaker}
+use Rattle.chunk_cache.specs.Cache.{kept}
+use Rattle.history.specs.Arrays.{Known, known_after, is_local}
+use Rattle.history.specs.Chunks.{Chunk}
+use Rattle.shared_state.specs.Seen.{seen_of}
+use Rattle.shared_state.specs.Log.{Log}
+use Rattle.shared_state.specs.Looks.{IsLook}
+use Rattle.shared_state.specs.Fetches.{HasFailed}
+use Rattle.shared_state.proofs.Looked.{look_back, stored_mount, kept_none}
+use Rattle.shared_state.proofs.state.State.stored_look.Goals as goal
+
+pub described-requires-clause-unkept : goal.described-requires-clause-unkept
+described-requires-clause-unkept g c =
+    subst (λ (l : Log). (k : Known) → known_after l.events c.args.array ≡ Some k → (is_local k.info.home ≡ false) × (kept c.args.key.now l.cache.entries ≡ None)) (sym c.in-Ok.ensures.ok) c.requires.unkept
+
+pub returns-in-Ok-clause-looked : goal.returns-in-Ok-clause-looked
+returns-in-Ok-clause-looked g c =
+    let chunk : Chunk = record { array = c.args.array; index = c.args.chunk.now } in
+    let seen = seen_of g.K.KvStore.contents g.K.KvStore.faults g.K.KvStore.prefixes g.K.KvStore.names g.K.KvStore.standing g.K.KvStore.change_count in
+    IfOk-weaker c.described.result _ _
+    (λ l is. look_back (seen c.args.self.now.store) (seen c.bytes_at.new.self.store) c.args.self.now.log chunk l c.bytes_at.ensures.read (subst (λ log. IsLook (seen c.bytes_at.new.self.store) log chunk l) c.in-Ok.ensures.ok is)) c.described.ensures.looked
+
+pub returns-in-Err-Failed-clause-failed : goal.returns-in-Err-Failed-clause-failed
+returns-in-Err-Failed-clause-failed g c = λ event e.
+    let named = c.requires.named in
+    let k = named.array in
+    let unkept = c.requires.unkept k named.known in
+    let mount = stored_mount k.info.home unkept.0 in
+    let same : c.in-Err-Failed.event ≡ event = cc in
+    record {
+      array = k;
+      known = named.known;
+      unkept = kept_none c.args.self.now.log c.args.array k _ unkept.0 (ap (λ key. kept key c.args.self.now.log.cache.entries) named.named ∙ unkept.1);
+      mount = mount.0;
+      on_mount = mount.1;
+      failed = subst (HasFailed c.args.owner mount.0 _ _ c.args.self.now.log _) same (c.bytes_at.ensures.failed c.in-Err-Failed.event k mount.0 (c.in-Err-Failed.is ∙ ap Err c.in-Err-Failed.field-0-is) named.known mount.1);
+    }

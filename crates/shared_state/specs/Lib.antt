@@ -1,0 +1,9 @@
+pub mod Seen
+pub mod Log
+pub mod Outline
+pub mod Agreement
+pub mod Kept
+pub mod Fetches
+pub mod Looks
+pub mod Openings
+pub mod Placed

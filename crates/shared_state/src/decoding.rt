@@ -1,0 +1,220 @@
+// A chunk as it is.
+ghost use Rattle.std.specs.Prelude.{◌≡◌, ◌≢◌, ◌≤◌, ℕ, List, ◌∷◌, Option, Some, None, Ok, Err, IfOk, IfErr, OnOk, OnErr, IsSome, true, false, option_map, string_bytes};
+ghost use Rattle.std.specs.FinMap as finmap;
+ghost use Rattle.cells.specs.Elements.{word_at};
+ghost use Rattle.cells.specs.Numbers.{IsWord};
+ghost use Rattle.cells.specs.Places.{IsInside};
+ghost use Rattle.chunk_cache.specs.Cache.{kept};
+ghost use Rattle.chunk_forms.specs.declared.form.Damage.{Damage as DamageOf};
+ghost use Rattle.chunk_forms.specs.declared.form.FormError.TheVariants as form_error;
+ghost use Rattle.chunk_forms.specs.Metadata as meta;
+ghost use Rattle.chunk_forms.specs.Words.{stored_word, stored_fault};
+ghost use Rattle.kv_face.specs.Store.{Contents};
+ghost use Rattle.history.specs.Arrays.{Known, known_after, form_of, is_local};
+ghost use Rattle.history.specs.Chunks.{chunk_key};
+ghost use Rattle.shared_state.specs.Seen.{IsRead, seen_of};
+ghost use Rattle.shared_state.specs.Agreement.{IsState, KeepsAgreement};
+ghost use Rattle.shared_state.specs.Fetches.{IsAnswered, IsChunkOf, IsDamagedThere, IsNamed, kept_of, looked_at, settled};
+ghost use Rattle.shared_state.specs.Looks.{HasBounds, IsFailedLook};
+
+use crate::error::FetchError;
+use crate::getting::GetError;
+use crate::reading::{Bounds, Fetched};
+use crate::state::State;
+use cells::{Dense, Name};
+use chunk_cache::Snapshot;
+use chunk_forms::{Form, FormError, decode_form};
+use kv_face::KvStore;
+use std::alloc::Global;
+use std::sync::Arc;
+
+/// The numbers of stored bytes.
+fn decode(alloc: Global, form: &Form, bytes: Option<Vec<u8>>) -> Result<Dense, FormError>
+    requires stored { meta.is_local form.now ≡ false }
+    requires fill { IsWord (meta.dtype_of form.now) (meta.fill_of form.now) }
+    ensures dtype { IfOk result (λ d. d.dtype ≡ meta.dtype_of form.now) }
+    ensures shape { IfOk result (λ d. d.shape ≡ meta.chunk_shape_of form.now) }
+    ensures words { IfOk result (λ d. (index : List ℕ) → IsInside (meta.chunk_shape_of form.now) index
+        → stored_word form.now (meta.fill_of form.now) (option_map (λ b. b.items) bytes) index ≡ Some (word_at d index)) }
+    ensures causes { IfErr result (λ e. e ≢ form_error.Memory → (cause : DamageOf) × (e ≡ form_error.Damaged cause)
+        × (stored_fault form.now (option_map (λ b. b.items) bytes) ≡ Some cause)) }
+{
+    match bytes {
+        Some(bytes) => decode_form(
+            alloc,
+            form,
+            form.dtype(),
+            form.chunk_shape(),
+            form.fill(),
+            Some(&bytes),
+        ),
+        None => decode_form(
+            alloc,
+            form,
+            form.dtype(),
+            form.chunk_shape(),
+            form.fill(),
+            None,
+        ),
+    }
+}
+
+impl<K: KvStore> State<K> {
+    /// The chunk as it is, which comes first in the cache. A chunk that is kept calls no store, another one is read by one call.
+    ///
+    /// # Errors
+    /// `StoreFailed` where the store failed, which one event more tells; `Damaged` where what the store has is no chunk of the
+    /// array.
+    pub fn fetch(&mut self, owner: u32, array: u64, chunk: &[u64]) -> Result<Fetched, FetchError>
+        requires agrees { let seen = seen_of K.contents K.faults K.prefixes K.names K.standing K.change_count in IsState (seen self.old.store) self.old.log }
+        requires chunk { IsChunkOf self.old.log.events (record { array = array; index = chunk.now }) }
+        ensures answered { let seen = seen_of K.contents K.faults K.prefixes K.names K.standing K.change_count in
+            IfOk result (λ f. IsAnswered (seen self.old.store) self.old.log (record { array = array; index = chunk.now }) f.snapshot) }
+        ensures bounds { IfOk result (λ f. HasBounds self.old.log array f.bounds) }
+        ensures read { let seen = seen_of K.contents K.faults K.prefixes K.names K.standing K.change_count in IsRead (seen self.old.store) (seen self.new.store) }
+        ensures hit { (k : Known) → known_after self.old.log.events array ≡ Some k → IsSome (kept_of self.old.log array k (chunk_key k chunk.now))
+            → (self.new.store ≡ self.old.store) × OnOk result (self.new.log ≡ looked_at self.old.log k (chunk_key k chunk.now)) }
+        ensures miss { IfOk result (λ f. (k : Known) → known_after self.old.log.events array ≡ Some k → kept_of self.old.log array k (chunk_key k chunk.now) ≡ None
+            → self.new.log ≡ settled self.old.log k (chunk_key k chunk.now) f.snapshot) }
+        ensures failed { (event : ℕ) → result ≡ Err (FetchError.StoreFailed event) → let seen = seen_of K.contents K.faults K.prefixes K.names K.standing K.change_count in
+            IsFailedLook owner (record { array = array; index = chunk.now }) (seen self.old.store) (seen self.new.store) self.old.log self.new.log event }
+        ensures damaged { (name : List ℕ) (cause : DamageOf) → result ≡ Err (FetchError.Damaged name cause) → let seen = seen_of K.contents K.faults K.prefixes K.names K.standing K.change_count in
+            (self.new.log ≡ self.old.log) × IsDamagedThere (seen self.old.store) self.old.log (record { array = array; index = chunk.now }) name cause }
+        ensures memory { result ≡ Err FetchError.Memory → self.new.log ≡ self.old.log }
+        ensures kept { let seen = seen_of K.contents K.faults K.prefixes K.names K.standing K.change_count in KeepsAgreement (seen self.old.store) self.old.log (seen self.new.store) self.new.log }
+    {
+        let key = self.key_text(array, chunk)?;
+        self.fetch_at(owner, array, chunk, key)
+    }
+
+    fn fetch_at(
+        &mut self,
+        owner: u32,
+        array: u64,
+        chunk: &[u64],
+        key: String,
+    ) -> Result<Fetched, FetchError>
+        requires agrees { let seen = seen_of K.contents K.faults K.prefixes K.names K.standing K.change_count in IsState (seen self.old.store) self.old.log }
+        requires named { IsNamed self.old.log.events (record { array = array; index = chunk.now }) (string_bytes key) }
+        ensures answered { let seen = seen_of K.contents K.faults K.prefixes K.names K.standing K.change_count in
+            IfOk result (λ f. IsAnswered (seen self.old.store) self.old.log (record { array = array; index = chunk.now }) f.snapshot) }
+        ensures bounds { IfOk result (λ f. HasBounds self.old.log array f.bounds) }
+        ensures read { let seen = seen_of K.contents K.faults K.prefixes K.names K.standing K.change_count in IsRead (seen self.old.store) (seen self.new.store) }
+        ensures hit { (k : Known) → known_after self.old.log.events array ≡ Some k → IsSome (kept_of self.old.log array k (string_bytes key))
+            → (self.new.store ≡ self.old.store) × OnOk result (self.new.log ≡ looked_at self.old.log k (string_bytes key)) }
+        ensures miss { IfOk result (λ f. (k : Known) → known_after self.old.log.events array ≡ Some k → kept_of self.old.log array k (string_bytes key) ≡ None
+            → self.new.log ≡ settled self.old.log k (string_bytes key) f.snapshot) }
+        ensures failed { (event : ℕ) → result ≡ Err (FetchError.StoreFailed event) → let seen = seen_of K.contents K.faults K.prefixes K.names K.standing K.change_count in
+            IsFailedLook owner (record { array = array; index = chunk.now }) (seen self.old.store) (seen self.new.store) self.old.log self.new.log event }
+        ensures damaged { (name : List ℕ) (cause : DamageOf) → result ≡ Err (FetchError.Damaged name cause) → let seen = seen_of K.contents K.faults K.prefixes K.names K.standing K.change_count in
+            (self.new.log ≡ self.old.log) × IsDamagedThere (seen self.old.store) self.old.log (record { array = array; index = chunk.now }) name cause }
+        ensures memory { result ≡ Err FetchError.Memory → self.new.log ≡ self.old.log }
+        ensures kept { let seen = seen_of K.contents K.faults K.prefixes K.names K.standing K.change_count in KeepsAgreement (seen self.old.store) self.old.log (seen self.new.store) self.new.log }
+    {
+        let bounds = self.bounds(array)?;
+        match self.kept_at(array, chunk, key.as_str()) {
+            Ok(Some(snapshot)) => Ok(Fetched { snapshot, bounds }),
+            Ok(None) => self.load(owner, array, chunk, key, bounds),
+            Err(_) => Err(FetchError::Memory),
+        }
+    }
+
+    /// A chunk that isn't kept.
+    fn load(
+        &mut self,
+        owner: u32,
+        array: u64,
+        chunk: &[u64],
+        key: String,
+        bounds: Bounds,
+    ) -> Result<Fetched, FetchError>
+        requires agrees { let seen = seen_of K.contents K.faults K.prefixes K.names K.standing K.change_count in IsState (seen self.old.store) self.old.log }
+        requires named { IsNamed self.old.log.events (record { array = array; index = chunk.now }) (string_bytes key) }
+        requires unkept { (k : Known) → known_after self.old.log.events array ≡ Some k → (is_local k.info.home ≡ false) × (kept (string_bytes key) self.old.log.cache.entries ≡ None) }
+        requires bounds { HasBounds self.old.log array bounds }
+        ensures answered { let seen = seen_of K.contents K.faults K.prefixes K.names K.standing K.change_count in
+            IfOk result (λ f. IsAnswered (seen self.old.store) self.old.log (record { array = array; index = chunk.now }) f.snapshot) }
+        ensures bounds { IfOk result (λ f. HasBounds self.old.log array f.bounds) }
+        ensures read { let seen = seen_of K.contents K.faults K.prefixes K.names K.standing K.change_count in IsRead (seen self.old.store) (seen self.new.store) }
+        ensures after { IfOk result (λ f. (k : Known) → known_after self.old.log.events array ≡ Some k → self.new.log ≡ settled self.old.log k (string_bytes key) f.snapshot) }
+        ensures failed { (event : ℕ) → result ≡ Err (FetchError.StoreFailed event) → let seen = seen_of K.contents K.faults K.prefixes K.names K.standing K.change_count in
+            IsFailedLook owner (record { array = array; index = chunk.now }) (seen self.old.store) (seen self.new.store) self.old.log self.new.log event }
+        ensures damaged { (name : List ℕ) (cause : DamageOf) → result ≡ Err (FetchError.Damaged name cause) → let seen = seen_of K.contents K.faults K.prefixes K.names K.standing K.change_count in
+            (self.new.log ≡ self.old.log) × IsDamagedThere (seen self.old.store) self.old.log (record { array = array; index = chunk.now }) name cause }
+        ensures memory { result ≡ Err FetchError.Memory → self.new.log ≡ self.old.log }
+        ensures kept { let seen = seen_of K.contents K.faults K.prefixes K.names K.standing K.change_count in KeepsAgreement (seen self.old.store) self.old.log (seen self.new.store) self.new.log }
+    {
+        match self.bytes_at(owner, array, chunk, key.as_str()) {
+            Ok(bytes) => self.decoded(array, chunk, key, bytes, bounds),
+            Err(GetError::Failed { event }) => Err(FetchError::StoreFailed { event }),
+            Err(GetError::Memory) => Err(FetchError::Memory),
+        }
+    }
+
+    /// The chunk that stored bytes are.
+    fn decoded(
+        &mut self,
+        array: u64,
+        chunk: &[u64],
+        key: String,
+        bytes: Option<Vec<u8>>,
+        bounds: Bounds,
+    ) -> Result<Fetched, FetchError>
+        requires agrees { let seen = seen_of K.contents K.faults K.prefixes K.names K.standing K.change_count in IsState (seen self.old.store) self.old.log }
+        requires named { IsNamed self.old.log.events (record { array = array; index = chunk.now }) (string_bytes key) }
+        requires unkept { (k : Known) → known_after self.old.log.events array ≡ Some k → (is_local k.info.home ≡ false) × (kept (string_bytes key) self.old.log.cache.entries ≡ None) }
+        requires bounds { HasBounds self.old.log array bounds }
+        requires bytes { (m : Contents) → K.contents self.old.store ≡ Some m → option_map (λ b. b.items) bytes ≡ finmap.get m (string_bytes key) }
+        ensures answered { let seen = seen_of K.contents K.faults K.prefixes K.names K.standing K.change_count in
+            IfOk result (λ f. IsAnswered (seen self.old.store) self.old.log (record { array = array; index = chunk.now }) f.snapshot) }
+        ensures bounds { IfOk result (λ f. HasBounds self.old.log array f.bounds) }
+        ensures after { IfOk result (λ f. (k : Known) → known_after self.old.log.events array ≡ Some k → self.new.log ≡ settled self.old.log k (string_bytes key) f.snapshot) }
+        ensures failed { (event : ℕ) → result ≢ Err (FetchError.StoreFailed event) }
+        ensures damaged { (name : List ℕ) (cause : DamageOf) → result ≡ Err (FetchError.Damaged name cause) → let seen = seen_of K.contents K.faults K.prefixes K.names K.standing K.change_count in
+            (self.new.log ≡ self.old.log) × IsDamagedThere (seen self.old.store) self.old.log (record { array = array; index = chunk.now }) name cause }
+        ensures memory { result ≡ Err FetchError.Memory → self.new.log ≡ self.old.log }
+        ensures store { self.new.store ≡ self.old.store }
+        ensures kept { let seen = seen_of K.contents K.faults K.prefixes K.names K.standing K.change_count in KeepsAgreement (seen self.old.store) self.old.log (seen self.new.store) self.new.log }
+    {
+        let generation = self.generation_at(array, chunk, key.as_str());
+        let form = self.info(array)?;
+        match decode(self.alloc, &form, bytes) {
+            Ok(cells) => self.put(array, chunk, key, generation, cells, bounds),
+            Err(FormError::Damaged { cause }) => Err(FetchError::Damaged {
+                key: Name::wrap(key),
+                cause,
+            }),
+            Err(FormError::Memory) => Err(FetchError::Memory),
+        }
+    }
+
+    fn put(
+        &mut self,
+        array: u64,
+        chunk: &[u64],
+        key: String,
+        generation: u64,
+        cells: Dense,
+        bounds: Bounds,
+    ) -> Result<Fetched, FetchError>
+        requires agrees { let seen = seen_of K.contents K.faults K.prefixes K.names K.standing K.change_count in IsState (seen self.old.store) self.old.log }
+        requires named { IsNamed self.old.log.events (record { array = array; index = chunk.now }) (string_bytes key) }
+        requires bounds { HasBounds self.old.log array bounds }
+        requires answered { let seen = seen_of K.contents K.faults K.prefixes K.names K.standing K.change_count in IsAnswered (seen self.old.store) self.old.log (record { array = array; index = chunk.now }) (record { generation = generation; cells = cells }) }
+        ensures answered { let seen = seen_of K.contents K.faults K.prefixes K.names K.standing K.change_count in
+            IfOk result (λ f. IsAnswered (seen self.old.store) self.old.log (record { array = array; index = chunk.now }) f.snapshot) }
+        ensures bounds { IfOk result (λ f. HasBounds self.old.log array f.bounds) }
+        ensures after { IfOk result (λ f. (k : Known) → known_after self.old.log.events array ≡ Some k → self.new.log ≡ settled self.old.log k (string_bytes key) f.snapshot) }
+        ensures err { OnErr result ((result ≡ Err FetchError.Memory) × (self.new.log ≡ self.old.log)) }
+        ensures store { self.new.store ≡ self.old.store }
+        ensures kept { let seen = seen_of K.contents K.faults K.prefixes K.names K.standing K.change_count in KeepsAgreement (seen self.old.store) self.old.log (seen self.new.store) self.new.log }
+    {
+        let Ok(cells) = Arc::new(self.alloc, cells) else {
+            return Err(FetchError::Memory);
+        };
+        let snapshot = Snapshot::new(generation, cells);
+        let shared = snapshot.share()?;
+        self.settle_at(array, chunk, key, shared)?;
+        Ok(Fetched { snapshot, bounds })
+    }
+}

@@ -1,0 +1,105 @@
+// A new array enters the run.
+ghost use Rattle.std.specs.Prelude.{◌≡◌, ◌<◌, ◌+◌, ◌++◌, ◌∷◌, [], ℕ, List, length, None, Some, Ok, Err, IfOk, OnOk, OnErr, All, true, count_by};
+ghost use Rattle.std.specs.List.{IsDistinct};
+ghost use Rattle.std.specs.Str.{bytes_eq};
+ghost use Rattle.chunk_forms.specs.Metadata.{with_shape};
+ghost use Rattle.kv_face.specs.declared.change.Change.{Change as ChangeOf};
+ghost use Rattle.kv_face.specs.Store.{Contents, OneMore, after, takes, keys_of, are_together};
+ghost use Rattle.history.specs.Arrays.{form_of};
+ghost use Rattle.history.specs.Legal.{is_opening};
+ghost use Rattle.history.specs.Own.{opened_event, fault};
+ghost use Rattle.history.specs.Places.{IsFree};
+ghost use Rattle.shared_state.specs.Seen.{IsFrame, seen_of};
+ghost use Rattle.shared_state.specs.Fetches.{HasFailed};
+ghost use Rattle.shared_state.specs.Openings.{IsStoreError};
+ghost use Rattle.shared_state.specs.Placed.{IsNext, entered};
+
+use crate::new_array::NewArray;
+use crate::opening::{OpenError, Opened};
+use crate::state::State;
+use cells::Name;
+use kv_face::{Change, KvError, KvStore};
+use run_records::Records;
+
+/// Adds the opening of a new array where there is room.
+fn add_new(records: &mut Records, owner: u32, new: NewArray) -> Opened
+    requires room { 0 < records.old.room }
+    requires number { new.info.number ≡ count_by is_opening records.old.events }
+    requires form { new.form ≡ with_shape (form_of new.info.home) new.info.shape }
+    ensures array { result.array ≡ new.array }
+    ensures event { result.event ≡ Some (length records.old.events + 1) }
+    ensures after { records.new ≡ record records.old {
+      events = records.old.events ++ opened_event owner new.info ∷ [];
+      locals = records.old.locals ++ None ∷ [];
+      room = records.new.room;
+    } }
+{
+    let NewArray { info, form, array } = new;
+    let event = records.add_opened(owner, info, form, None);
+    Opened {
+        array,
+        event: Some(event),
+    }
+}
+
+impl<K: KvStore> State<K> {
+    /// Enters an array whose metadata the store has.
+    pub(crate) fn enter_new(
+        &mut self,
+        owner: u32,
+        location: &str,
+        new: NewArray,
+    ) -> Result<Opened, OpenError>
+        requires { IsNext self.old.log.events new location.now }
+        ensures entered { IfOk result (λ o. (o.array ≡ new.array) × (o.event ≡ Some (length self.old.log.events + 1))) }
+        ensures after { OnOk result (self.new.log ≡ entered self.old.log owner new.info None) }
+        ensures store { self.new.store ≡ self.old.store }
+        ensures err { OnErr result ((result ≡ Err OpenError.Memory) × (self.new.log ≡ self.old.log)) }
+    {
+        self.records.reserve()?;
+        self.places.put(self.alloc, location, new.info.number)?;
+        Ok(add_new(&mut self.records, owner, new))
+    }
+
+    /// Writes the metadata of a new array and enters it. Room for either event is made before the store is called.
+    pub(crate) fn write_new(
+        &mut self,
+        owner: u32,
+        location: &str,
+        mount: Name,
+        new: NewArray,
+        changes: &[Change],
+    ) -> Result<Opened, OpenError>
+        requires next { IsNext self.old.log.events new location.now }
+        requires free { IsFree self.old.log.events location.now }
+        requires keys { All (λ (c : ChangeOf). takes (K.names self.old.store) c.key ≡ true) changes.now }
+        requires distinct { IsDistinct bytes_eq (keys_of changes.now) }
+        requires together { are_together (K.prefixes self.old.store) changes.now 0 ≡ true }
+        ensures entered { IfOk result (λ o. (o.array ≡ new.array) × (o.event ≡ Some (length self.old.log.events + 1))) }
+        ensures after { OnOk result (self.new.log ≡ entered self.old.log owner new.info None) }
+        ensures done { OnOk result ((m : Contents) → K.contents self.old.store ≡ Some m → K.contents self.new.store ≡ Some (after m changes.now)) }
+        ensures one_more { OnOk result (0 < length changes.now → OneMore (K.change_count self.old.store) (K.change_count self.new.store)) }
+        ensures contents { OnErr result (K.contents self.new.store ≡ K.contents self.old.store) }
+        ensures count { OnErr result (K.change_count self.new.store ≡ K.change_count self.old.store) }
+        ensures frame { let seen = seen_of K.contents K.faults K.prefixes K.names K.standing K.change_count in IsFrame (seen self.old.store) (seen self.new.store) }
+        ensures failed { (event : ℕ) → result ≡ Err (OpenError.StoreFailed event) → let seen = seen_of K.contents K.faults K.prefixes K.names K.standing K.change_count in
+            HasFailed owner mount (seen self.old.store) (seen self.new.store) self.old.log self.new.log event }
+        ensures memory { result ≡ Err OpenError.Memory → self.new.log ≡ self.old.log }
+        ensures errors { OnErr result (IsStoreError result) }
+    {
+        self.records.reserve()?;
+        self.places.put(self.alloc, location, new.info.number)?;
+        match self.store.apply(changes) {
+            Ok(()) => Ok(add_new(&mut self.records, owner, new)),
+            Err(KvError::Failed) => {
+                self.places.remove(location);
+                let event = self.records.add_fault(owner, mount);
+                Err(OpenError::StoreFailed { event })
+            }
+            Err(KvError::Memory) => {
+                self.places.remove(location);
+                Err(OpenError::Memory)
+            }
+        }
+    }
+}

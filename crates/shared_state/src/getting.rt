@@ -1,0 +1,63 @@
+// A look into the store, and the event that says where it failed.
+ghost use Rattle.std.specs.Prelude.{◌≡◌, ℕ, Option, Some, Ok, Err, IfOk, OnOk, option_map, true};
+ghost use Rattle.std.specs.FinMap as finmap;
+ghost use Rattle.kv_face.specs.Store.{Contents, takes};
+ghost use Rattle.shared_state.specs.Seen.{IsRead, seen_of};
+ghost use Rattle.shared_state.specs.Fetches.{HasFailed};
+
+use crate::state::State;
+use cells::Name;
+use kv_face::{KvError, KvStore};
+use std::alloc::{AllocError, AllocFailed, Global};
+
+/// Why the store told nothing.
+#[derive(Clone, Copy, Debug)]
+pub(crate) enum GetError {
+    /// The store failed, which event `event` says.
+    Failed { event: u64 },
+    Memory,
+}
+
+impl From<AllocError> for GetError {
+    ghost use Rattle.shared_state.specs.declared.getting.GetError.TheVariants as get;
+
+    ghost from_gives = { λ _ e. e ≡ get.Memory };
+
+    fn from(_: AllocError) -> Self {
+        GetError::Memory
+    }
+}
+
+pub(crate) fn copy_name(alloc: Global, name: &str) -> Result<Name, AllocError>
+    ensures { IfOk result (λ n. n ≡ name.now) }
+{
+    Ok(Name::wrap(String::from_str(alloc, name)?))
+}
+
+impl<K: KvStore> State<K> {
+    /// The bytes under a key of an array on a mount. Room for the event is made before the store is called.
+    pub(crate) fn get(
+        &mut self,
+        owner: u32,
+        mount: Name,
+        key: &str,
+    ) -> Result<Option<Vec<u8>>, GetError>
+        requires { takes (K.names self.old.store) key.now ≡ true }
+        ensures read { let seen = seen_of K.contents K.faults K.prefixes K.names K.standing K.change_count in IsRead (seen self.old.store) (seen self.new.store) }
+        ensures value { IfOk result (λ v. (m : Contents) → K.contents self.old.store ≡ Some m → option_map (λ b. b.items) v ≡ finmap.get m key.now) }
+        ensures ok { OnOk result (self.new.log ≡ self.old.log) }
+        ensures failed { (event : ℕ) → result ≡ Err (GetError.Failed event) → let seen = seen_of K.contents K.faults K.prefixes K.names K.standing K.change_count in
+            HasFailed owner mount (seen self.old.store) (seen self.new.store) self.old.log self.new.log event }
+        ensures memory { result ≡ Err GetError.Memory → self.new.log ≡ self.old.log }
+    {
+        self.records.reserve()?;
+        match self.store.get(key) {
+            Ok(bytes) => Ok(bytes),
+            Err(KvError::Memory) => Err(GetError::Memory),
+            Err(KvError::Failed) => {
+                let event = self.records.add_fault(owner, mount);
+                Err(GetError::Failed { event })
+            }
+        }
+    }
+}

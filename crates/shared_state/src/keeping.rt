@@ -1,0 +1,141 @@
+// What is kept of a chunk.
+ghost use Rattle.std.specs.Prelude.{◌≡◌, Some, None, Ok, IsSome, IfOk, IfSome, OnOk, OnErr, true, string_bytes};
+ghost use Rattle.history.specs.Arrays.{Known, known_after, is_local};
+ghost use Rattle.history.specs.Chunks.{chunk_key};
+ghost use Rattle.shared_state.specs.Seen.{seen_of};
+ghost use Rattle.shared_state.specs.Log.{cells_held};
+ghost use Rattle.shared_state.specs.Agreement.{IsState, KeepsAgreement};
+ghost use Rattle.shared_state.specs.Fetches.{IsAnswered, IsChunkOf, IsNamed, MaySettle, kept_of, looked_at, generation_in, settled};
+
+use crate::state::State;
+use array_homes::is_local;
+use chunk_cache::Snapshot;
+use kv_face::KvStore;
+use std::alloc::AllocError;
+
+impl<K: KvStore> State<K> {
+    /// Whether the run holds an array, and no store.
+    pub(crate) fn is_local(&self, array: u64) -> bool
+        requires { IsSome (known_after self.now.log.events array) }
+        ensures { (k : Known) → known_after self.now.log.events array ≡ Some k → result ≡ is_local k.info.home }
+    {
+        is_local(&self.records.info(array).home)
+    }
+
+    /// The generation of the chunk that has a key.
+    pub(crate) fn generation_at(&self, array: u64, chunk: &[u64], key: &str) -> u64
+        requires { IsNamed self.now.log.events (record { array = array; index = chunk.now }) key.now }
+        ensures { (k : Known) → known_after self.now.log.events array ≡ Some k → result ≡ generation_in self.now.log k key.now }
+    {
+        match self.records.number_at(key.as_bytes()) {
+            Some(number) => number,
+            None => self.records.opened(array),
+        }
+    }
+
+    /// The cells that the run holds of a local array.
+    fn share_held(&self, array: u64) -> Result<Option<Snapshot>, AllocError>
+        requires agrees { let seen = seen_of K.contents K.faults K.prefixes K.names K.standing K.change_count in IsState (seen self.now.store) self.now.log }
+        requires local { (k : Known) × (known_after self.now.log.events array ≡ Some k) × (is_local k.info.home ≡ true) }
+        ensures { IfOk result (λ o. o ≡ cells_held self.now.log array) }
+    {
+        let Some(cells) = self.records.held(array) else {
+            unreachable!();
+        };
+        Ok(Some(cells.share()?))
+    }
+
+    /// What is kept of the chunk that has a key. A stored array's chunk becomes the last used.
+    pub(crate) fn kept_at(
+        &mut self,
+        array: u64,
+        chunk: &[u64],
+        key: &str,
+    ) -> Result<Option<Snapshot>, AllocError>
+        requires agrees { let seen = seen_of K.contents K.faults K.prefixes K.names K.standing K.change_count in IsState (seen self.old.store) self.old.log }
+        requires named { IsNamed self.old.log.events (record { array = array; index = chunk.now }) key.now }
+        ensures value { IfOk result (λ o. (k : Known) → known_after self.old.log.events array ≡ Some k → o ≡ kept_of self.old.log array k key.now) }
+        ensures missed { result ≡ Ok None → self.new ≡ self.old }
+        ensures answered { let seen = seen_of K.contents K.faults K.prefixes K.names K.standing K.change_count in
+            IfOk result (λ o. IfSome o (λ s. IsAnswered (seen self.old.store) self.old.log (record { array = array; index = chunk.now }) s)) }
+        ensures after { OnOk result ((k : Known) → known_after self.old.log.events array ≡ Some k → self.new.log ≡ looked_at self.old.log k key.now) }
+        ensures err { OnErr result (self.new.log ≡ self.old.log) }
+        ensures store { self.new.store ≡ self.old.store }
+        ensures kept { let seen = seen_of K.contents K.faults K.prefixes K.names K.standing K.change_count in KeepsAgreement (seen self.old.store) self.old.log (seen self.new.store) self.new.log }
+    {
+        if self.is_local(array) {
+            return self.share_held(array);
+        }
+        self.records.hit(key)
+    }
+
+    /// Keeps a chunk's cells under its key, where their generation is still the chunk's.
+    pub(crate) fn settle_at(
+        &mut self,
+        array: u64,
+        chunk: &[u64],
+        key: String,
+        snapshot: Snapshot,
+    ) -> Result<(), AllocError>
+        requires agrees { let seen = seen_of K.contents K.faults K.prefixes K.names K.standing K.change_count in IsState (seen self.old.store) self.old.log }
+        requires named { IsNamed self.old.log.events (record { array = array; index = chunk.now }) (string_bytes key) }
+        requires may { let seen = seen_of K.contents K.faults K.prefixes K.names K.standing K.change_count in MaySettle (seen self.old.store) self.old.log (record { array = array; index = chunk.now }) snapshot }
+        ensures after { OnOk result ((k : Known) → known_after self.old.log.events array ≡ Some k → self.new.log ≡ settled self.old.log k (string_bytes key) snapshot) }
+        ensures err { OnErr result (self.new.log ≡ self.old.log) }
+        ensures store { self.new.store ≡ self.old.store }
+        ensures kept { let seen = seen_of K.contents K.faults K.prefixes K.names K.standing K.change_count in KeepsAgreement (seen self.old.store) self.old.log (seen self.new.store) self.new.log }
+    {
+        if self.is_local(array) {
+            return Ok(());
+        }
+        if self.generation_at(array, chunk, key.as_str()) != snapshot.generation() {
+            return Ok(());
+        }
+        match self.records.keep(key, snapshot) {
+            Ok(()) => Ok(()),
+            Err(_) => Err(AllocError),
+        }
+    }
+
+    /// What is kept of a chunk: of a local array its cells, of a stored one the chunk in the cache, which becomes the last used.
+    /// No call of the store.
+    ///
+    /// # Errors
+    /// Want of memory alone.
+    pub fn kept(&mut self, array: u64, chunk: &[u64]) -> Result<Option<Snapshot>, AllocError>
+        requires agrees { let seen = seen_of K.contents K.faults K.prefixes K.names K.standing K.change_count in IsState (seen self.old.store) self.old.log }
+        requires chunk { IsChunkOf self.old.log.events (record { array = array; index = chunk.now }) }
+        ensures value { IfOk result (λ o. (k : Known) → known_after self.old.log.events array ≡ Some k → o ≡ kept_of self.old.log array k (chunk_key k chunk.now)) }
+        ensures answered { let seen = seen_of K.contents K.faults K.prefixes K.names K.standing K.change_count in IfOk result (λ o. IfSome o (λ s. IsAnswered (seen self.old.store) self.old.log (record { array = array; index = chunk.now }) s)) }
+        ensures after { OnOk result ((k : Known) → known_after self.old.log.events array ≡ Some k → self.new.log ≡ looked_at self.old.log k (chunk_key k chunk.now)) }
+        ensures err { OnErr result (self.new.log ≡ self.old.log) }
+        ensures store { self.new.store ≡ self.old.store }
+        ensures kept { let seen = seen_of K.contents K.faults K.prefixes K.names K.standing K.change_count in KeepsAgreement (seen self.old.store) self.old.log (seen self.new.store) self.new.log }
+    {
+        let key = self.key_text(array, chunk)?;
+        self.kept_at(array, chunk, key.as_str())
+    }
+
+    /// Keeps a chunk's cells as the last used, where their generation is still the chunk's and a store holds the array; else
+    /// nothing changes. No call of the store.
+    ///
+    /// # Errors
+    /// Want of memory alone.
+    pub fn settle(
+        &mut self,
+        array: u64,
+        chunk: &[u64],
+        snapshot: Snapshot,
+    ) -> Result<(), AllocError>
+        requires agrees { let seen = seen_of K.contents K.faults K.prefixes K.names K.standing K.change_count in IsState (seen self.old.store) self.old.log }
+        requires chunk { IsChunkOf self.old.log.events (record { array = array; index = chunk.now }) }
+        requires may { let seen = seen_of K.contents K.faults K.prefixes K.names K.standing K.change_count in MaySettle (seen self.old.store) self.old.log (record { array = array; index = chunk.now }) snapshot }
+        ensures after { OnOk result ((k : Known) → known_after self.old.log.events array ≡ Some k → self.new.log ≡ settled self.old.log k (chunk_key k chunk.now) snapshot) }
+        ensures err { OnErr result (self.new.log ≡ self.old.log) }
+        ensures store { self.new.store ≡ self.old.store }
+        ensures kept { let seen = seen_of K.contents K.faults K.prefixes K.names K.standing K.change_count in KeepsAgreement (seen self.old.store) self.old.log (seen self.new.store) self.new.log }
+    {
+        let key = self.key_text(array, chunk)?;
+        self.settle_at(array, chunk, key, snapshot)
+    }
+}

@@ -1,0 +1,202 @@
+// Opening an array of a store.
+ghost use Rattle.std.specs.Prelude.{◌≡◌, ◌<◌, ℕ, List, length, true, Option, Some, Err, IfOk, OnOk, IsSome, option_map};
+ghost use Rattle.std.specs.FinMap as finmap;
+ghost use Rattle.array_homes.specs.Opening.{leaf_at, IsDecision, meta_in, IsFrom};
+ghost use Rattle.array_homes.specs.declared.deciding.OpeningRefusal.{OpeningRefusal as RefusalOf};
+ghost use Rattle.chunk_forms.specs.Metadata.{IsMetadata};
+ghost use Rattle.chunk_forms.specs.Wants.{is_asked_form};
+ghost use Rattle.kv_face.specs.Store.{Contents};
+ghost use Rattle.stack_driver.specs.References.{IsReference};
+ghost use Rattle.history.specs.Arrays.{Known, known_after, ref_of};
+ghost use Rattle.history.specs.Leaves.{Leaf, Stored};
+ghost use Rattle.history.specs.Legal.{IsMount};
+ghost use Rattle.history.specs.Outcomes.{outcome_at};
+ghost use Rattle.history.specs.Places.{IsFree};
+ghost use Rattle.shared_state.specs.Seen.{IsFrame, seen_of};
+ghost use Rattle.shared_state.specs.Agreement.{Opening, Agrees, IsState, KeepsAgreement, TakesMount};
+ghost use Rattle.shared_state.specs.Openings.{IsOpening, AnswersKnown, IsRefusalOf};
+ghost use Rattle.shared_state.specs.Placed.{place_at};
+
+use crate::getting::{GetError, copy_name};
+use crate::opening::{OpenError, Opened};
+use crate::place::{Place, place_of};
+use crate::state::State;
+use array_homes::{Decided, OpeningRefusal, array_ref, decide};
+use chunk_forms::{Want, mismatch};
+use kv_face::KvStore;
+use locations::Found;
+use std::alloc::{AllocError, Global};
+
+/// What opening a leaf gives that the history doesn't have, by the bytes at its metadata's key.
+fn decided(
+    alloc: Global,
+    want: &Want,
+    may_open: bool,
+    may_create: bool,
+    bytes: Option<Vec<u8>>,
+) -> Result<Decided, OpeningRefusal>
+    ensures outcome { (mount path : List ℕ) → IsDecision (leaf_at mount path want.now may_open may_create) (option_map (λ b. b.items) bytes) result }
+    ensures source { IfOk result (λ d. IsFrom want.now (option_map (λ b. b.items) bytes) d) }
+    ensures asked { IfOk result (λ d. is_asked_form want.now (meta_in d) ≡ true) }
+    ensures valid { IfOk result (λ d. IsMetadata (meta_in d)) }
+{
+    match bytes {
+        Some(bytes) => decide(alloc, want, may_open, may_create, Some(&bytes)),
+        None => decide(alloc, want, may_open, may_create, None),
+    }
+}
+
+/// The refusal, told after so many events.
+fn refused(alloc: Global, key: &str, at: u64, refusal: OpeningRefusal) -> OpenError
+    ensures { IsRefusalOf key.now at refusal result }
+{
+    match refusal {
+        OpeningRefusal::BadMeta { cause } => match copy_name(alloc, key) {
+            Ok(key) => OpenError::BadMeta { key, cause },
+            Err(_) => OpenError::Memory,
+        },
+        OpeningRefusal::Exists => OpenError::Exists { at },
+        OpeningRefusal::Mismatch { member } => OpenError::Mismatch { member, at },
+        OpeningRefusal::NotFound => OpenError::NotFound { at },
+        OpeningRefusal::BadWant { member } => OpenError::BadWant { member },
+        OpeningRefusal::Memory => OpenError::Memory,
+    }
+}
+
+impl<K: KvStore> State<K> {
+    /// Opens an array of a store, by what is asked of it: an array of the run, one whose metadata the store has, or a new one,
+    /// whose metadata is written. Metadata that the store has is never written over.
+    ///
+    /// # Errors
+    /// The first that holds, as `OpenError` lists them. After each but `StoreFailed`, which one event more tells, no event is new.
+    pub fn open(
+        &mut self,
+        owner: u32,
+        mount: &str,
+        path: &str,
+        want: &Want,
+        may_open: bool,
+        may_create: bool,
+    ) -> Result<Opened, OpenError>
+        requires agrees { let seen = seen_of K.contents K.faults K.prefixes K.names K.standing K.change_count in IsState (seen self.old.store) self.old.log }
+        requires mount { IsMount mount.now }
+        requires taken { TakesMount (K.names self.old.store) mount.now }
+        ensures answer { let seen = seen_of K.contents K.faults K.prefixes K.names K.standing K.change_count in (opening : Opening) → Agrees opening (seen self.old.store) self.old.log → IsOpening opening.store.contents self.old.log.events owner (leaf_at mount.now path.now want.now may_open may_create) result self.new.log.events }
+        ensures kept { let seen = seen_of K.contents K.faults K.prefixes K.names K.standing K.change_count in KeepsAgreement (seen self.old.store) self.old.log (seen self.new.store) self.new.log }
+        ensures frame { let seen = seen_of K.contents K.faults K.prefixes K.names K.standing K.change_count in IsFrame (seen self.old.store) (seen self.new.store) }
+        ensures failed { (event : ℕ) → result ≡ Err (OpenError.StoreFailed event) → K.faults self.old.store < K.faults self.new.store }
+    {
+        let place = place_of(self.alloc, mount, path, want)?;
+        self.open_at(owner, &place, want, may_open, may_create)
+    }
+
+    fn open_at(
+        &mut self,
+        owner: u32,
+        place: &Place,
+        want: &Want,
+        may_open: bool,
+        may_create: bool,
+    ) -> Result<Opened, OpenError>
+        requires agrees { let seen = seen_of K.contents K.faults K.prefixes K.names K.standing K.change_count in IsState (seen self.old.store) self.old.log }
+        requires mount { IsMount place.now.names.mount }
+        requires taken { TakesMount (K.names self.old.store) place.now.names.mount }
+        requires place { place.now ≡ place_at place.now.names.mount place.now.names.path want.now }
+        ensures answer { let seen = seen_of K.contents K.faults K.prefixes K.names K.standing K.change_count in (opening : Opening) → Agrees opening (seen self.old.store) self.old.log → IsOpening opening.store.contents self.old.log.events owner (leaf_at place.now.names.mount place.now.names.path want.now may_open may_create) result self.new.log.events }
+        ensures kept { let seen = seen_of K.contents K.faults K.prefixes K.names K.standing K.change_count in KeepsAgreement (seen self.old.store) self.old.log (seen self.new.store) self.new.log }
+        ensures frame { let seen = seen_of K.contents K.faults K.prefixes K.names K.standing K.change_count in IsFrame (seen self.old.store) (seen self.new.store) }
+        ensures failed { (event : ℕ) → result ≡ Err (OpenError.StoreFailed event) → K.faults self.old.store < K.faults self.new.store }
+    {
+        let at = self.events().len() as u64;
+        match self.places.find(self.alloc, place.location.items()) {
+            Ok(Found::Taken { other }) => Err(OpenError::PathTaken { path: other, at }),
+            Ok(Found::There { number }) => self.opened_there(number, want, may_open),
+            Ok(Found::Free) => self.open_free(owner, place, want, may_open, may_create),
+            Err(_) => Err(OpenError::Memory),
+        }
+    }
+
+    /// An array of the history, where it is what is asked.
+    fn opened_there(&self, number: u64, want: &Want, may_open: bool) -> Result<Opened, OpenError>
+        requires known { IsSome (known_after self.now.log.events number) }
+        requires reference { (k : Known) → known_after self.now.log.events number ≡ Some k → IsReference (ref_of k) }
+        ensures { (k : Known) (leaf : Leaf) (stored : Stored) → known_after self.now.log.events number ≡ Some k → leaf.want ≡ want.now → leaf.may_open ≡ may_open
+            → AnswersKnown k (length self.now.log.events) result (outcome_at leaf stored (Some k)) }
+    {
+        let at = self.events().len() as u64;
+        if !may_open {
+            return Err(OpenError::Exists { at });
+        }
+        if let Some(member) = mismatch(
+            want,
+            self.records.form(number),
+            self.records.shape(number),
+        ) {
+            return Err(OpenError::Mismatch { member, at });
+        }
+        let array = array_ref(
+            self.alloc,
+            self.records.info(number),
+            self.records.shape(number),
+        )?;
+        Ok(Opened { array, event: None })
+    }
+
+    /// Opens a leaf at whose place, above it or below it the history has no array.
+    fn open_free(
+        &mut self,
+        owner: u32,
+        place: &Place,
+        want: &Want,
+        may_open: bool,
+        may_create: bool,
+    ) -> Result<Opened, OpenError>
+        requires agrees { let seen = seen_of K.contents K.faults K.prefixes K.names K.standing K.change_count in IsState (seen self.old.store) self.old.log }
+        requires mount { IsMount place.now.names.mount }
+        requires taken { TakesMount (K.names self.old.store) place.now.names.mount }
+        requires place { place.now ≡ place_at place.now.names.mount place.now.names.path want.now }
+        requires free { IsFree self.old.log.events place.now.location }
+        ensures answer { let seen = seen_of K.contents K.faults K.prefixes K.names K.standing K.change_count in (opening : Opening) → Agrees opening (seen self.old.store) self.old.log → IsOpening opening.store.contents self.old.log.events owner (leaf_at place.now.names.mount place.now.names.path want.now may_open may_create) result self.new.log.events }
+        ensures kept { let seen = seen_of K.contents K.faults K.prefixes K.names K.standing K.change_count in KeepsAgreement (seen self.old.store) self.old.log (seen self.new.store) self.new.log }
+        ensures frame { let seen = seen_of K.contents K.faults K.prefixes K.names K.standing K.change_count in IsFrame (seen self.old.store) (seen self.new.store) }
+        ensures failed { (event : ℕ) → result ≡ Err (OpenError.StoreFailed event) → K.faults self.old.store < K.faults self.new.store }
+    {
+        let mount = copy_name(self.alloc, place.names.mount.items())?;
+        match self.get(owner, mount, place.key.items()) {
+            Ok(bytes) => self.open_stored(owner, place, want, may_open, may_create, bytes),
+            Err(GetError::Failed { event }) => Err(OpenError::StoreFailed { event }),
+            Err(GetError::Memory) => Err(OpenError::Memory),
+        }
+    }
+
+    /// Opens a leaf by what the store has at its metadata's key.
+    fn open_stored(
+        &mut self,
+        owner: u32,
+        place: &Place,
+        want: &Want,
+        may_open: bool,
+        may_create: bool,
+        bytes: Option<Vec<u8>>,
+    ) -> Result<Opened, OpenError>
+        requires agrees { let seen = seen_of K.contents K.faults K.prefixes K.names K.standing K.change_count in IsState (seen self.old.store) self.old.log }
+        requires mount { IsMount place.now.names.mount }
+        requires taken { TakesMount (K.names self.old.store) place.now.names.mount }
+        requires place { place.now ≡ place_at place.now.names.mount place.now.names.path want.now }
+        requires free { IsFree self.old.log.events place.now.location }
+        requires bytes { (m : Contents) → K.contents self.old.store ≡ Some m → option_map (λ b. b.items) bytes ≡ finmap.get m place.now.key }
+        ensures answer { let seen = seen_of K.contents K.faults K.prefixes K.names K.standing K.change_count in (opening : Opening) → Agrees opening (seen self.old.store) self.old.log → IsOpening opening.store.contents self.old.log.events owner (leaf_at place.now.names.mount place.now.names.path want.now may_open may_create) result self.new.log.events }
+        ensures kept { let seen = seen_of K.contents K.faults K.prefixes K.names K.standing K.change_count in KeepsAgreement (seen self.old.store) self.old.log (seen self.new.store) self.new.log }
+        ensures frame { let seen = seen_of K.contents K.faults K.prefixes K.names K.standing K.change_count in IsFrame (seen self.old.store) (seen self.new.store) }
+        ensures failed { (event : ℕ) → result ≡ Err (OpenError.StoreFailed event) → K.faults self.old.store < K.faults self.new.store }
+    {
+        match decided(self.alloc, want, may_open, may_create, bytes) {
+            Ok(Decided::Found { form }) => self.enter_found(owner, place, want, form),
+            Ok(Decided::Made { form }) => self.make(owner, place, want, form),
+            Err(refusal) => {
+                let at = self.events().len() as u64;
+                Err(refused(self.alloc, place.key.items(), at, refusal))
+            }
+        }
+    }
+}

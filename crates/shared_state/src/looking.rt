@@ -1,0 +1,70 @@
+// Chunks as they are.
+ghost use Rattle.std.specs.Prelude.{◌≡◌, ◌≢◌, ◌<◌, ℕ, List, Option, Some, None, Ok, Err, IfOk, IfSome, OnOk, OnErr, IsSome, string_bytes, option_map, true};
+ghost use Rattle.std.specs.FinMap as finmap;
+ghost use Rattle.kv_face.specs.Store.{Contents};
+ghost use Rattle.history.specs.Arrays.{Known, known_after, form_of, is_local};
+ghost use Rattle.history.specs.Chunks.{chunk_key};
+ghost use Rattle.chunk_forms.specs.Metadata.{with_shape};
+ghost use Rattle.shared_state.specs.Fetches.{IsChunkOf, bounds_in};
+
+use crate::reading::Bounds;
+use crate::state::State;
+use array_homes::chunk_key;
+use cells::{Name, Sizes};
+use chunk_forms::Form;
+use kv_face::KvStore;
+use std::alloc::{AllocError, Global};
+
+fn copy_sizes(alloc: Global, sizes: &[u64]) -> Result<Sizes, AllocError>
+    ensures { IfOk result (λ s. s ≡ sizes.now) }
+{
+    Ok(Sizes::wrap(Vec::from_slice(alloc, sizes)?))
+}
+
+impl<K: KvStore> State<K> {
+    /// The key of a chunk, also past the array's shape.
+    ///
+    /// # Errors
+    /// Want of memory alone.
+    pub fn key(&self, array: u64, chunk: &[u64]) -> Result<Name, AllocError>
+        requires { IsChunkOf self.now.log.events (record { array = array; index = chunk.now }) }
+        ensures { IfOk result (λ name. (k : Known) → known_after self.now.log.events array ≡ Some k → name ≡ chunk_key k chunk.now) }
+    {
+        Ok(Name::wrap(self.key_text(array, chunk)?))
+    }
+
+    pub(crate) fn key_text(&self, array: u64, chunk: &[u64]) -> Result<String, AllocError>
+        requires { IsChunkOf self.now.log.events (record { array = array; index = chunk.now }) }
+        ensures { IfOk result (λ name. (k : Known) → known_after self.now.log.events array ≡ Some k → string_bytes name ≡ chunk_key k chunk.now) }
+    {
+        let info = self.records.info(array);
+        let opened = self.records.opened(array);
+        chunk_key(self.alloc, &info.home, opened, chunk)
+    }
+
+    /// An array's present shape, and the number of the event that gave it.
+    ///
+    /// # Errors
+    /// Want of memory alone.
+    pub fn bounds(&self, array: u64) -> Result<Bounds, AllocError>
+        requires { IsSome (known_after self.now.log.events array) }
+        ensures { IfOk result (λ b. (k : Known) → known_after self.now.log.events array ≡ Some k → b ≡ bounds_in self.now.log.events array k) }
+    {
+        let shape = copy_sizes(self.alloc, self.records.shape(array))?;
+        Ok(Bounds {
+            shape,
+            resized: self.records.resized(array),
+        })
+    }
+
+    /// How an array's chunks are stored, with its present shape; of a local array `Form::Local`.
+    ///
+    /// # Errors
+    /// Want of memory alone.
+    pub fn info(&self, array: u64) -> Result<Form, AllocError>
+        requires { IsSome (known_after self.now.log.events array) }
+        ensures { IfOk result (λ form. (k : Known) → known_after self.now.log.events array ≡ Some k → form ≡ with_shape (form_of k.info.home) k.shape) }
+    {
+        self.records.form(array).copy(self.alloc)
+    }
+}

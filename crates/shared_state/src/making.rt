@@ -1,0 +1,121 @@
+// New arrays of a store, found or made.
+ghost use Rattle.std.specs.Prelude.{◌≡◌, ◌<◌, ◌+◌, ℕ, List, [], ◌∷◌, length, None, Some, Ok, Err, IfOk, OnOk, OnErr, true, false, count_by};
+ghost use Rattle.std.specs.FinMap as finmap;
+ghost use Rattle.array_homes.specs.Homes.{info_at, reference_of};
+ghost use Rattle.chunk_forms.specs.Metadata.{shape_of, is_local, metadata_text, IsMetadata};
+ghost use Rattle.chunk_forms.specs.Wants.{is_asked_form};
+ghost use Rattle.kv_face.specs.declared.change.Change.{Change as ChangeOf};
+ghost use Rattle.kv_face.specs.Store.{Contents};
+ghost use Rattle.history.specs.Legal.{IsMount, is_opening};
+ghost use Rattle.history.specs.Places.{IsFree};
+ghost use Rattle.shared_state.specs.Seen.{IsFrame, seen_of};
+ghost use Rattle.shared_state.specs.Agreement.{IsState, KeepsAgreement, TakesMount};
+ghost use Rattle.shared_state.specs.Fetches.{HasFailed};
+ghost use Rattle.shared_state.specs.Openings.{IsStoreError};
+ghost use Rattle.shared_state.specs.Placed.{place_at, entered};
+
+use crate::getting::copy_name;
+use crate::new_array::{NewArray, new_array};
+use crate::opening::{OpenError, Opened};
+use crate::place::Place;
+use crate::state::State;
+use array_homes::written_form;
+use cells::{List, Name};
+use chunk_forms::{Form, Want};
+use kv_face::{Change, KvStore};
+use std::alloc::{AllocError, Global};
+
+/// The change that writes metadata.
+fn metadata_change(alloc: Global, key: &str, form: &Form) -> Result<Vec<Change>, AllocError>
+    requires { is_local form.now ≡ false }
+    ensures { IfOk result (λ v. v.items ≡ record { key = key.now; bytes = Some (metadata_text form.now) } ∷ []) }
+{
+    let bytes = written_form(alloc, form)?;
+    one_change(alloc, key, bytes)
+}
+
+fn one_change(alloc: Global, key: &str, bytes: Vec<u8>) -> Result<Vec<Change>, AllocError>
+    ensures { IfOk result (λ v. v.items ≡ record { key = key.now; bytes = Some bytes.items } ∷ []) }
+{
+    let key = copy_name(alloc, key)?;
+    let change = Change {
+        key,
+        bytes: Some(List::wrap(bytes)),
+    };
+    let mut changes = Vec::new(alloc);
+    changes.push(change)?;
+    Ok(changes)
+}
+
+impl<K: KvStore> State<K> {
+    /// Enters an array whose metadata the store has.
+    pub(crate) fn enter_found(
+        &mut self,
+        owner: u32,
+        place: &Place,
+        want: &Want,
+        form: Form,
+    ) -> Result<Opened, OpenError>
+        requires agrees { let seen = seen_of K.contents K.faults K.prefixes K.names K.standing K.change_count in IsState (seen self.old.store) self.old.log }
+        requires mount { IsMount place.now.names.mount }
+        requires taken { TakesMount (K.names self.old.store) place.now.names.mount }
+        requires place { place.now ≡ place_at place.now.names.mount place.now.names.path want.now }
+        requires free { IsFree self.old.log.events place.now.location }
+        requires asked { is_asked_form want.now form ≡ true }
+        requires valid { IsMetadata form }
+        requires there { (m : Contents) → K.contents self.old.store ≡ Some m → (bytes : List ℕ) × (finmap.get m place.now.key ≡ Some bytes) }
+        ensures entered { IfOk result (λ o. (o.array ≡ reference_of (info_at (count_by is_opening self.old.log.events) place.now.names.mount place.now.names.path form) (shape_of form)) × (o.event ≡ Some (length self.old.log.events + 1))) }
+        ensures after { OnOk result (self.new.log ≡ entered self.old.log owner (info_at (count_by is_opening self.old.log.events) place.now.names.mount place.now.names.path form) None) }
+        ensures err { OnErr result ((result ≡ Err OpenError.Memory) × (self.new.log ≡ self.old.log)) }
+        ensures store { self.new.store ≡ self.old.store }
+        ensures kept { let seen = seen_of K.contents K.faults K.prefixes K.names K.standing K.change_count in KeepsAgreement (seen self.old.store) self.old.log (seen self.new.store) self.new.log }
+    {
+        let number = self.records.array_count();
+        let new = new_array(
+            self.alloc,
+            number,
+            place.names.mount.items(),
+            place.names.path.items(),
+            form,
+        )?;
+        self.enter_new(owner, place.location.items(), new)
+    }
+
+    /// Writes the metadata of a new array, and enters it.
+    pub(crate) fn make(
+        &mut self,
+        owner: u32,
+        place: &Place,
+        want: &Want,
+        form: Form,
+    ) -> Result<Opened, OpenError>
+        requires agrees { let seen = seen_of K.contents K.faults K.prefixes K.names K.standing K.change_count in IsState (seen self.old.store) self.old.log }
+        requires mount { IsMount place.now.names.mount }
+        requires taken { TakesMount (K.names self.old.store) place.now.names.mount }
+        requires place { place.now ≡ place_at place.now.names.mount place.now.names.path want.now }
+        requires free { IsFree self.old.log.events place.now.location }
+        requires asked { is_asked_form want.now form ≡ true }
+        requires valid { IsMetadata form }
+        requires missing { (m : Contents) → K.contents self.old.store ≡ Some m → finmap.get m place.now.key ≡ None }
+        ensures entered { IfOk result (λ o. (o.array ≡ reference_of (info_at (count_by is_opening self.old.log.events) place.now.names.mount place.now.names.path form) (shape_of form)) × (o.event ≡ Some (length self.old.log.events + 1))) }
+        ensures after { OnOk result (self.new.log ≡ entered self.old.log owner (info_at (count_by is_opening self.old.log.events) place.now.names.mount place.now.names.path form) None) }
+        ensures failed { (event : ℕ) → result ≡ Err (OpenError.StoreFailed event) → let seen = seen_of K.contents K.faults K.prefixes K.names K.standing K.change_count in
+            HasFailed owner place.now.names.mount (seen self.old.store) (seen self.new.store) self.old.log self.new.log event }
+        ensures memory { result ≡ Err OpenError.Memory → self.new.log ≡ self.old.log }
+        ensures errors { OnErr result (IsStoreError result) }
+        ensures frame { let seen = seen_of K.contents K.faults K.prefixes K.names K.standing K.change_count in IsFrame (seen self.old.store) (seen self.new.store) }
+        ensures kept { let seen = seen_of K.contents K.faults K.prefixes K.names K.standing K.change_count in KeepsAgreement (seen self.old.store) self.old.log (seen self.new.store) self.new.log }
+    {
+        let changes = metadata_change(self.alloc, place.key.items(), &form)?;
+        let number = self.records.array_count();
+        let new = new_array(
+            self.alloc,
+            number,
+            place.names.mount.items(),
+            place.names.path.items(),
+            form,
+        )?;
+        let mount = copy_name(self.alloc, place.names.mount.items())?;
+        self.write_new(owner, place.location.items(), mount, new, &changes)
+    }
+}
