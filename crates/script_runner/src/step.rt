@@ -27,8 +27,8 @@ use script_lines::{
     Body, Command, LineError, ValuesError, bad_line_text, list_count, read_command, words_of_values,
 };
 use serde_json::Value;
-use whole_arrays::{ArrayRef, FetchError, OpenError, Opening, State, WriteNowError};
 use std::alloc::{AllocError, Global};
+use whole_arrays::{ArrayRef, FetchError, OpenError, Opening, State, WriteNowError};
 use zarr_chunks::ZarrMeta;
 
 fn text(alloc: Global, text: &str) -> Result<Name, AllocError>

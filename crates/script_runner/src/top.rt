@@ -21,8 +21,8 @@ use cells::List;
 use indexmap::IndexMap;
 use kv_face::{KvStore, ReadError, Scripts, Sink, read_script, write_all};
 use script_lines::{Answer, Body, cut, is_blank, is_ok, render};
-use whole_arrays::{Event, State};
 use std::alloc::{AllocError, Global};
+use whole_arrays::{Event, State};
 
 /// How a run ended.
 #[derive(Drop)]
