@@ -1,0 +1,3 @@
+pub mod Resized
+pub mod Laid
+pub mod Rows
