@@ -1,0 +1,3 @@
+-- The laws of laid and cut chunks that crates above rest on.
+pub use Rattle.chunk_laying.proofs.CoverLaws.{covered-places, places-covered}
+pub use Rattle.chunk_laying.proofs.SnapshotLaws.{IsStagedBy, snapshot_of_covered, snapshot_of_cut, snapshot_of_laid, snapshot_same}
