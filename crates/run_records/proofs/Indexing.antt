@@ -25,6 +25,8 @@ use Rattle.history.proofs.Known.{opened_as, some_inj, none_is_none, length-more}
 use Rattle.history.proofs.Openings.{array_at-more}
 use Rattle.history.proofs.Touching.{opened_then}
 use Rattle.run_records.specs.declared.arrays.Entry.{Entry}
+use Rattle.run_records.specs.declared.commit.Commit.{Commit}
+use Rattle.run_records.specs.Recorded.{done_event}
 use Rattle.run_records.specs.Indexed.{shape_in, known_of, opened_by, opened_at_event, resized_of, IsFormOf, AreArrays}
 
 get_front : {A : Type 0} (xs ys : List A) (k : ℕ) → k < length xs → slice_get (xs ++ ys) k ≡ slice_get xs k
@@ -81,6 +83,11 @@ arrays_same h es e old same shapes at closed =
 pub arrays_fault : (h : History) (es : List Entry) (owner : ℕ) (mount : List ℕ) → AreArrays h es → AreArrays (h ++ fault owner mount ∷ []) es
 arrays_fault h es owner mount old =
     let e = fault owner mount in
+    arrays_same h es e old (known_after-more h e) (resized_after-more h e) (array_at-more h e) refl
+
+pub arrays_done : (h : History) (es : List Entry) (owner : ℕ) (done : Commit) → AreArrays h es → AreArrays (h ++ done_event owner done ∷ []) es
+arrays_done h es owner done old =
+    let e = done_event owner done in
     arrays_same h es e old (known_after-more h e) (resized_after-more h e) (array_at-more h e) refl
 
 pub arrays_none : AreArrays [] []

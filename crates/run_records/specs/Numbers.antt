@@ -1,5 +1,5 @@
 -- Numbers of events by keys, as they are held.
-use Rattle.std.specs.Prelude.{ℕ, List, [], ◌∷◌, Vec}
+use Rattle.std.specs.Prelude.{ℕ, ◌==◌, List, [], ◌∷◌, Vec, Option, Some, None, IsSome, if◌then◌else◌}
 use Rattle.std.specs.Coded.{Coded, coded_list, coded_ℕ}
 use Rattle.std.specs.declared.alloc.Global.{Global}
 use Rattle.std.specs.FinMap as finmap
@@ -8,7 +8,28 @@ use Rattle.history.specs.Generations.{Generations}
 abbrev pub generations_code : Coded Generations
 generations_code = finmap.code (coded_list coded_ℕ) coded_ℕ
 
--- the numbers that entries have
+-- the numbers that entries have; one with 0 has none yet
 abbrev pub numbers_of : List (Vec ℕ Global × ℕ) → Generations
 numbers_of [] = finmap.empty
-numbers_of (e ∷ es) = finmap.insert (numbers_of es) e.0.items e.1
+numbers_of (e ∷ es) = if e.1 == 0 then finmap.remove (numbers_of es) e.0.items else finmap.insert (numbers_of es) e.0.items e.1
+
+-- the keys that have an entry
+abbrev pub places_of : List (Vec ℕ Global × ℕ) → Generations
+places_of [] = finmap.empty
+places_of (e ∷ es) = finmap.insert (places_of es) e.0.items e.1
+
+-- what contracts see of a table: numbers by keys, and the keys at which a number may be put without memory, with what stands there
+pub record KeyTable : Type 0 where
+  pub numbers : Generations
+  pub places : Generations
+
+abbrev pub key_table : List (Vec ℕ Global × ℕ) → KeyTable
+key_table entries = record { numbers = numbers_of entries; places = places_of entries }
+
+-- a number may be put at the key without memory
+abbrev pub HasPlace : Generations → List ℕ → Type 0
+HasPlace places key = IsSome (finmap.get places key)
+
+-- so it may where it could before
+abbrev pub KeepsPlaces : Generations → Generations → Type 0
+KeepsPlaces old new = (key : List ℕ) → HasPlace old key → HasPlace new key

@@ -6,7 +6,9 @@
 #![tactic(auto)]
 
 mod arrays;
+mod commit;
 mod generations;
 mod records;
 
+pub use commit::Commit;
 pub use records::Records;

@@ -1,16 +1,22 @@
-ghost use Rattle.std.specs.Prelude.{◌≡◌, ◌≤◌, ◌<◌, ◌+◌, ◌^◌, ◌++◌, ◌∷◌, [], ℕ, List, length, Some, None, Option, true, IsSome, IsOk, IfOk, IfErr, OnOk, OnErr, count_by, string_bytes, vec_len, vec_capacity};
+ghost use Rattle.std.specs.Prelude.{set, map, ◌≡◌, ◌≤◌, ◌<◌, ◌+◌, ◌^◌, ◌++◌, ◌∷◌, [], ℕ, List, length, Some, None, Option, true, IsSome, IsOk, IfOk, IfErr, OnOk, OnErr, count_by, string_bytes, vec_len, vec_capacity};
 ghost use Rattle.std.specs.FinMap as finmap;
 ghost use Rattle.std.specs.Option.{option_copied, option_map};
-ghost use Rattle.chunk_cache.specs.Cache.{kept, after_hit, after_keep};
+ghost use Rattle.chunk_cache.specs.Cache.{kept, after_hit, after_keep, after_drop};
 ghost use Rattle.chunk_forms.specs.Metadata.{with_shape};
 ghost use Rattle.history.specs.Arrays.{Known, known_after, form_of, is_local};
 ghost use Rattle.history.specs.Legal.{is_opening};
 ghost use Rattle.history.specs.Own.{fault, opened_event};
 ghost use Rattle.history.specs.Places.{array_at};
 ghost use Rattle.history.specs.Store.{resized_after};
-ghost use Rattle.run_records.specs.Recorded.{cells_held};
+ghost use Rattle.run_records.specs.declared.arrays.Entry.{Entry as EntryOf};
+ghost use Rattle.run_records.specs.Indexed.{AreArrays};
+ghost use Rattle.run_records.specs.Numbers.{HasPlace, KeepsPlaces};
+ghost use Rattle.run_records.specs.Recorded.{cells_held, with_numbers, without_all, done_event};
+ghost use Rattle.history.specs.History.{History};
+ghost use Rattle.std.specs.List.{AllByRecursion};
 
 use crate::arrays::{Entry, entry_at, info_at};
+use crate::commit::Commit;
 use crate::generations::KeyNumbers;
 use cells::Name;
 use chunk_cache::{ChunkCache, KeepRefused, Snapshot};
@@ -44,10 +50,12 @@ impl Model for Records {
 
     ghost view = { λ r. record {
       events = r.events.items;
-      generations = r.generations;
+      generations = r.generations.numbers;
       cache = r.cache;
       locals = map (λ (e : Entry). e.local) r.arrays.items;
       room = min (vec_capacity r.events - length r.events.items) (vec_capacity r.arrays - length r.arrays.items);
+      event_room = vec_capacity r.events - length r.events.items;
+      places = r.generations.places;
     } };
 
     ghost invariant = { λ r. AreArrays r.events.items r.arrays.items };
@@ -197,8 +205,8 @@ impl Records {
     /// # Errors
     /// `AllocError` where memory is wanting.
     pub fn reserve(&mut self) -> Result<(), AllocError>
-        ensures room { OnOk result (0 < self.new.room) }
-        ensures same { self.new ≡ record self.old { room = self.new.room } }
+        ensures room { OnOk result ((0 < self.new.room) × (0 < self.new.event_room)) }
+        ensures same { self.new ≡ record self.old { room = self.new.room; event_room = self.new.event_room } }
     {
         self.events.reserve(1)?;
         self.arrays.reserve(1)
@@ -206,12 +214,79 @@ impl Records {
 
     /// Adds a failed store call where there is room; gives the event's number.
     pub fn add_fault(&mut self, owner: u32, mount: Name) -> u64
-        requires { 0 < self.old.room }
+        requires { 0 < self.old.event_room }
         ensures number { result ≡ length self.old.events + 1 }
-        ensures after { self.new ≡ record self.old { events = self.old.events ++ fault owner mount ∷ []; room = self.new.room } }
+        ensures after { self.new ≡ record self.old { events = self.old.events ++ fault owner mount ∷ []; room = self.new.room; event_room = self.new.event_room } }
     {
         let kind = Kind::Fault { mount };
         add(&mut self.events, Event { owner, kind })
+    }
+
+    /// Makes room for so many events more.
+    ///
+    /// # Errors
+    /// `AllocError` where memory is wanting.
+    pub fn reserve_events(&mut self, count: usize) -> Result<(), AllocError>
+        ensures room { OnOk result (count ≤ self.new.event_room) }
+        ensures more { self.old.event_room ≤ self.new.event_room }
+        ensures same { self.new ≡ record self.old { room = self.new.room; event_room = self.new.event_room } }
+    {
+        self.events.reserve(count)
+    }
+
+    /// Makes a place for the generation of a key, which then needs no memory.
+    ///
+    /// # Errors
+    /// `AllocError` where memory is wanting.
+    pub fn prepare(&mut self, key: Vec<u8>) -> Result<(), AllocError>
+        ensures place { OnOk result (HasPlace self.new.places key.items) }
+        ensures places { KeepsPlaces self.old.places self.new.places }
+        ensures same { self.new ≡ record self.old { places = self.new.places } }
+    {
+        self.generations.prepare(key)
+    }
+
+    /// Adds a commit, or one key of it, where there is room and its keys have places; gives the event's number, which their
+    /// generations are then. What was kept under the keys is dropped.
+    pub fn add_done(&mut self, owner: u32, done: Commit, keys: Vec<Name>) -> u64
+        requires room { 0 < self.old.event_room }
+        requires places { AllByRecursion (HasPlace self.old.places) keys.items }
+        ensures number { result ≡ length self.old.events + 1 }
+        ensures after { self.new ≡ record self.old {
+          events = self.old.events ++ done_event owner done ∷ [];
+          generations = with_numbers (length self.old.events + 1) self.old.generations keys.items;
+          cache = record self.old.cache { entries = without_all keys.items self.old.cache.entries };
+          room = self.new.room;
+          event_room = self.new.event_room;
+          places = self.new.places;
+        } }
+        ensures room { self.new.event_room + 1 ≡ self.old.event_room }
+        ensures places { KeepsPlaces self.old.places self.new.places }
+    {
+        let Commit {
+            line,
+            mode,
+            ops,
+            key,
+        } = done;
+        let kind = Kind::Done {
+            line,
+            mode,
+            ops,
+            key,
+        };
+        let number = add(&mut self.events, Event { owner, kind });
+        number_keys(&mut self.generations, &mut self.cache, keys, number);
+        number
+    }
+
+    /// Puts the cells of a local array in place of those that the run holds of it.
+    pub fn put_held(&mut self, array: u64, cells: Snapshot)
+        requires { IsSome (known_after self.old.events array) }
+        ensures { self.new ≡ record self.old { locals = set self.old.locals array (Some cells) } }
+    {
+        prove!(array < self.arrays.len() as u64);
+        put_cells(self.arrays.as_mut_slice(), array as usize, cells);
     }
 
     /// Adds the opening of the next array where there is room; gives the event's number. Of a local array the cells are given too.
@@ -230,6 +305,7 @@ impl Records {
           events = self.old.events ++ opened_event owner info ∷ [];
           locals = self.old.locals ++ local ∷ [];
           room = self.new.room;
+          event_room = self.new.event_room;
         } }
     {
         let entry = Entry {
@@ -244,16 +320,47 @@ impl Records {
     }
 }
 
+/// Puts a number at each of some keys that have a place, and drops what is kept under them.
+fn number_keys(generations: &mut KeyNumbers, cache: &mut ChunkCache, keys: Vec<Name>, number: u64)
+    requires places { AllByRecursion (HasPlace generations.old.places) keys.items }
+    requires number { 0 < number }
+    ensures numbers { generations.new.numbers ≡ with_numbers number generations.old.numbers keys.items }
+    ensures places { KeepsPlaces generations.old.places generations.new.places }
+    ensures cache { cache.new ≡ record cache.old { entries = without_all keys.items cache.old.entries } }
+{
+    for key in keys {
+        number_key(generations, cache, key, number);
+    }
+}
+
+fn number_key(generations: &mut KeyNumbers, cache: &mut ChunkCache, key: Name, number: u64)
+    requires place { HasPlace generations.old.places key }
+    requires number { 0 < number }
+    ensures numbers { generations.new.numbers ≡ finmap.insert generations.old.numbers key number }
+    ensures places { KeepsPlaces generations.old.places generations.new.places }
+    ensures cache { cache.new ≡ record cache.old { entries = after_drop key cache.old.entries } }
+{
+    cache.drop_key(key.items());
+    generations.put(key.into_inner().into_bytes(), number);
+}
+
 /// Adds an event where there is room; gives its number.
 fn add(events: &mut Vec<Event>, event: Event) -> u64
     requires { vec_len events.old < vec_capacity events.old }
     ensures items { events.new.items ≡ events.old.items ++ event ∷ [] }
     ensures number { result ≡ length events.new.items }
+    ensures room { vec_capacity events.new ≡ vec_capacity events.old }
 {
-    let Ok(()) = events.push(event) else {
-        unreachable!();
-    };
+    events.push_reserved(event);
     events.len() as u64
+}
+
+fn put_cells(entries: &mut [Entry], place: usize, cells: Snapshot)
+    requires { place < length entries.old }
+    ensures locals { map (λ (e : EntryOf). e.local) entries.new ≡ set (map (λ (e : EntryOf). e.local) entries.old) place (Some cells) }
+    ensures arrays { (events : History) → AreArrays events entries.old → AreArrays events entries.new }
+{
+    entries[place].local = Some(cells);
 }
 
 /// Adds an array where there is room.

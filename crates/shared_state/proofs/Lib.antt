@@ -12,3 +12,5 @@ pub mod Located
 pub mod Begun
 pub mod Entered
 pub mod Filled
+pub mod Beside
+pub mod Committed

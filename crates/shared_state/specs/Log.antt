@@ -18,10 +18,19 @@ pub record Log : Type 0 where
 abbrev pub log_of : RecordsOf → Log
 log_of records = record { events = records.events; generations = records.generations; cache = records.cache; locals = records.locals }
 
--- the store, and the log
+-- what may be added without memory: so many events, and generations at these keys
+pub record Spare : Type 0 where
+  pub events : ℕ
+  pub places : Generations
+
+abbrev pub spare_of : RecordsOf → Spare
+spare_of records = record { events = records.event_room; places = records.places }
+
+-- the store, the log, and what may be added without memory
 pub record StateOf (K : Type 0) : Type 0 where
   pub store : K
   pub log : Log
+  pub spare : Spare
 
 -- the cells that the run holds of an array, if it holds any
 abbrev pub cells_held : Log → ℕ → Option SnapshotCells

@@ -14,6 +14,7 @@ use Rattle.history.specs.OpenRows.{next_array, new_ref}
 use Rattle.history.specs.Outcomes.{Outcome, path_taken, bad_metadata, exists, mismatch, there, found, not_found, bad_want, made, opening_outcome, new_info}
 use Rattle.history.specs.Own.{opened_event, fault}
 use Rattle.history.specs.Places.{array_at, IsFree}
+use Rattle.shared_state.specs.Log.{Log}
 use Rattle.shared_state.specs.declared.opening.Opened.{Opened}
 use Rattle.shared_state.specs.declared.opening.OpenError.{OpenError}
 use Rattle.shared_state.specs.declared.opening.OpenError.TheVariants as error
@@ -116,3 +117,9 @@ IsRefusalOf key n (refusal.Mismatch member) answer = answer ≡ error.Mismatch m
 IsRefusalOf key n refusal.NotFound answer = answer ≡ error.NotFound n
 IsRefusalOf key n (refusal.BadWant member) answer = answer ≡ error.BadWant member
 IsRefusalOf key n refusal.Memory answer = answer ≡ error.Memory
+
+-- what stays beside an opening of a stored array: the generations and the chunks that are kept, and no cells come to be held by the run
+pub record IsBeside (log later : Log) : Type 0 where
+  pub generations : later.generations ≡ log.generations
+  pub cache : later.cache ≡ log.cache
+  pub locals : (later.locals ≡ log.locals) ⊎ (later.locals ≡ log.locals ++ None ∷ [])

@@ -1,5 +1,5 @@
 // Opening an array of a store.
-ghost use Rattle.std.specs.Prelude.{◌≡◌, ◌<◌, ℕ, List, length, true, Option, Some, Err, IfOk, OnOk, IsSome, option_map};
+ghost use Rattle.std.specs.Prelude.{◌≡◌, ◌<◌, ℕ, List, length, true, Option, Some, None, Err, IfOk, OnOk, OnErr, IsSome, option_map};
 ghost use Rattle.std.specs.FinMap as finmap;
 ghost use Rattle.array_homes.specs.Opening.{leaf_at, IsDecision, meta_in, IsFrom};
 ghost use Rattle.array_homes.specs.declared.deciding.OpeningRefusal.{OpeningRefusal as RefusalOf};
@@ -12,9 +12,9 @@ ghost use Rattle.history.specs.Leaves.{Leaf, Stored};
 ghost use Rattle.history.specs.Legal.{IsMount};
 ghost use Rattle.history.specs.Outcomes.{outcome_at};
 ghost use Rattle.history.specs.Places.{IsFree};
-ghost use Rattle.shared_state.specs.Seen.{IsFrame, seen_of};
+ghost use Rattle.shared_state.specs.Seen.{IsFrame, IsQuiet, seen_of};
 ghost use Rattle.shared_state.specs.Agreement.{Opening, Agrees, IsState, KeepsAgreement, TakesMount};
-ghost use Rattle.shared_state.specs.Openings.{IsOpening, AnswersKnown, IsRefusalOf};
+ghost use Rattle.shared_state.specs.Openings.{IsOpening, AnswersKnown, IsRefusalOf, IsBeside};
 ghost use Rattle.shared_state.specs.Placed.{place_at};
 
 use crate::getting::{GetError, copy_name};
@@ -68,7 +68,8 @@ impl<K: KvStore> State<K> {
     /// whose metadata is written. Metadata that the store has is never written over.
     ///
     /// # Errors
-    /// The first that holds, as `OpenError` lists them. After each but `StoreFailed`, which one event more tells, no event is new.
+    /// The first that holds, as `OpenError` lists them. After each but `StoreFailed`, which one event more tells, no event is new, and
+    /// after each the store has what it had.
     pub fn open(
         &mut self,
         owner: u32,
@@ -85,6 +86,9 @@ impl<K: KvStore> State<K> {
         ensures kept { let seen = seen_of K.contents K.faults K.prefixes K.names K.standing K.change_count in KeepsAgreement (seen self.old.store) self.old.log (seen self.new.store) self.new.log }
         ensures frame { let seen = seen_of K.contents K.faults K.prefixes K.names K.standing K.change_count in IsFrame (seen self.old.store) (seen self.new.store) }
         ensures failed { (event : ℕ) → result ≡ Err (OpenError.StoreFailed event) → K.faults self.old.store < K.faults self.new.store }
+        ensures there { IfOk result (λ o. o.event ≡ None → self.new ≡ self.old) }
+        ensures beside { IsBeside self.old.log self.new.log }
+        ensures quiet { let seen = seen_of K.contents K.faults K.prefixes K.names K.standing K.change_count in OnErr result (IsQuiet (seen self.old.store) (seen self.new.store)) }
     {
         let place = place_of(self.alloc, mount, path, want)?;
         self.open_at(owner, &place, want, may_open, may_create)
@@ -106,6 +110,9 @@ impl<K: KvStore> State<K> {
         ensures kept { let seen = seen_of K.contents K.faults K.prefixes K.names K.standing K.change_count in KeepsAgreement (seen self.old.store) self.old.log (seen self.new.store) self.new.log }
         ensures frame { let seen = seen_of K.contents K.faults K.prefixes K.names K.standing K.change_count in IsFrame (seen self.old.store) (seen self.new.store) }
         ensures failed { (event : ℕ) → result ≡ Err (OpenError.StoreFailed event) → K.faults self.old.store < K.faults self.new.store }
+        ensures there { IfOk result (λ o. o.event ≡ None → self.new ≡ self.old) }
+        ensures beside { IsBeside self.old.log self.new.log }
+        ensures quiet { let seen = seen_of K.contents K.faults K.prefixes K.names K.standing K.change_count in OnErr result (IsQuiet (seen self.old.store) (seen self.new.store)) }
     {
         let at = self.events().len() as u64;
         match self.places.find(self.alloc, place.location.items()) {
@@ -160,6 +167,9 @@ impl<K: KvStore> State<K> {
         ensures kept { let seen = seen_of K.contents K.faults K.prefixes K.names K.standing K.change_count in KeepsAgreement (seen self.old.store) self.old.log (seen self.new.store) self.new.log }
         ensures frame { let seen = seen_of K.contents K.faults K.prefixes K.names K.standing K.change_count in IsFrame (seen self.old.store) (seen self.new.store) }
         ensures failed { (event : ℕ) → result ≡ Err (OpenError.StoreFailed event) → K.faults self.old.store < K.faults self.new.store }
+        ensures new { IfOk result (λ o. IsSome o.event) }
+        ensures beside { IsBeside self.old.log self.new.log }
+        ensures quiet { let seen = seen_of K.contents K.faults K.prefixes K.names K.standing K.change_count in OnErr result (IsQuiet (seen self.old.store) (seen self.new.store)) }
     {
         let mount = copy_name(self.alloc, place.names.mount.items())?;
         match self.get(owner, mount, place.key.items()) {
@@ -189,6 +199,9 @@ impl<K: KvStore> State<K> {
         ensures kept { let seen = seen_of K.contents K.faults K.prefixes K.names K.standing K.change_count in KeepsAgreement (seen self.old.store) self.old.log (seen self.new.store) self.new.log }
         ensures frame { let seen = seen_of K.contents K.faults K.prefixes K.names K.standing K.change_count in IsFrame (seen self.old.store) (seen self.new.store) }
         ensures failed { (event : ℕ) → result ≡ Err (OpenError.StoreFailed event) → K.faults self.old.store < K.faults self.new.store }
+        ensures new { IfOk result (λ o. IsSome o.event) }
+        ensures beside { IsBeside self.old.log self.new.log }
+        ensures quiet { let seen = seen_of K.contents K.faults K.prefixes K.names K.standing K.change_count in OnErr result (IsQuiet (seen self.old.store) (seen self.new.store)) }
     {
         match decided(self.alloc, want, may_open, may_create, bytes) {
             Ok(Decided::Found { form }) => self.enter_found(owner, place, want, form),

@@ -4,7 +4,9 @@
 //! which events it adds.
 #![tactic(auto)]
 
+mod changing;
 mod decoding;
+mod deed;
 mod entering;
 mod error;
 mod fetching;
@@ -19,6 +21,7 @@ mod place;
 mod reading;
 mod state;
 
+pub use deed::{ChangeError, Deed, HeldCells};
 pub use error::FetchError;
 pub use opening::{OpenError, Opened};
 pub use reading::{Bounds, Fetched, Look};

@@ -8,7 +8,7 @@ ghost use Rattle.kv_face.specs.declared.change.Change.{Change as ChangeOf};
 ghost use Rattle.kv_face.specs.Store.{Contents};
 ghost use Rattle.history.specs.Legal.{IsMount, is_opening};
 ghost use Rattle.history.specs.Places.{IsFree};
-ghost use Rattle.shared_state.specs.Seen.{IsFrame, seen_of};
+ghost use Rattle.shared_state.specs.Seen.{IsFrame, IsQuiet, seen_of};
 ghost use Rattle.shared_state.specs.Agreement.{IsState, KeepsAgreement, TakesMount};
 ghost use Rattle.shared_state.specs.Fetches.{HasFailed};
 ghost use Rattle.shared_state.specs.Openings.{IsStoreError};
@@ -103,6 +103,7 @@ impl<K: KvStore> State<K> {
             HasFailed owner place.now.names.mount (seen self.old.store) (seen self.new.store) self.old.log self.new.log event }
         ensures memory { result ≡ Err OpenError.Memory → self.new.log ≡ self.old.log }
         ensures errors { OnErr result (IsStoreError result) }
+        ensures quiet { let seen = seen_of K.contents K.faults K.prefixes K.names K.standing K.change_count in OnErr result (IsQuiet (seen self.old.store) (seen self.new.store)) }
         ensures frame { let seen = seen_of K.contents K.faults K.prefixes K.names K.standing K.change_count in IsFrame (seen self.old.store) (seen self.new.store) }
         ensures kept { let seen = seen_of K.contents K.faults K.prefixes K.names K.standing K.change_count in KeepsAgreement (seen self.old.store) self.old.log (seen self.new.store) self.new.log }
     {

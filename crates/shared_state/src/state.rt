@@ -10,7 +10,7 @@ use run_records::Records;
 use std::alloc::{AllocError, Global};
 use std::marker::Model;
 
-/// The events of a run, over a store. Contracts see the store and the log.
+/// The events of a run, over a store. Contracts see the store, the log, and what may be added to it without memory.
 #[derive(Drop)]
 pub struct State<K: KvStore> {
     pub(crate) alloc: Global,
@@ -24,13 +24,13 @@ impl<K: KvStore> Model for State<K> {
     ghost use Rattle.stack_driver.specs.contracts.view.View as view_type;
     ghost use Rattle.run_records.specs.Numbers.{generations_code};
     ghost use Rattle.history.specs.Places.{IsTable};
-    ghost use Rattle.shared_state.specs.Log.{StateOf, log_of};
+    ghost use Rattle.shared_state.specs.Log.{StateOf, log_of, spare_of};
 
     ghost Value = { StateOf K };
 
     ghost coded = { Prim.hlevel (codes, K.code, view_type.the_row.coded, generations_code) };
 
-    ghost view = { λ s. record { store = s.store; log = log_of s.records } };
+    ghost view = { λ s. record { store = s.store; log = log_of s.records; spare = spare_of s.records } };
 
     ghost invariant = { λ s. IsTable s.records.events s.places };
 }

@@ -1,4 +1,4 @@
-use Rattle.std.proofs.Common.{rules, ◌≡◌, Some, IsSome, sym, ap, subst, ◌∙◌}
+use Rattle.std.proofs.Common.{rules, IsSome, sym, ap, subst, ◌∙◌}
 use Rattle.std.specs.Option.{option_map}
 use Rattle.chunk_forms.specs.Metadata.{with_shape}
 use Rattle.history.specs.Arrays.{Known, known_after, form_of}
