@@ -217,6 +217,7 @@ impl Records {
         requires { 0 < self.old.event_room }
         ensures number { result ≡ length self.old.events + 1 }
         ensures after { self.new ≡ record self.old { events = self.old.events ++ fault owner mount ∷ []; room = self.new.room; event_room = self.new.event_room } }
+        ensures room { self.new.event_room + 1 ≡ self.old.event_room }
     {
         let kind = Kind::Fault { mount };
         add(&mut self.events, Event { owner, kind })

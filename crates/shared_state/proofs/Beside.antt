@@ -1,9 +1,8 @@
 -- What stays beside an opening.
-use Rattle.std.proofs.Common.{◌≡◌, ℕ, List, [], ◌∷◌, ◌++◌, Option, Some, None, refl, sym, ap, subst, ◌∙◌}
-use Rattle.std.specs.Prelude.{◌⊎◌, Result, Ok, Err, OnOk, OnErr, IsSome, IfOk}
+use Rattle.std.proofs.Common.{◌≡◌, ℕ, List, Option, Some, None, inl, inr, arith, refl, sym, subst, ◌∙◌}
+use Rattle.std.specs.Prelude.{Result, Ok, Err, OnOk, OnErr, IsSome, IfOk}
 use Rattle.history.specs.declared.array.ArrayInfo.{ArrayInfo}
-use Rattle.history.specs.Outcomes.{Outcome}
-use Rattle.shared_state.specs.Seen.{StoreSeen, IsFrame, IsQuiet, IsRead}
+use Rattle.shared_state.specs.Seen.{StoreSeen, IsQuiet, IsRead}
 use Rattle.shared_state.specs.declared.opening.Opened.{Opened}
 use Rattle.shared_state.specs.declared.opening.OpenError.{OpenError}
 use Rattle.shared_state.specs.declared.opening.OpenError.TheVariants as error
@@ -48,9 +47,13 @@ has_event (Ok o) a n is = subst IsSome (sym is.1) refl
 has_event (Err e) a n is = tt
 
 -- so it is none of an array that was there
-pub never_there : {X : Type 0} (r : Result Opened OpenError) → IfOk r (λ o. IsSome o.event) → IfOk r (λ o. o.event ≡ None → X)
-never_there (Ok o) is = λ none. let clash : IsSome None = subst IsSome none is in absurd (cc)
-never_there (Err e) is = tt
+pub never_there : (X : Type 0) (r : Result Opened OpenError) → IfOk r (λ o. IsSome o.event) → IfOk r (λ o. o.event ≡ None → X)
+never_there X (Ok o) is = λ none. no_event (o.event) none is
+  where
+    no_event : (e : Option ℕ) → e ≡ None → IsSome e → X
+    no_event None none some = absurd (cc)
+    no_event (Some n) none some = absurd (cc)
+never_there X (Err e) is = tt
 
 pub quiet_same : (store : StoreSeen) → IsQuiet store store
 quiet_same store = record { frame = record { faults = omega arith; prefixes = refl; names = refl }; contents = refl; changes = refl }

@@ -1,11 +1,12 @@
 -- A state agrees with its opening behind a commit.
-use Rattle.std.proofs.Common.{◌≡◌, ℕ, ◌+◌, ◌<◌, ◌≤◌, ◌⊎◌, inl, inr, List, [], ◌∷◌, ◌++◌, length, Bool, true, false, cond, Option, Some, None, refl, sym, ap, subst, ◌∙◌, All, arith}
-use Rattle.std.specs.Prelude.{count_by, filter, not, nat_lt, set}
+use Rattle.std.proofs.Common.{◌≡◌, ℕ, zero, suc, ◌+◌, ◌<◌, ◌≤◌, ◌⊎◌, inl, inr, List, [], ◌∷◌, ◌++◌, length, Bool, true, false, cond, Option, Some, None, refl, sym, ap, subst, ◌∙◌, All, arith}
+use Rattle.std.specs.Prelude.{◌||◌, Result, Ok, Err, OnOk, OnErr, count_by, filter, not, nat_lt, set}
 use Rattle.std.specs.FinMap as finmap
 use Rattle.std.specs.List.{AllByRecursion, list_any}
 use Rattle.std.specs.Str.{bytes_eq}
 use Rattle.std.proofs.lemmas.List.Elements.{All-from_recursion, recursion_from_All}
 use Rattle.std.proofs.lemmas.Slice.Eq.{bytes_eq-Decides}
+use Rattle.std.proofs.lemmas.Bool.{ltb-true, ltb-false}
 use Rattle.cells.proofs.Laws.{true_or_false}
 use Rattle.cells.specs.Elements.{word_at}
 use Rattle.chunk_cache.specs.Cache.{after_drop}
@@ -23,7 +24,10 @@ use Rattle.history.specs.ReadRows.{mount_of}
 use Rattle.history.specs.Touch.{touches}
 use Rattle.history.proofs.Changing.{changes_applied}
 use Rattle.history.proofs.Counted.{counted_more, counted_same}
-use Rattle.history.proofs.GenerationTables.{generations_more, keys_numbered, insert_all}
+use Rattle.history.proofs.GenerationTables.{generations_more}
+use Rattle.std.specs.FinMap.{get-insert}
+use Rattle.std.specs.Cmp.Lexicographic.{nat_list_cmp_total}
+use Rattle.std.proofs.lemmas.Map.Text.{is_eq-slice_cmp}
 use Rattle.history.proofs.Histories.{known_after-more, legal_step, legal_more}
 use Rattle.history.proofs.Keeping.{represents_event}
 use Rattle.history.proofs.Known.{some_inj, opened_le}
@@ -32,13 +36,17 @@ use Rattle.history.proofs.Untouched.{generation_untouched}
 use Rattle.run_records.specs.Recorded.{with_numbers, without_all, done_event}
 use Rattle.shared_state.specs.declared.deed.Deed.{Deed}
 use Rattle.shared_state.specs.declared.deed.HeldCells.{HeldCells}
-use Rattle.shared_state.specs.Seen.{StoreSeen, IsFrame}
+use Rattle.shared_state.specs.Seen.{StoreSeen, IsFrame, IsQuiet}
 use Rattle.shared_state.specs.Log.{Log, cells_held}
 use Rattle.shared_state.specs.Outline.{outline}
 use Rattle.shared_state.specs.Kept.{IsKept, IsKeptNow, IsCurrent}
 use Rattle.shared_state.specs.Agreement.{Opening, Agrees, IsTrueTo, IsHeld, IsHeldNow, is_fault, TakesMount}
 use Rattle.shared_state.specs.Changing.{IsOneOf, with_cells, committed, AreTouched, IsHeldStill, IsHeldAnew, IsRightBy, IsDeed}
-use Rattle.shared_state.proofs.Later.{count_more, frame_then}
+use Rattle.shared_state.specs.declared.deed.ChangeError.{ChangeError}
+use Rattle.shared_state.specs.declared.deed.ChangeError.TheVariants as error
+use Rattle.shared_state.specs.Fetches.{HasFailed}
+use Rattle.shared_state.proofs.Got.{agrees_quiet}
+use Rattle.shared_state.proofs.Later.{count_more, frame_then, agrees_fault}
 use Rattle.shared_state.proofs.Outline.{outline-more}
 
 -- what holds of all entries holds of those that pass a test
@@ -68,11 +76,18 @@ left P (k ∷ keys) entries all =
     (λ e is. (is.0.0, λ one. elim one [ inl same ↦ is.0.1 same | inr more ↦ is.1 more ]))
     (left (λ e. P e × (k ≡ e.0 → ⊥)) keys (after_drop k entries) (passed P (λ e. P e × (k ≡ e.0 → ⊥)) (λ e. not (bytes_eq k e.0)) entries (λ e t p. (p, other_key k e.0 t)) all))
 
--- the numbers of keys
-numbers-insert_all : (n : ℕ) (keys : List (List ℕ)) (table : Generations) → with_numbers n table keys ≡ insert_all n table keys
-unfolding insert_all
-numbers-insert_all n [] table = refl
-numbers-insert_all n (key ∷ keys) table = numbers-insert_all n keys (finmap.insert table key n)
+-- the number at a key, once some keys have one
+either_number : (a b : Bool) (n : ℕ) (o : Option ℕ) → cond b (Some n) (cond a (Some n) o) ≡ cond (a || b) (Some n) o
+either_number true true n o = refl
+either_number true false n o = refl
+either_number false b n o = refl
+
+get-with_numbers : (n : ℕ) (q : List ℕ) (keys : List (List ℕ)) (table : Generations) → finmap.get (with_numbers n table keys) q ≡ cond (list_any (bytes_eq q) keys) (Some n) (finmap.get table q)
+get-with_numbers n q [] table = refl
+get-with_numbers n q (key ∷ keys) table =
+    get-with_numbers n q keys (finmap.insert table key n)
+    ∙ ap (cond (list_any (bytes_eq q) keys) (Some n)) (get-insert nat_list_cmp_total table key n q ∙ ap (λ b. cond b (Some n) (finmap.get table q)) (is_eq-slice_cmp q key))
+    ∙ either_number (bytes_eq q key) (list_any (bytes_eq q) keys) n (finmap.get table q)
 
 any_by : (key k : List ℕ) (b : Bool) → bytes_eq key k ≡ true → (bytes_eq key k || b) ≡ true
 any_by key k b t = ap (λ c. c || b) t
@@ -95,7 +110,9 @@ one_of key [] any = absurd (cc)
 one_of key (k ∷ keys) any = one_by key k keys (bytes_eq key k) refl any (one_of key keys)
 
 length_set : {A : Type 0} (xs : List A) (n : ℕ) (x : A) → length (set xs n x) ≡ length xs
-length_set xs n x = simp length-set
+length_set [] n x = refl
+length_set (y ∷ xs) zero x = refl
+length_set (y ∷ xs) (suc n) x = ap suc (length_set xs n x)
 
 cells_count : (cells : List HeldCells) (locals : List (Option SnapshotCells)) → length (with_cells locals cells) ≡ length locals
 cells_count [] locals = refl
@@ -132,9 +149,9 @@ module _ (opening : Opening) (store next : StoreSeen) (log : Log) (owner : ℕ) 
 
   all_kept : All (IsKept later) log_later.cache.entries
   all_kept =
-      All-from_recursion log_later.cache.entries
+      All-from_recursion (IsKept later) log_later.cache.entries
       (weaker (λ e. IsKept h e × (IsOneOf deed.keys.items e.0 → ⊥)) (IsKept later) log_later.cache.entries (λ entry is. kept_later entry is.0)
-      (left (IsKept h) deed.keys.items log.cache.entries (recursion_from_All log.cache.entries agrees.kept)))
+      (left (IsKept h) deed.keys.items log.cache.entries (recursion_from_All (IsKept h) log.cache.entries agrees.kept)))
 
   -- a chunk whose key isn't touched
   untouched : (c : Chunk) (k : Known) (key : List ℕ) → known_after h c.array ≡ Some k → IsIndexOf k.info c.index → key_in (known_after later c.array) c ≡ Some key → (IsOneOf deed.keys.items key → ⊥) → touches h e c ≡ false
@@ -171,9 +188,9 @@ module _ (opening : Opening) (store next : StoreSeen) (log : Log) (owner : ℕ) 
 
     all_now : All (IsKeptNow start later) log_later.cache.entries
     all_now =
-        All-from_recursion log_later.cache.entries
+        All-from_recursion (IsKeptNow start later) log_later.cache.entries
         (weaker (λ e. IsKeptNow start h e × (IsOneOf deed.keys.items e.0 → ⊥)) (IsKeptNow start later) log_later.cache.entries kept_now_later
-        (left (IsKeptNow start h) deed.keys.items log.cache.entries (recursion_from_All log.cache.entries true_to.kept)))
+        (left (IsKeptNow start h) deed.keys.items log.cache.entries (recursion_from_All (IsKeptNow start h) log.cache.entries true_to.kept)))
 
     held_still : (a : ℕ) (k : Known) → known_after h a ≡ Some k → is_local k.info.home ≡ true → IsHeldStill log log_later e a k → IsHeldNow start log_later a k
     held_still a k known local still =
@@ -192,19 +209,21 @@ module _ (opening : Opening) (store next : StoreSeen) (log : Log) (owner : ℕ) 
 
     numbered : IsNumbered h e log.generations log_later.generations
     numbered =
-        subst (IsNumbered h e log.generations) (sym (numbers-insert_all (length h + 1) deed.keys.items log.generations))
-        (keys_numbered h e log.generations deed.keys.items (λ c key it. among key deed.keys.items (is_deed.touched.all c key it)) (λ key any. is_deed.touched.only key (one_of key deed.keys.items any)))
+        let keys = deed.keys.items in
+        record {
+          touched = λ c key it. get-with_numbers (length h + 1) key keys log.generations ∙ ap (λ b. cond b (Some (length h + 1)) (finmap.get log.generations key)) (among key keys (is_deed.touched.all c key it));
+          others = λ key none.
+              get-with_numbers (length h + 1) key keys log.generations
+              ∙ elim (true_or_false (list_any (bytes_eq key) keys)) [
+                | inl t ↦ let there = is_deed.touched.only key (one_of key keys t) in absurd (none there.0 there.1)
+                | inr f ↦ ap (λ b. cond b (Some (length h + 1)) (finmap.get log.generations key)) f
+              ];
+        }
 
     -- the changes are counted
     counted_by : (b : Bool) → nat_lt 0 (length changes) ≡ b → (0 < length changes → OneMore store.changes next.changes) → (length changes ≡ 0 → next.changes ≡ store.changes) → IsCounted start opening.store.changes next.changes later
-    counted_by true some more none = counted_more start opening.store.changes store.changes next.changes h e true_to.counted (right.counted ∙ some) (more (lt_of some))
-      where
-        lt_of : nat_lt 0 (length changes) ≡ true → 0 < length changes
-        lt_of t = omega (arith, t)
-    counted_by false some more none = counted_same start opening.store.changes store.changes next.changes h e true_to.counted (right.counted ∙ some) (none (zero_of some))
-      where
-        zero_of : nat_lt 0 (length changes) ≡ false → length changes ≡ 0
-        zero_of f = omega (arith, f)
+    counted_by true some more none = counted_more start opening.store.changes store.changes next.changes h e true_to.counted (right.counted ∙ some) (more (ltb-true 0 (length changes) some))
+    counted_by false some more none = counted_same start opening.store.changes store.changes next.changes h e true_to.counted (right.counted ∙ some) (none (let low : length changes ≤ 0 = ltb-false 0 (length changes) some in omega (arith, low)))
 
     true_later : ((m : Contents) → store.contents ≡ Some m → next.contents ≡ Some (after m changes)) → (0 < length changes → OneMore store.changes next.changes) → (length changes ≡ 0 → next.changes ≡ store.changes)
         → IsTrueTo start opening next log_later
@@ -249,3 +268,15 @@ module _ (opening : Opening) (store next : StoreSeen) (log : Log) (owner : ℕ) 
     held = held_then;
     holds = λ start told. true_later start told made more none;
   }
+
+-- what comes of a deed
+pub agrees_deed : (opening : Opening) (store next : StoreSeen) (log then : Log) (owner : ℕ) (deed : Deed) (changes : List Change) (r : Result ℕ ChangeError) → OnOk r (then ≡ committed log owner deed)
+    → OnOk r ((m : Contents) → store.contents ≡ Some m → next.contents ≡ Some (after m changes)) → OnOk r (0 < length changes → OneMore store.changes next.changes) → OnOk r (length changes ≡ 0 → next.changes ≡ store.changes) → OnErr r (IsQuiet store next)
+    → ((event : ℕ) → r ≡ Err (error.StoreFailed event) → HasFailed owner deed.mount store next log then event) → (r ≡ Err error.Memory → then ≡ log) → IsFrame store next → IsDeed store log owner deed changes → Agrees opening store log
+    → Agrees opening next then
+agrees_deed opening store next log then owner deed changes (Ok n) ok done more none quiet failed memory frame is_deed is =
+    subst (Agrees opening next) (sym ok) (agrees_committed opening store next log owner deed changes is is_deed frame done more none)
+agrees_deed opening store next log then owner deed changes (Err (error.StoreFailed event)) ok done more none quiet failed memory frame is_deed is =
+    let has = failed event refl in
+    subst (Agrees opening next) (sym has.added) (agrees_fault opening store next log owner deed.mount quiet has.rose is)
+agrees_deed opening store next log then owner deed changes (Err error.Memory) ok done more none quiet failed memory frame is_deed is = subst (Agrees opening next) (sym (memory refl)) (agrees_quiet opening store next log quiet is)

@@ -1,7 +1,7 @@
 // Making a commit.
-ghost use Rattle.std.specs.Prelude.{◌≡◌, ◌≤◌, ◌<◌, ◌+◌, ℕ, List, length, Some, Ok, Err, IfOk, OnOk, OnErr, IsSome};
+ghost use Rattle.std.specs.Prelude.{◌≡◌, ◌++◌, ◌∷◌, [], ◌≤◌, ◌<◌, ◌+◌, ℕ, List, length, Some, Ok, Err, IfOk, OnOk, OnErr, IsSome};
 ghost use Rattle.std.specs.List.{AllByRecursion};
-ghost use Rattle.kv_face.specs.Store.{Contents, after};
+ghost use Rattle.kv_face.specs.Store.{Contents, OneMore, after};
 ghost use Rattle.history.specs.Arrays.{known_after};
 ghost use Rattle.run_records.specs.Numbers.{HasPlace, KeepsPlaces};
 ghost use Rattle.run_records.specs.Recorded.{with_numbers, without_all, done_event, RecordsOf};
@@ -57,7 +57,7 @@ fn put(records: &mut Records, held: HeldCells)
 }
 
 /// Adds the event of a commit that was made.
-fn record(records: &mut Records, owner: u32, deed: Deed) -> u64
+fn enter_commit(records: &mut Records, owner: u32, deed: Deed) -> u64
     requires room { 0 < records.old.event_room }
     requires places { AllByRecursion (HasPlace records.old.places) deed.keys.items }
     requires known { AllByRecursion (λ (c : HeldCellsOf). IsSome (known_after records.old.events c.array)) deed.cells.items }
@@ -123,8 +123,29 @@ impl<K: KvStore> State<K> {
         ensures room { self.old.spare.events ≤ self.new.spare.events + 1 }
         ensures places { KeepsPlaces self.old.spare.places self.new.spare.places }
     {
+        self.make_deed(owner, deed, changes)
+    }
+
+    fn make_deed(&mut self, owner: u32, deed: Deed, changes: &[Change]) -> Result<u64, ChangeError>
+        requires made { let seen = seen_of K.contents K.faults K.prefixes K.names K.standing K.change_count in AreMade (seen self.old.store) changes.now }
+        requires known { AllByRecursion (λ (c : HeldCellsOf). IsSome (known_after self.old.log.events c.array)) deed.cells.items }
+        requires room { 0 < self.old.spare.events }
+        requires places { AllByRecursion (HasPlace self.old.spare.places) deed.keys.items }
+        ensures number { IfOk result (λ n. n ≡ length self.old.log.events + 1) }
+        ensures after { OnOk result (self.new.log ≡ committed self.old.log owner deed) }
+        ensures done { OnOk result ((m : Contents) → K.contents self.old.store ≡ Some m → K.contents self.new.store ≡ Some (after m changes.now)) }
+        ensures one_more { OnOk result (0 < length changes.now → OneMore (K.change_count self.old.store) (K.change_count self.new.store)) }
+        ensures none { OnOk result (length changes.now ≡ 0 → K.change_count self.new.store ≡ K.change_count self.old.store) }
+        ensures failed { (event : ℕ) → result ≡ Err (ChangeError.StoreFailed event) → let seen = seen_of K.contents K.faults K.prefixes K.names K.standing K.change_count in
+            HasFailed owner deed.mount (seen self.old.store) (seen self.new.store) self.old.log self.new.log event }
+        ensures memory { result ≡ Err ChangeError.Memory → self.new.log ≡ self.old.log }
+        ensures quiet { let seen = seen_of K.contents K.faults K.prefixes K.names K.standing K.change_count in OnErr result (IsQuiet (seen self.old.store) (seen self.new.store)) }
+        ensures frame { let seen = seen_of K.contents K.faults K.prefixes K.names K.standing K.change_count in IsFrame (seen self.old.store) (seen self.new.store) }
+        ensures room { self.old.spare.events ≤ self.new.spare.events + 1 }
+        ensures places { KeepsPlaces self.old.spare.places self.new.spare.places }
+    {
         match apply(&mut self.store, changes) {
-            Ok(()) => Ok(record(&mut self.records, owner, deed)),
+            Ok(()) => Ok(enter_commit(&mut self.records, owner, deed)),
             Err(KvError::Failed) => {
                 let event = self.records.add_fault(owner, deed.mount);
                 Err(ChangeError::StoreFailed { event })

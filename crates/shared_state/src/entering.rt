@@ -32,6 +32,7 @@ fn add_new(records: &mut Records, owner: u32, new: NewArray) -> Opened
       events = records.old.events ++ opened_event owner new.info ∷ [];
       locals = records.old.locals ++ None ∷ [];
       room = records.new.room;
+      event_room = records.new.event_room;
     } }
 {
     let NewArray { info, form, array } = new;

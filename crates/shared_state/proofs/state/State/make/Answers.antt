@@ -55,3 +55,6 @@ returns-clause-kept g c = λ opening agrees.
     (made (λ m told. done m told ∙ ap (λ cs. Some (after m cs)) changes ∙ ap (λ key. Some (put_bytes m key (Some (metadata_text form)))) at) (more (omega (arith, count))) missing)))
     (both_err c.write_new.result c.write_new.ensures.contents c.write_new.ensures.count (λ contents changes. record { frame = c.write_new.ensures.frame; contents = contents; changes = changes }))
     c.write_new.ensures.failed c.write_new.ensures.memory c.write_new.ensures.errors agrees
+
+pub returns-clause-quiet : goal.returns-clause-quiet
+returns-clause-quiet g c = both_err c.write_new.result c.write_new.ensures.contents c.write_new.ensures.count (λ contents changes. record { frame = c.write_new.ensures.frame; contents = contents; changes = changes })

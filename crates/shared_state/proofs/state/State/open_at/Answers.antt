@@ -11,6 +11,7 @@ use Rattle.stack_driver.specs.References.{IsReference}
 use Rattle.shared_state.specs.declared.place.Place.{Place}
 use Rattle.shared_state.specs.Log.{StateOf}
 use Rattle.shared_state.proofs.Located.{there_of, free_of}
+use Rattle.shared_state.proofs.Beside.{never_there}
 use Rattle.shared_state.proofs.Answered.{known_answer, taken_answer, never_failed}
 use Rattle.shared_state.proofs.state.State.open_at.Goals as goal
 
@@ -76,3 +77,6 @@ returns-in-Ok-There-clause-failed g c = λ event e.
     let found = c.find.ensures.there c.in-Ok-There.number (c.in-Ok-There.is ∙ ap Ok c.in-Ok-There.field-0-is) in
     let there = there_of h c.self.inside.places table c.items.result.now c.requires.agrees.1.outline c.in-Ok-There.number found.0 in
     absurd (never_failed there.array (length h) c.opened_there.result event (outcome_at leaf nothing (Some there.array)) (c.opened_there.ensures there.array leaf nothing there.known refl refl) e)
+
+pub returns-in-Ok-Free-clause-there : goal.returns-in-Ok-Free-clause-there
+returns-in-Ok-Free-clause-there g c = never_there _ c.open_free.result c.open_free.ensures.new

@@ -12,6 +12,7 @@ use Rattle.shared_state.specs.Openings.{IsOutcomeOf, IsRefusalOf}
 use Rattle.history.specs.History.{History}
 use Rattle.array_homes.specs.declared.deciding.OpeningRefusal.TheVariants as refusal
 use Rattle.shared_state.proofs.Leafs.{outcome_of}
+use Rattle.shared_state.proofs.Beside.{beside_found, beside_made, has_event}
 use Rattle.shared_state.proofs.Answered.{found_answer, made_answer, refused_answer, err_inj}
 use Rattle.shared_state.proofs.state.State.open_stored.Goals as goal
 
@@ -67,3 +68,15 @@ returns-in-Err-clause-answer g c = λ opening agrees.
     let told = c.decided.ensures.outcome place.names.mount place.names.path (λ e. other (err_inj c.decided.result c.in-Err.refusal refusal.Memory c.in-Err.is e)) in
     (told.0, outcome_of opening store log leaf bytes told.0 agrees free c.requires.mount held told.1, subst (λ r. Tells leaf.want bytes r told.0) c.in-Err.is told.2))
     (subst (λ (es : History). IsRefusalOf c.items.result.now (length es) c.in-Err.refusal c.refused.result) c.events.ensures c.refused.ensures)
+
+pub returns-in-Ok-Found-clause-new : goal.returns-in-Ok-Found-clause-new
+returns-in-Ok-Found-clause-new g c = has_event c.enter_found.result _ _ c.enter_found.ensures.entered
+
+pub returns-in-Ok-Found-clause-beside : goal.returns-in-Ok-Found-clause-beside
+returns-in-Ok-Found-clause-beside g c = beside_found c.enter_found.result c.args.self.now.log c.enter_found.new.self.log c.args.owner _ c.enter_found.ensures.after c.enter_found.ensures.err
+
+pub returns-in-Ok-Made-clause-new : goal.returns-in-Ok-Made-clause-new
+returns-in-Ok-Made-clause-new g c = has_event c.make.result _ _ c.make.ensures.entered
+
+pub returns-in-Ok-Made-clause-beside : goal.returns-in-Ok-Made-clause-beside
+returns-in-Ok-Made-clause-beside g c = beside_made c.make.result _ _ c.args.self.now.log c.make.new.self.log c.args.owner _ _ c.make.ensures.after c.make.ensures.failed c.make.ensures.memory c.make.ensures.errors
