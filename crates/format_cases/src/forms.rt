@@ -4,6 +4,7 @@ ghost use Rattle.chunk_forms.specs.Metadata.{is_local};
 
 use crate::encode::encoded;
 use crate::fault::Fault;
+use crate::large::one_of_many;
 use crate::read::{bytes, member, said, sizes, text, told, word_of, zero};
 use cells::Dense;
 use chunk_forms::{Form, FormError, decode_form};
@@ -71,6 +72,7 @@ fn of_form(alloc: Global, call: &str, form: &Form, v: &Value) -> Result<String, 
         "meta" => written(alloc, form),
         "key" => key(alloc, form, &sizes(alloc, v, "chunk")?),
         "decode" => decoded(alloc, form, v),
+        "decode many" => one_of_many(alloc, form, v),
         "encode" => encoded(alloc, form, v),
         _ => Err(Fault::Line),
     }

@@ -10,6 +10,7 @@ mod fault;
 mod forms;
 mod homes;
 mod json;
+mod large;
 mod opening;
 mod read;
 mod wants;

@@ -1,9 +1,9 @@
 -- The arrays by their numbers after one event more.
-use Rattle.std.proofs.Common.{◌≡◌, ◌≢◌, ℕ, zero, suc, ◌+◌, ◌<◌, ◌≤◌, List, [], ◌∷◌, ◌++◌, length, Bool, true, false, cond, Option, Some, None, inl, inr, refl, sym, ap, subst, ◌∙◌, arith, eq-eqb, eqb-true, length-append}
+use Rattle.std.proofs.Common.{◌≡◌, ◌≢◌, ℕ, zero, suc, ◌+◌, ◌<◌, ◌≤◌, List, [], ◌∷◌, ◌++◌, length, Bool, true, false, cond, Option, Some, None, inl, inr, refl, sym, ap, subst, ◌∙◌, arith, eqb-true, length-append}
 use Rattle.std.proofs.lemmas.Grind.{fold-append}
 use Rattle.std.specs.Prelude.{◌==◌, count_by, IsSome}
 use Rattle.std.specs.List.{slice_get, AllByRecursion}
-use Rattle.std.specs.Option.{option_map, option_map_or}
+use Rattle.std.specs.Option.{option_map}
 use Rattle.chunk_forms.specs.declared.form.Form.{Form}
 use Rattle.chunk_forms.specs.Metadata.{shape_of, with_shape}
 use Rattle.cells.proofs.Laws.{true_or_false, equal_or_not, less_or_not}
@@ -17,7 +17,7 @@ use Rattle.history.specs.History.{History}
 use Rattle.history.specs.Arrays.{Known, known_after, form_of, is_local}
 use Rattle.history.specs.Legal.{is_opening}
 use Rattle.history.specs.Own.{fault, opened_event}
-use Rattle.history.specs.Places.{location, array_at, at_step}
+use Rattle.history.specs.Places.{location, array_at}
 use Rattle.history.specs.Store.{resized_after}
 use Rattle.history.specs.Touch.{is_key}
 use Rattle.history.proofs.Histories.{known_after-more, resized_after-more}
@@ -29,7 +29,7 @@ use Rattle.run_records.specs.declared.commit.Commit.{Commit}
 use Rattle.run_records.specs.Recorded.{done_event}
 use Rattle.run_records.specs.Indexed.{shape_in, known_of, opened_by, opened_at_event, resized_of, IsFormOf, AreArrays}
 
-get_front : {A : Type 0} (xs ys : List A) (k : ℕ) → k < length xs → slice_get (xs ++ ys) k ≡ slice_get xs k
+pub get_front : {A : Type 0} (xs ys : List A) (k : ℕ) → k < length xs → slice_get (xs ++ ys) k ≡ slice_get xs k
 get_front [] ys k lt = absurd (omega arith)
 get_front (x ∷ xs) ys zero lt = refl
 get_front (x ∷ xs) ys (suc k) lt = get_front xs ys k (omega arith)
@@ -43,20 +43,20 @@ get_past [] k le = refl
 get_past (x ∷ xs) zero le = absurd (omega arith)
 get_past (x ∷ xs) (suc k) le = get_past xs k (omega arith)
 
-count_more : (f : Event → Bool) (events : History) (e : Event) → count_by f (events ++ e ∷ []) ≡ count_by f events + cond (f e) 1 0
+pub count_more : (f : Event → Bool) (events : History) (e : Event) → count_by f (events ++ e ∷ []) ≡ count_by f events + cond (f e) 1 0
 count_more f events e = fold-append (λ a x. a + cond {A = ℕ} (f x) 1 0) 0 events (e ∷ [])
 
-place_below : (n : ℕ) (es : List Entry) (a : ℕ) (e : Entry) → AllByRecursion (λ (f : Entry). f.place < n) es → slice_get es a ≡ Some e → e.place < n
+pub place_below : (n : ℕ) (es : List Entry) (a : ℕ) (e : Entry) → AllByRecursion (λ (f : Entry). f.place < n) es → slice_get es a ≡ Some e → e.place < n
 place_below n [] a e all is = absurd (cc)
 place_below n (f ∷ es) zero e all is = let same : f.place ≡ e.place = cc in let low = all.0 in omega arith
 place_below n (f ∷ es) (suc a) e all is = place_below n es a e all.1 is
 
 -- what an entry tells stays
-known_more : (h : History) (e : Event) (o : Option Entry) → ((f : Entry) → o ≡ Some f → f.place < length h) → known_of (h ++ e ∷ []) o ≡ known_of h o
+pub known_more : (h : History) (e : Event) (o : Option Entry) → ((f : Entry) → o ≡ Some f → f.place < length h) → known_of (h ++ e ∷ []) o ≡ known_of h o
 known_more h e None within = refl
 known_more h e (Some f) within = ap (opened_at_event f) (get_front h (e ∷ []) f.place (within f refl))
 
-within_more : (n m : ℕ) (es : List Entry) → n ≤ m → AllByRecursion (λ (f : Entry). f.place < n) es → AllByRecursion (λ (f : Entry). f.place < m) es
+pub within_more : (n m : ℕ) (es : List Entry) → n ≤ m → AllByRecursion (λ (f : Entry). f.place < n) es → AllByRecursion (λ (f : Entry). f.place < m) es
 within_more n m [] le all = tt
 within_more n m (f ∷ es) le all = ((let low = all.0 in omega arith), within_more n m es le all.1)
 
@@ -106,7 +106,7 @@ shape_new (N5 mount path meta) shape = refl
 shape_new (Zarr3 mount path meta) shape = refl
 shape_new (Local start) shape = refl
 
-differs : (x y : ℕ) → x ≢ y → (x == y) ≡ false
+pub differs : (x y : ℕ) → x ≢ y → (x == y) ≡ false
 differs x y ne = elim (true_or_false (x == y)) [ inl h ↦ absurd (ne (eqb-true x y h)) | inr h ↦ h ]
 
 module _ (h : History) (es : List Entry) (owner : ℕ) (info : ArrayInfo) (f : Entry) (old : AreArrays h es) (number : info.number ≡ length es) (place : f.place ≡ length h) (form : f.form ≡ with_shape (form_of info.home) info.shape) (fresh : f.resized ≡ 0) where

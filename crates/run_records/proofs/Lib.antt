@@ -1,3 +1,4 @@
 pub mod Indexing
 pub mod LookUps
 pub mod Held
+pub mod Reshaping

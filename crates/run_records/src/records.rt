@@ -1,11 +1,11 @@
-ghost use Rattle.std.specs.Prelude.{set, map, ◌≡◌, ◌≤◌, ◌<◌, ◌+◌, ◌^◌, ◌++◌, ◌∷◌, [], ℕ, List, length, Some, None, Option, true, IsSome, IsOk, IfOk, IfErr, OnOk, OnErr, count_by, string_bytes, vec_len, vec_capacity};
+ghost use Rattle.std.specs.Prelude.{set, map, ◌≡◌, ◌≤◌, ◌<◌, ◌+◌, ◌^◌, ◌++◌, ◌∷◌, [], ℕ, List, length, Some, None, Option, true, false, IsSome, IsOk, IfOk, IfErr, OnOk, OnErr, count_by, string_bytes, vec_len, vec_capacity};
 ghost use Rattle.std.specs.FinMap as finmap;
 ghost use Rattle.std.specs.Option.{option_copied, option_map};
 ghost use Rattle.chunk_cache.specs.Cache.{kept, after_hit, after_keep, after_drop};
 ghost use Rattle.chunk_forms.specs.Metadata.{with_shape};
 ghost use Rattle.history.specs.Arrays.{Known, known_after, form_of, is_local};
 ghost use Rattle.history.specs.Legal.{is_opening};
-ghost use Rattle.history.specs.Own.{fault, opened_event};
+ghost use Rattle.history.specs.Own.{fault, opened_event, resized_event};
 ghost use Rattle.history.specs.Places.{array_at};
 ghost use Rattle.history.specs.Store.{resized_after};
 ghost use Rattle.run_records.specs.declared.arrays.Entry.{Entry as EntryOf};
@@ -13,12 +13,12 @@ ghost use Rattle.run_records.specs.Indexed.{AreArrays};
 ghost use Rattle.run_records.specs.Numbers.{HasPlace, KeepsPlaces};
 ghost use Rattle.run_records.specs.Recorded.{cells_held, with_numbers, without_all, done_event};
 ghost use Rattle.history.specs.History.{History};
-ghost use Rattle.std.specs.List.{AllByRecursion};
+ghost use Rattle.std.specs.List.{AllByRecursion, slice_get};
 
 use crate::arrays::{Entry, entry_at, info_at};
 use crate::commit::Commit;
 use crate::generations::KeyNumbers;
-use cells::Name;
+use cells::{Name, Sizes};
 use chunk_cache::{ChunkCache, KeepRefused, Snapshot};
 use chunk_forms::Form;
 use history::{ArrayInfo, Event, Home, Kind};
@@ -281,6 +281,39 @@ impl Records {
         number
     }
 
+    /// Adds a new shape of a stored array, whose form is given by it, where there is room and the keys of the chunks that it cuts
+    /// have places; gives the event's number, which their generations are then. What was kept under the keys is dropped.
+    pub fn add_resized(
+        &mut self,
+        owner: u32,
+        array: u64,
+        shape: Sizes,
+        form: Form,
+        keys: Vec<Name>,
+    ) -> u64
+        requires stored { (k : Known) × (known_after self.old.events array ≡ Some k) × (is_local k.info.home ≡ false) × (form ≡ with_shape (form_of k.info.home) shape) }
+        requires room { 0 < self.old.event_room }
+        requires places { AllByRecursion (HasPlace self.old.places) keys.items }
+        ensures number { result ≡ length self.old.events + 1 }
+        ensures after { self.new ≡ record self.old {
+          events = self.old.events ++ resized_event owner array shape ∷ [];
+          generations = with_numbers (length self.old.events + 1) self.old.generations keys.items;
+          cache = record self.old.cache { entries = without_all keys.items self.old.cache.entries };
+          room = self.new.room;
+          event_room = self.new.event_room;
+          places = self.new.places;
+        } }
+        ensures room { self.new.event_room + 1 ≡ self.old.event_room }
+        ensures places { KeepsPlaces self.old.places self.new.places }
+    {
+        prove!(array < self.arrays.len() as u64);
+        let kind = Kind::Resized { array, shape };
+        let number = add(&mut self.events, Event { owner, kind });
+        reshape(&mut self.arrays, array as usize, form, number);
+        number_keys(&mut self.generations, &mut self.cache, keys, number);
+        number
+    }
+
     /// Puts the cells of a local array in place of those that the run holds of it.
     pub fn put_held(&mut self, array: u64, cells: Snapshot)
         requires { IsSome (known_after self.old.events array) }
@@ -354,6 +387,27 @@ fn add(events: &mut Vec<Event>, event: Event) -> u64
 {
     events.push_reserved(event);
     events.len() as u64
+}
+
+/// Gives an array another form, by the event of this number.
+fn reshape(entries: &mut Vec<Entry>, place: usize, form: Form, number: u64)
+    requires { place < length entries.old.items }
+    ensures locals { map (λ (e : EntryOf). e.local) entries.new.items ≡ map (λ (e : EntryOf). e.local) entries.old.items }
+    ensures arrays { (h : History) (owner : ℕ) (shape : List ℕ) (k : Known) → number ≡ length h + 1 → known_after h place ≡ Some k → is_local k.info.home ≡ false
+        → form ≡ with_shape (form_of k.info.home) shape → AreArrays h entries.old.items → AreArrays (h ++ resized_event owner place shape ∷ []) entries.new.items }
+{
+    reshape_at(entries.as_mut_slice(), place, form, number);
+}
+
+fn reshape_at(entries: &mut [Entry], place: usize, form: Form, number: u64)
+    requires { place < length entries.old }
+    ensures locals { map (λ (e : EntryOf). e.local) entries.new ≡ map (λ (e : EntryOf). e.local) entries.old }
+    ensures arrays { (h : History) (owner : ℕ) (shape : List ℕ) (k : Known) → number ≡ length h + 1 → known_after h place ≡ Some k → is_local k.info.home ≡ false
+        → form ≡ with_shape (form_of k.info.home) shape → AreArrays h entries.old → AreArrays (h ++ resized_event owner place shape ∷ []) entries.new }
+{
+    let entry = &mut entries[place];
+    entry.form = form;
+    entry.resized = number;
 }
 
 fn put_cells(entries: &mut [Entry], place: usize, cells: Snapshot)

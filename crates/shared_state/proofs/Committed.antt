@@ -15,11 +15,15 @@ use Rattle.kv_face.specs.Store.{Contents, OneMore, after}
 use Rattle.kv_face.specs.declared.change.Change.{Change}
 use Rattle.history.specs.declared.event.Event.{Event}
 use Rattle.history.specs.History.{History}
-use Rattle.history.specs.Arrays.{Known, known_after, is_local}
-use Rattle.history.specs.Chunks.{Chunk, IsIndexOf, key_in}
+use Rattle.history.specs.Arrays.{Known, known_after, form_of, is_local}
+use Rattle.history.specs.declared.array.ArrayInfo.{ArrayInfo}
+use Rattle.chunk_forms.specs.Names as names
+use Rattle.history.specs.Chunks.{Chunk, IsIndexOf, key_in, chunk_key, home_text}
+use Rattle.history.specs.Snapshots.{chunk_box}
+use Rattle.history.specs.Stored.{AreChangesOf}
 use Rattle.history.specs.Counting.{IsCounted, is_change}
 use Rattle.history.specs.Generations.{Generations, IsGenerationTable, IsNumbered, IsKeyTouched}
-use Rattle.history.specs.Legal.{IsLegal, is_opening}
+use Rattle.history.specs.Legal.{IsLegal, IsLegalKind, is_opening}
 use Rattle.history.specs.ReadRows.{mount_of}
 use Rattle.history.specs.Touch.{touches}
 use Rattle.history.proofs.Changing.{changes_applied}
@@ -38,7 +42,7 @@ use Rattle.shared_state.specs.declared.deed.Deed.{Deed}
 use Rattle.shared_state.specs.declared.deed.HeldCells.{HeldCells}
 use Rattle.shared_state.specs.Seen.{StoreSeen, IsFrame, IsQuiet}
 use Rattle.shared_state.specs.Log.{Log, cells_held}
-use Rattle.shared_state.specs.Outline.{outline}
+use Rattle.shared_state.specs.Outline.{outline, outlined_event}
 use Rattle.shared_state.specs.Kept.{IsKept, IsKeptNow, IsCurrent}
 use Rattle.shared_state.specs.Agreement.{Opening, Agrees, IsTrueTo, IsHeld, IsHeldNow, is_fault, TakesMount}
 use Rattle.shared_state.specs.Changing.{IsOneOf, with_cells, committed, AreTouched, IsHeldStill, IsHeldAnew, IsRightBy, IsDeed}
@@ -118,6 +122,199 @@ cells_count : (cells : List HeldCells) (locals : List (Option SnapshotCells)) �
 cells_count [] locals = refl
 cells_count (c ∷ cs) locals = cells_count cs (set locals c.array (Some c.cells)) ∙ length_set locals c.array (Some c.cells)
 
+-- an array stays, by another shape at most
+pub record IsStill (later : History) (a : ℕ) (k : Known) : Type 0 where
+  pub now : Known
+  pub known : known_after later a ≡ Some now
+  pub info : now.info ≡ k.info
+  pub opened : now.opened ≡ k.opened
+
+same_key : (k l : Known) (index : List ℕ) → l.info ≡ k.info → l.opened ≡ k.opened → chunk_key l index ≡ chunk_key k index
+same_key k l index info opened =
+    ap (λ (i : ArrayInfo). home_text i.home l.opened ++ names.chunk_name (form_of i.home) index) info ∙ ap (λ n. home_text k.info.home n ++ names.chunk_name (form_of k.info.home) index) opened
+
+-- a commit or a resize: the event, the keys of the chunks that it touches, the changes, and the cells of local arrays behind it
+module _ (opening : Opening) (store next : StoreSeen) (log : Log) (e : Event) (keys : List (List ℕ)) (changes : List Change) (locals : List (Option SnapshotCells)) (agrees : Agrees opening store log) (touched : AreTouched log.events e keys) where
+  abbrev h : History
+  h = log.events
+
+  abbrev later : History
+  later = h ++ e ∷ []
+
+  abbrev pub changed_log : Log
+  changed_log = record {
+    events = later;
+    generations = with_numbers (length h + 1) log.generations keys;
+    cache = record log.cache { entries = without_all keys log.cache.entries };
+    locals = locals;
+  }
+
+  -- what is owed for the event
+  pub record IsOwed : Type 0 where
+    pub frame : IsFrame store next
+    pub still : (a : ℕ) (k : Known) → known_after h a ≡ Some k → IsStill later a k
+    pub back : (a : ℕ) (l : Known) → known_after later a ≡ Some l → (k : Known) × (known_after h a ≡ Some k) × (l.info ≡ k.info)
+    pub no_fault : is_fault e ≡ false
+    pub no_opening : is_opening e ≡ false
+    pub count : length locals ≡ length log.locals
+    pub outline : IsLegal finmap.empty (outline later)
+    pub held : (a : ℕ) (k : Known) → known_after later a ≡ Some k → is_local k.info.home ≡ true → (known_after h a ≡ Some k) × (IsHeldStill log changed_log e a k ⊎ IsHeldAnew store log changed_log e a k)
+    pub right : (start : Contents) → opening.store.contents ≡ Some start → IsLegalKind start h e.kind × AreChangesOf start h e changes × (is_change start h e.kind ≡ nat_lt 0 (length changes))
+    pub made : (m : Contents) → store.contents ≡ Some m → next.contents ≡ Some (after m changes)
+    pub more : 0 < length changes → OneMore store.changes next.changes
+    pub none : length changes ≡ 0 → next.changes ≡ store.changes
+
+  module _ (owed : IsOwed) where
+    kept_later : (entry : Entry) → IsKept h entry → IsKept later entry
+    kept_later entry is =
+        let still = owed.still is.chunk.array is.array is.known in
+        record {
+          chunk = is.chunk;
+          array = still.now;
+          known = still.known;
+          stored = ap (λ (i : ArrayInfo). is_local i.home) still.info ∙ is.stored;
+          valid = subst (λ (i : ArrayInfo). IsIndexOf i is.chunk.index) (sym still.info) is.valid;
+          named = ap (λ o. key_in o is.chunk) still.known ∙ ap Some (same_key is.array still.now is.chunk.index still.info still.opened) ∙ sym (ap (λ o. key_in o is.chunk) is.known) ∙ is.named;
+          cells = record {
+            dtype = is.cells.dtype ∙ ap (λ (i : ArrayInfo). i.dtype) (sym still.info);
+            shape = is.cells.shape ∙ ap chunk_box (sym still.info);
+          };
+        }
+
+    all_kept : All (IsKept later) changed_log.cache.entries
+    all_kept =
+        All-from_recursion (IsKept later) changed_log.cache.entries
+        (weaker (λ e. IsKept h e × (IsOneOf keys e.0 → ⊥)) (IsKept later) changed_log.cache.entries (λ entry is. kept_later entry is.0)
+        (left (IsKept h) keys log.cache.entries (recursion_from_All (IsKept h) log.cache.entries agrees.kept)))
+
+    -- a chunk whose key isn't touched
+    untouched : (c : Chunk) (k l : Known) (key : List ℕ) → known_after h c.array ≡ Some k → known_after later c.array ≡ Some l → l.opened ≡ k.opened → IsIndexOf l.info c.index → key_in (known_after later c.array) c ≡ Some key
+        → (IsOneOf keys key → ⊥) → touches h e c ≡ false
+    untouched c k l key known is opened valid named apart = elim (true_or_false (touches h e c)) [
+      | inl t ↦
+          let low = opened_le c.array h k known in
+          absurd (apart (touched.all c key (record {
+            has = record { array = l; known = is; valid = valid; named = named };
+            touched = t;
+            opened = subst (λ n. n ≤ length h) (sym opened) low;
+          })))
+      | inr f ↦ f
+    ]
+
+    module _ (start : Contents) (told : opening.store.contents ≡ Some start) where
+      true_to : IsTrueTo start opening store log
+      true_to = agrees.holds start told
+
+      legal_kind : IsLegalKind start h e.kind
+      legal_kind = let right = owed.right start told in right.0
+
+      legal : IsLegal start later
+      legal = legal_more start h e true_to.legal legal_kind
+
+      current_later : (k l : Known) (c : Chunk) (snapshot : SnapshotCells) → known_after later c.array ≡ Some l → touches h e c ≡ false → IsCurrent start h k c snapshot → IsCurrent start later l c snapshot
+      current_later k l c snapshot known quiet is =
+          let now = is.current ∙ sym (generation_untouched h e c quiet) in
+          let more = snapshot_longer start h (e ∷ []) k c snapshot.generation (word_at snapshot.cells) legal is now in
+          subst (λ m. IsCurrent start later m c snapshot) (some_inj more.0 l (sym more.2.known ∙ known)) more.2
+
+      kept_now_later : (entry : Entry) → IsKeptNow start h entry × (IsOneOf keys entry.0 → ⊥) → IsKeptNow start later entry
+      unfolding kept_later
+      kept_now_later entry is =
+          let was = is.0.0 in
+          let kept = kept_later entry was in
+          let still = owed.still was.chunk.array was.array was.known in
+          let quiet = untouched was.chunk was.array still.now entry.0 was.known still.known still.opened kept.valid kept.named is.1 in
+          (kept, current_later was.array still.now was.chunk entry.1 still.known quiet is.0.1)
+
+      all_now : All (IsKeptNow start later) changed_log.cache.entries
+      all_now =
+          All-from_recursion (IsKeptNow start later) changed_log.cache.entries
+          (weaker (λ e. IsKeptNow start h e × (IsOneOf keys e.0 → ⊥)) (IsKeptNow start later) changed_log.cache.entries kept_now_later
+          (left (IsKeptNow start h) keys log.cache.entries (recursion_from_All (IsKeptNow start h) log.cache.entries true_to.kept)))
+
+      held_still : (a : ℕ) (k : Known) → known_after h a ≡ Some k → known_after later a ≡ Some k → is_local k.info.home ≡ true → IsHeldStill log changed_log e a k → IsHeldNow start changed_log a k
+      held_still a k known now local still =
+          let was = true_to.held a k known local in (
+            record { snapshot = was.0.snapshot; held = still.same ∙ was.0.held; cells = was.0.cells },
+            λ index valid. current_later k k (record { array = a; index = index }) was.0.snapshot now (still.untouched index valid) (was.1 index valid),
+          )
+
+      held_anew : (a : ℕ) (k : Known) → IsHeldAnew store log changed_log e a k → IsHeldNow start changed_log a k
+      held_anew a k anew = (record { snapshot = anew.snapshot; held = anew.held; cells = anew.cells }, λ index valid. anew.now opening start agrees told index valid)
+
+      held_now : (a : ℕ) (k : Known) → known_after later a ≡ Some k → is_local k.info.home ≡ true → IsHeldNow start changed_log a k
+      held_now a k known local =
+          let held = owed.held a k known local in
+          elim held.1 [ inl still ↦ held_still a k held.0 known local still | inr anew ↦ held_anew a k anew ]
+
+      numbered : IsNumbered h e log.generations changed_log.generations
+      numbered = record {
+        touched = λ c key it. get-with_numbers (length h + 1) key keys log.generations ∙ ap (λ b. cond b (Some (length h + 1)) (finmap.get log.generations key)) (among key keys (touched.all c key it));
+        others = λ key none.
+            get-with_numbers (length h + 1) key keys log.generations
+            ∙ elim (true_or_false (list_any (bytes_eq key) keys)) [
+              | inl t ↦ let there = touched.only key (one_of key keys t) in absurd (none there.0 there.1)
+              | inr f ↦ ap (λ b. cond b (Some (length h + 1)) (finmap.get log.generations key)) f
+            ];
+      }
+
+      -- the changes are counted
+      counted_by : (b : Bool) → nat_lt 0 (length changes) ≡ b → IsCounted start opening.store.changes next.changes later
+      counted_by true some =
+          let right = owed.right start told in
+          counted_more start opening.store.changes store.changes next.changes h e true_to.counted (right.2 ∙ some) (owed.more (ltb-true 0 (length changes) some))
+      counted_by false some =
+          let right = owed.right start told in
+          let low : length changes ≤ 0 = ltb-false 0 (length changes) some in
+          counted_same start opening.store.changes store.changes next.changes h e true_to.counted (right.2 ∙ some) (owed.none (omega (arith, low)))
+
+      true_later : IsTrueTo start opening next changed_log
+      true_later =
+          let right = owed.right start told in
+          record {
+            legal = legal;
+            contents = after true_to.contents changes;
+            told = owed.made true_to.contents true_to.told;
+            represents = represents_event start h e true_to.legal legal_kind true_to.contents (after true_to.contents changes) true_to.represents (changes_applied start h e true_to.contents changes right.1);
+            counted = counted_by (nat_lt 0 (length changes)) refl;
+            generations = generations_more start h e log.generations changed_log.generations legal true_to.generations numbered;
+            kept = all_now;
+            held = held_now;
+          }
+
+    held_then : (a : ℕ) (k : Known) → known_after later a ≡ Some k → is_local k.info.home ≡ true → IsHeld changed_log a k
+    held_then a k known local =
+        let held = owed.held a k known local in
+        elim held.1 [
+          | inl still ↦ let was = agrees.held a k held.0 local in record { snapshot = was.snapshot; held = still.same ∙ was.held; cells = was.cells }
+          | inr anew ↦ record { snapshot = anew.snapshot; held = anew.held; cells = anew.cells }
+        ]
+
+    -- it keeps the agreement
+    pub agrees_changed : Agrees opening next changed_log
+    agrees_changed = record {
+      frame = frame_then opening.store store next agrees.frame owed.frame;
+      faults =
+          let old = agrees.faults in
+          let up = owed.frame.faults in
+          let same : count_by is_fault later ≡ count_by is_fault h + 0 = count_more is_fault h e ∙ ap (λ b. count_by is_fault h + cond {A = ℕ} b 1 0) owed.no_fault in
+          omega arith;
+      limit = agrees.limit;
+      count =
+          let old = agrees.count in
+          let longer = owed.count in
+          let same : count_by is_opening later ≡ count_by is_opening h + 0 = count_more is_opening h e ∙ ap (λ b. count_by is_opening h + cond {A = ℕ} b 1 0) owed.no_opening in
+          omega arith;
+      outline = owed.outline;
+      mounts = λ a l m known on.
+          let was = owed.back a l known in
+          subst (λ names. TakesMount names m) (sym owed.frame.names) (agrees.mounts a was.0 m was.1 (ap (λ (i : ArrayInfo). mount_of i.home) (sym was.2) ∙ on));
+      kept = all_kept;
+      held = held_then;
+      holds = λ start told. true_later start told;
+    }
+
+-- a commit that was made
 module _ (opening : Opening) (store next : StoreSeen) (log : Log) (owner : ℕ) (deed : Deed) (changes : List Change) (agrees : Agrees opening store log) (is_deed : IsDeed store log owner deed changes) where
   abbrev h : History
   h = log.events
@@ -125,149 +322,26 @@ module _ (opening : Opening) (store next : StoreSeen) (log : Log) (owner : ℕ) 
   abbrev e : Event
   e = done_event owner deed.commit
 
-  abbrev later : History
-  later = h ++ e ∷ []
-
-  abbrev log_later : Log
-  log_later = committed log owner deed
-
-  same : (a : ℕ) → known_after later a ≡ known_after h a
+  same : (a : ℕ) → known_after (h ++ e ∷ []) a ≡ known_after h a
   same = known_after-more h e
 
-  kept_later : (entry : Entry) → IsKept h entry → IsKept later entry
-  kept_later entry is =
-      let known = same is.chunk.array ∙ is.known in
-      record {
-        chunk = is.chunk;
-        array = is.array;
-        known = known;
-        stored = is.stored;
-        valid = is.valid;
-        named = ap (λ o. key_in o is.chunk) (same is.chunk.array) ∙ is.named;
-        cells = is.cells;
-      }
-
-  all_kept : All (IsKept later) log_later.cache.entries
-  all_kept =
-      All-from_recursion (IsKept later) log_later.cache.entries
-      (weaker (λ e. IsKept h e × (IsOneOf deed.keys.items e.0 → ⊥)) (IsKept later) log_later.cache.entries (λ entry is. kept_later entry is.0)
-      (left (IsKept h) deed.keys.items log.cache.entries (recursion_from_All (IsKept h) log.cache.entries agrees.kept)))
-
-  -- a chunk whose key isn't touched
-  untouched : (c : Chunk) (k : Known) (key : List ℕ) → known_after h c.array ≡ Some k → IsIndexOf k.info c.index → key_in (known_after later c.array) c ≡ Some key → (IsOneOf deed.keys.items key → ⊥) → touches h e c ≡ false
-  untouched c k key known valid named apart = elim (true_or_false (touches h e c)) [
-    | inl t ↦ absurd (apart (is_deed.touched.all c key (record {
-      has = record { array = k; known = same c.array ∙ known; valid = valid; named = named };
-      touched = t;
-      opened = opened_le c.array h k known;
-    })))
-    | inr f ↦ f
-  ]
-
-  module _ (start : Contents) (told : opening.store.contents ≡ Some start) where
-    true_to : IsTrueTo start opening store log
-    true_to = agrees.holds start told
-
-    right : IsRightBy start h e deed changes
-    right = is_deed.right opening start agrees told
-
-    legal : IsLegal start later
-    legal = legal_more start h e true_to.legal right.legal
-
-    current_later : (k : Known) (c : Chunk) (snapshot : SnapshotCells) → touches h e c ≡ false → IsCurrent start h k c snapshot → IsCurrent start later k c snapshot
-    current_later k c snapshot quiet is =
-        let now = is.current ∙ sym (generation_untouched h e c quiet) in
-        let more = snapshot_longer start h (e ∷ []) k c snapshot.generation (word_at snapshot.cells) legal is now in
-        subst (λ l. IsCurrent start later l c snapshot) (some_inj more.0 k (sym more.2.known ∙ same c.array ∙ is.known)) more.2
-
-    kept_now_later : (entry : Entry) → IsKeptNow start h entry × (IsOneOf deed.keys.items entry.0 → ⊥) → IsKeptNow start later entry
-    unfolding kept_later
-    kept_now_later entry is =
-        let kept = kept_later entry is.0.0 in
-        (kept, current_later is.0.0.array is.0.0.chunk entry.1 (untouched is.0.0.chunk is.0.0.array entry.0 is.0.0.known is.0.0.valid kept.named is.1) is.0.1)
-
-    all_now : All (IsKeptNow start later) log_later.cache.entries
-    all_now =
-        All-from_recursion (IsKeptNow start later) log_later.cache.entries
-        (weaker (λ e. IsKeptNow start h e × (IsOneOf deed.keys.items e.0 → ⊥)) (IsKeptNow start later) log_later.cache.entries kept_now_later
-        (left (IsKeptNow start h) deed.keys.items log.cache.entries (recursion_from_All (IsKeptNow start h) log.cache.entries true_to.kept)))
-
-    held_still : (a : ℕ) (k : Known) → known_after h a ≡ Some k → is_local k.info.home ≡ true → IsHeldStill log log_later e a k → IsHeldNow start log_later a k
-    held_still a k known local still =
-        let was = true_to.held a k known local in (
-          record { snapshot = was.0.snapshot; held = still.same ∙ was.0.held; cells = was.0.cells },
-          λ index valid. current_later k (record { array = a; index = index }) was.0.snapshot (still.untouched index valid) (was.1 index valid),
-        )
-
-    held_anew : (a : ℕ) (k : Known) → IsHeldAnew store log log_later e a k → IsHeldNow start log_later a k
-    held_anew a k anew = (record { snapshot = anew.snapshot; held = anew.held; cells = anew.cells }, λ index valid. anew.now opening start agrees told index valid)
-
-    held_now : (a : ℕ) (k : Known) → known_after later a ≡ Some k → is_local k.info.home ≡ true → IsHeldNow start log_later a k
-    held_now a k known local =
-        let before = sym (same a) ∙ known in
-        elim (is_deed.held a k before local) [ inl still ↦ held_still a k before local still | inr anew ↦ held_anew a k anew ]
-
-    numbered : IsNumbered h e log.generations log_later.generations
-    numbered =
-        let keys = deed.keys.items in
-        record {
-          touched = λ c key it. get-with_numbers (length h + 1) key keys log.generations ∙ ap (λ b. cond b (Some (length h + 1)) (finmap.get log.generations key)) (among key keys (is_deed.touched.all c key it));
-          others = λ key none.
-              get-with_numbers (length h + 1) key keys log.generations
-              ∙ elim (true_or_false (list_any (bytes_eq key) keys)) [
-                | inl t ↦ let there = is_deed.touched.only key (one_of key keys t) in absurd (none there.0 there.1)
-                | inr f ↦ ap (λ b. cond b (Some (length h + 1)) (finmap.get log.generations key)) f
-              ];
-        }
-
-    -- the changes are counted
-    counted_by : (b : Bool) → nat_lt 0 (length changes) ≡ b → (0 < length changes → OneMore store.changes next.changes) → (length changes ≡ 0 → next.changes ≡ store.changes) → IsCounted start opening.store.changes next.changes later
-    counted_by true some more none = counted_more start opening.store.changes store.changes next.changes h e true_to.counted (right.counted ∙ some) (more (ltb-true 0 (length changes) some))
-    counted_by false some more none = counted_same start opening.store.changes store.changes next.changes h e true_to.counted (right.counted ∙ some) (none (let low : length changes ≤ 0 = ltb-false 0 (length changes) some in omega (arith, low)))
-
-    true_later : ((m : Contents) → store.contents ≡ Some m → next.contents ≡ Some (after m changes)) → (0 < length changes → OneMore store.changes next.changes) → (length changes ≡ 0 → next.changes ≡ store.changes)
-        → IsTrueTo start opening next log_later
-    true_later made more none = record {
-      legal = legal;
-      contents = after true_to.contents changes;
-      told = made true_to.contents true_to.told;
-      represents = represents_event start h e true_to.legal right.legal true_to.contents (after true_to.contents changes) true_to.represents (changes_applied start h e true_to.contents changes right.changes_are);
-      counted = counted_by (nat_lt 0 (length changes)) refl more none;
-      generations = generations_more start h e log.generations log_later.generations legal true_to.generations numbered;
-      kept = all_now;
-      held = held_now;
-    }
-
-  held_then : (a : ℕ) (k : Known) → known_after later a ≡ Some k → is_local k.info.home ≡ true → IsHeld log_later a k
-  held_then a k known local =
-      let before = sym (same a) ∙ known in
-      elim (is_deed.held a k before local) [
-        | inl still ↦ let was = agrees.held a k before local in record { snapshot = was.snapshot; held = still.same ∙ was.held; cells = was.cells }
-        | inr anew ↦ record { snapshot = anew.snapshot; held = anew.held; cells = anew.cells }
-      ]
-
-  -- a commit that was made
   pub agrees_committed : IsFrame store next → ((m : Contents) → store.contents ≡ Some m → next.contents ≡ Some (after m changes)) → (0 < length changes → OneMore store.changes next.changes)
-      → (length changes ≡ 0 → next.changes ≡ store.changes) → Agrees opening next log_later
-  agrees_committed frame made more none = record {
-    frame = frame_then opening.store store next agrees.frame frame;
-    faults =
-        let old = agrees.faults in
-        let up = frame.faults in
-        let same : count_by is_fault later ≡ count_by is_fault h + 0 = count_more is_fault h e in
-        omega arith;
-    limit = agrees.limit;
-    count =
-        let old = agrees.count in
-        let longer = cells_count deed.cells.items log.locals in
-        let same : count_by is_opening later ≡ count_by is_opening h + 0 = count_more is_opening h e in
-        omega arith;
-    outline = subst (IsLegal finmap.empty) (sym (outline-more h e)) (legal_more finmap.empty (outline h) _ agrees.outline tt);
-    mounts = λ a k m known on. subst (λ names. TakesMount names m) (sym frame.names) (agrees.mounts a k m (sym (same a) ∙ known) on);
-    kept = all_kept;
-    held = held_then;
-    holds = λ start told. true_later start told made more none;
-  }
+      → (length changes ≡ 0 → next.changes ≡ store.changes) → Agrees opening next (committed log owner deed)
+  agrees_committed frame made more none =
+      agrees_changed opening store next log e deed.keys.items changes (with_cells log.locals deed.cells.items) agrees is_deed.touched (record {
+        frame = frame;
+        still = λ a k known. record { now = k; known = same a ∙ known; info = refl; opened = refl };
+        back = λ a l known. (l, sym (same a) ∙ known, refl);
+        no_fault = refl;
+        no_opening = refl;
+        count = cells_count deed.cells.items log.locals;
+        outline = subst (IsLegal finmap.empty) (sym (outline-more h e)) (legal_more finmap.empty (outline h) (outlined_event e) agrees.outline tt);
+        held = λ a k known local. let before = sym (same a) ∙ known in (before, is_deed.held a k before local);
+        right = λ start told. let right = is_deed.right opening start agrees told in (right.legal, right.changes_are, right.counted);
+        made = made;
+        more = more;
+        none = none;
+      })
 
 -- what comes of a deed
 pub agrees_deed : (opening : Opening) (store next : StoreSeen) (log then : Log) (owner : ℕ) (deed : Deed) (changes : List Change) (r : Result ℕ ChangeError) → OnOk r (then ≡ committed log owner deed)
