@@ -1,5 +1,5 @@
 -- A state agrees with its opening behind a commit.
-use Rattle.std.proofs.Common.{◌≡◌, ℕ, zero, suc, ◌+◌, ◌<◌, ◌≤◌, ◌⊎◌, inl, inr, List, [], ◌∷◌, ◌++◌, length, Bool, true, false, cond, Option, Some, None, refl, sym, ap, subst, ◌∙◌, All, arith}
+use Rattle.std.proofs.Common.{◌≡◌, ℕ, zero, suc, ◌+◌, ◌<◌, ◌≤◌, ◌⊎◌, inl, inr, List, [], ◌∷◌, ◌++◌, length, Bool, true, false, cond, Option, Some, refl, sym, ap, subst, ◌∙◌, All, arith}
 use Rattle.std.specs.Prelude.{◌||◌, Result, Ok, Err, OnOk, OnErr, count_by, filter, not, nat_lt, set}
 use Rattle.std.specs.FinMap as finmap
 use Rattle.std.specs.List.{AllByRecursion, list_any}
@@ -22,7 +22,7 @@ use Rattle.history.specs.Chunks.{Chunk, IsIndexOf, key_in, chunk_key, home_text}
 use Rattle.history.specs.Snapshots.{chunk_box}
 use Rattle.history.specs.Stored.{AreChangesOf}
 use Rattle.history.specs.Counting.{IsCounted, is_change}
-use Rattle.history.specs.Generations.{Generations, IsGenerationTable, IsNumbered, IsKeyTouched}
+use Rattle.history.specs.Generations.{Generations, IsNumbered}
 use Rattle.history.specs.Legal.{IsLegal, IsLegalKind, is_opening}
 use Rattle.history.specs.ReadRows.{mount_of}
 use Rattle.history.specs.Touch.{touches}
@@ -32,7 +32,7 @@ use Rattle.history.proofs.GenerationTables.{generations_more}
 use Rattle.std.specs.FinMap.{get-insert}
 use Rattle.std.specs.Cmp.Lexicographic.{nat_list_cmp_total}
 use Rattle.std.proofs.lemmas.Map.Text.{is_eq-slice_cmp}
-use Rattle.history.proofs.Histories.{known_after-more, legal_step, legal_more}
+use Rattle.history.proofs.Histories.{known_after-more, legal_more}
 use Rattle.history.proofs.Keeping.{represents_event}
 use Rattle.history.proofs.Known.{some_inj, opened_le}
 use Rattle.history.proofs.Snapshots.{snapshot_longer}
@@ -41,11 +41,11 @@ use Rattle.run_records.specs.Recorded.{with_numbers, without_all, done_event}
 use Rattle.shared_state.specs.declared.deed.Deed.{Deed}
 use Rattle.shared_state.specs.declared.deed.HeldCells.{HeldCells}
 use Rattle.shared_state.specs.Seen.{StoreSeen, IsFrame, IsQuiet}
-use Rattle.shared_state.specs.Log.{Log, cells_held}
+use Rattle.shared_state.specs.Log.{Log}
 use Rattle.shared_state.specs.Outline.{outline, outlined_event}
 use Rattle.shared_state.specs.Kept.{IsKept, IsKeptNow, IsCurrent}
 use Rattle.shared_state.specs.Agreement.{Opening, Agrees, IsTrueTo, IsHeld, IsHeldNow, is_fault, TakesMount}
-use Rattle.shared_state.specs.Changing.{IsOneOf, with_cells, committed, AreTouched, IsHeldStill, IsHeldAnew, IsRightBy, IsDeed}
+use Rattle.shared_state.specs.Changing.{IsOneOf, with_cells, committed, AreTouched, IsHeldStill, IsHeldAnew, IsDeed}
 use Rattle.shared_state.specs.declared.deed.ChangeError.{ChangeError}
 use Rattle.shared_state.specs.declared.deed.ChangeError.TheVariants as error
 use Rattle.shared_state.specs.Fetches.{HasFailed}
@@ -316,26 +316,23 @@ module _ (opening : Opening) (store next : StoreSeen) (log : Log) (e : Event) (k
 
 -- a commit that was made
 module _ (opening : Opening) (store next : StoreSeen) (log : Log) (owner : ℕ) (deed : Deed) (changes : List Change) (agrees : Agrees opening store log) (is_deed : IsDeed store log owner deed changes) where
-  abbrev h : History
-  h = log.events
+  abbrev deed_event : Event
+  deed_event = done_event owner deed.commit
 
-  abbrev e : Event
-  e = done_event owner deed.commit
-
-  same : (a : ℕ) → known_after (h ++ e ∷ []) a ≡ known_after h a
-  same = known_after-more h e
+  same : (a : ℕ) → known_after (log.events ++ deed_event ∷ []) a ≡ known_after log.events a
+  same = known_after-more log.events deed_event
 
   pub agrees_committed : IsFrame store next → ((m : Contents) → store.contents ≡ Some m → next.contents ≡ Some (after m changes)) → (0 < length changes → OneMore store.changes next.changes)
       → (length changes ≡ 0 → next.changes ≡ store.changes) → Agrees opening next (committed log owner deed)
   agrees_committed frame made more none =
-      agrees_changed opening store next log e deed.keys.items changes (with_cells log.locals deed.cells.items) agrees is_deed.touched (record {
+      agrees_changed opening store next log deed_event deed.keys.items changes (with_cells log.locals deed.cells.items) agrees is_deed.touched (record {
         frame = frame;
         still = λ a k known. record { now = k; known = same a ∙ known; info = refl; opened = refl };
         back = λ a l known. (l, sym (same a) ∙ known, refl);
         no_fault = refl;
         no_opening = refl;
         count = cells_count deed.cells.items log.locals;
-        outline = subst (IsLegal finmap.empty) (sym (outline-more h e)) (legal_more finmap.empty (outline h) (outlined_event e) agrees.outline tt);
+        outline = subst (IsLegal finmap.empty) (sym (outline-more log.events deed_event)) (legal_more finmap.empty (outline log.events) (outlined_event deed_event) agrees.outline tt);
         held = λ a k known local. let before = sym (same a) ∙ known in (before, is_deed.held a k before local);
         right = λ start told. let right = is_deed.right opening start agrees told in (right.legal, right.changes_are, right.counted);
         made = made;

@@ -1,5 +1,5 @@
 -- An event that changes chunks, and what stands behind it.
-use Rattle.std.specs.Prelude.{◌≡◌, ◌<◌, ◌⊎◌, ℕ, ◌+◌, List, [], ◌∷◌, ◌++◌, length, nat_lt, Option, Some, None, true, false, All, set}
+use Rattle.std.specs.Prelude.{◌≡◌, ◌⊎◌, ℕ, ◌+◌, List, [], ◌∷◌, ◌++◌, length, nat_lt, Option, Some, true, false, All, set}
 use Rattle.std.specs.List.{IsDistinct}
 use Rattle.std.specs.Str.{bytes_eq}
 use Rattle.chunk_cache.specs.Snapshot.{SnapshotCells}
@@ -14,7 +14,6 @@ use Rattle.history.specs.Generations.{IsKeyTouched}
 use Rattle.history.specs.Legal.{IsLegalDone}
 use Rattle.history.specs.Stored.{AreChangesOf}
 use Rattle.history.specs.Touch.{touches}
-use Rattle.run_records.specs.declared.commit.Commit.{Commit}
 use Rattle.run_records.specs.Recorded.{with_numbers, without_all, done_event}
 use Rattle.shared_state.specs.declared.deed.Deed.{Deed}
 use Rattle.shared_state.specs.declared.deed.HeldCells.{HeldCells}
