@@ -12,3 +12,4 @@ pub mod Located
 pub mod Begun
 pub mod Entered
 pub mod Filled
+pub mod Given

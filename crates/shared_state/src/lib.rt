@@ -11,6 +11,7 @@ mod fetching;
 mod getting;
 mod keeping;
 mod leaf;
+mod local;
 mod looking;
 mod making;
 mod new_array;
