@@ -13,3 +13,4 @@ pub mod Begun
 pub mod Entered
 pub mod Filled
 pub mod Given
+pub mod Keyed

@@ -7,3 +7,4 @@ pub mod Fetches
 pub mod Looks
 pub mod Openings
 pub mod Placed
+pub mod Keyed

@@ -8,6 +8,7 @@ mod decoding;
 mod entering;
 mod error;
 mod fetching;
+mod generation;
 mod getting;
 mod keeping;
 mod leaf;
