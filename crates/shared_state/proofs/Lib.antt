@@ -14,3 +14,4 @@ pub mod Entered
 pub mod Filled
 pub mod Given
 pub mod Keyed
+pub mod Asked

@@ -8,3 +8,4 @@ pub mod Looks
 pub mod Openings
 pub mod Placed
 pub mod Keyed
+pub mod Asked

@@ -4,6 +4,7 @@
 //! which events it adds.
 #![tactic(auto)]
 
+mod asking;
 mod decoding;
 mod entering;
 mod error;
