@@ -5,6 +5,7 @@
 #![tactic(auto)]
 
 mod asking;
+mod book;
 mod decoding;
 mod entering;
 mod error;
@@ -22,6 +23,7 @@ mod place;
 mod reading;
 mod state;
 
+pub use book::AtStart;
 pub use error::FetchError;
 pub use opening::{OpenError, Opened};
 pub use reading::{Bounds, Fetched, Look};
