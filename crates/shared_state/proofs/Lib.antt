@@ -14,3 +14,6 @@ pub mod Entered
 pub mod Filled
 pub mod Beside
 pub mod Committed
+pub mod Given
+pub mod Keyed
+pub mod Asked

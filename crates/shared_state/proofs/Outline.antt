@@ -24,7 +24,7 @@ use Rattle.shared_state.specs.Outline.{outlined, outlined_event, outline}
 pub outline-more : (h : History) (e : Event) → outline (h ++ e ∷ []) ≡ outline h ++ outlined_event e ∷ []
 outline-more h e = map-append outlined_event h (e ∷ [])
 
-length-outline : (h : History) → length (outline h) ≡ length h
+pub length-outline : (h : History) → length (outline h) ≡ length h
 length-outline h = length-map h outlined_event
 
 pub known-outline : (a : ℕ) (h : History) → known_after (outline h) a ≡ known_after h a

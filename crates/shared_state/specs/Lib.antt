@@ -8,3 +8,5 @@ pub mod Looks
 pub mod Openings
 pub mod Placed
 pub mod Changing
+pub mod Keyed
+pub mod Asked

@@ -4,15 +4,19 @@
 //! which events it adds.
 #![tactic(auto)]
 
+mod asking;
+mod book;
 mod changing;
 mod decoding;
 mod deed;
 mod entering;
 mod error;
 mod fetching;
+mod generation;
 mod getting;
 mod keeping;
 mod leaf;
+mod local;
 mod looking;
 mod making;
 mod new_array;
@@ -21,6 +25,7 @@ mod place;
 mod reading;
 mod state;
 
+pub use book::AtStart;
 pub use deed::{ChangeError, Deed, HeldCells};
 pub use error::FetchError;
 pub use opening::{OpenError, Opened};

@@ -55,7 +55,7 @@ fn with_info(
     with_ref(alloc, info, copy)
 }
 
-fn with_ref(alloc: Global, info: ArrayInfo, form: Form) -> Result<NewArray, AllocError>
+pub(crate) fn with_ref(alloc: Global, info: ArrayInfo, form: Form) -> Result<NewArray, AllocError>
     requires { IsReference (reference_of info info.shape) }
     ensures info { IfOk result (λ n. n.info ≡ info) }
     ensures form { IfOk result (λ n. n.form ≡ form) }
