@@ -1,0 +1,65 @@
+use crate::args::{number, word};
+use crate::causes::refused;
+use crate::fault::Fault;
+use crate::named::named;
+use crate::opened::opened;
+use crate::plain::{counted, plain, stepped};
+use crate::shown::shown;
+use answer_text::has_few_lists;
+use json_forms::{parse, u64_list};
+use serde_json::Value;
+use std::alloc::{AllocError, Global};
+
+/// The text of the answer of a line; `no case` where the line is none, or its text is refused.
+pub(crate) fn answer(alloc: Global, line: &str) -> Result<String, AllocError> {
+    match told(alloc, line) {
+        Ok(text) => Ok(text),
+        Err(Fault::Line) => String::from_str(alloc, "no case"),
+        Err(Fault::Memory) => String::from_str(alloc, "memory"),
+    }
+}
+
+fn told(alloc: Global, line: &str) -> Result<String, Fault> {
+    let v = parse(alloc, line.as_bytes())?;
+    of_line(alloc, &v)
+}
+
+fn of_line(alloc: Global, v: &Value) -> Result<String, Fault> {
+    match v.get("few") {
+        Some(shape) => few(alloc, shape),
+        None => of_answer(alloc, number(v, "line")?, word(v, "answer")?, v),
+    }
+}
+
+fn few(alloc: Global, shape: &Value) -> Result<String, Fault> {
+    let shape = u64_list(alloc, shape)?.ok_or(Fault::Line)?;
+    yes_or_no(alloc, has_few_lists(&shape))
+}
+
+fn yes_or_no(alloc: Global, yes: bool) -> Result<String, Fault> {
+    Ok(format!(in alloc; "{yes}")?)
+}
+
+fn of_answer(alloc: Global, line: u64, what: &str, v: &Value) -> Result<String, Fault> {
+    match what {
+        "Begun" | "Aborted" | "InTransaction" | "NoTransaction" | "NotArray" | "Memory" => {
+            plain(alloc, line, what)
+        }
+        "Staged" | "Resized" | "NotAtomic" | "TooManyChunks" => {
+            counted(alloc, line, what, number(v, "number")?)
+        }
+        "BadStep" | "UnknownDim" | "RepeatedDim" | "Unbounded" | "TooMany" => {
+            stepped(alloc, line, what, number(v, "number")?)
+        }
+        "BadLine" | "Unsupported" | "UnknownName" | "Conflict" | "Shrunk" | "Damaged" => {
+            named(alloc, line, what, v)
+        }
+        "RefusedStep" | "RefusedView" | "RefusedJoin" | "RefusedSpec" => {
+            refused(alloc, line, what, v)
+        }
+        "Viewed" | "Resolved" | "Values" | "OutOfRange" | "Uncovered" | "BadValues" => {
+            shown(alloc, line, what, v)
+        }
+        _ => opened(alloc, line, what, v),
+    }
+}

@@ -1,0 +1,5 @@
+pub mod Pieces
+pub mod Nested
+pub mod Causes
+pub mod Text
+pub mod Status

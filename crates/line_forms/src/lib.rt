@@ -1,0 +1,24 @@
+//! The commands of a script's lines, each read once into a typed form.
+//!
+//! A session above calls `read_command` and does what the command asks. It rests on one definition: `command_of_line` is the command
+//! that bytes are, or why they are none.
+#![tactic(auto)]
+
+mod begin;
+mod command;
+mod error;
+mod faults;
+mod joins;
+mod lines;
+mod names;
+mod open;
+mod parts;
+mod read;
+mod shapes;
+mod transforms;
+mod view;
+mod write;
+
+pub use command::{Command, DownWant, JoinForm};
+pub use error::LineError;
+pub use lines::read_command;
