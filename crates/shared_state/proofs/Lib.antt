@@ -17,3 +17,4 @@ pub mod Committed
 pub mod Given
 pub mod Keyed
 pub mod Asked
+pub mod Reshaped

@@ -1,5 +1,5 @@
 -- An event that changes chunks, and what stands behind it.
-use Rattle.std.specs.Prelude.{◌≡◌, ◌⊎◌, ℕ, ◌+◌, List, [], ◌∷◌, ◌++◌, length, nat_lt, Option, Some, true, false, All, set}
+use Rattle.std.specs.Prelude.{◌<◌, ◌≡◌, ◌⊎◌, ℕ, ◌+◌, List, [], ◌∷◌, ◌++◌, length, nat_lt, Option, Some, true, false, All, set}
 use Rattle.std.specs.List.{IsDistinct}
 use Rattle.std.specs.Str.{bytes_eq}
 use Rattle.chunk_cache.specs.Snapshot.{SnapshotCells}
@@ -7,16 +7,19 @@ use Rattle.kv_face.specs.Store.{Contents, takes, keys_of, are_together}
 use Rattle.kv_face.specs.declared.change.Change.{Change}
 use Rattle.history.specs.declared.event.Event.{Event}
 use Rattle.history.specs.History.{History}
-use Rattle.history.specs.Arrays.{Known, known_after, is_local}
+use Rattle.history.specs.Arrays.{Known, known_after, form_of, is_local}
 use Rattle.history.specs.Chunks.{Chunk, IsIndexOf}
 use Rattle.history.specs.Counting.{is_change}
 use Rattle.history.specs.Generations.{IsKeyTouched}
-use Rattle.history.specs.Legal.{IsLegalDone}
+use Rattle.history.specs.Legal.{IsLegalDone, MayTake}
+use Rattle.history.specs.Own.{resized_event}
+use Rattle.chunk_forms.specs.Metadata.{with_shape}
 use Rattle.history.specs.Stored.{AreChangesOf}
 use Rattle.history.specs.Touch.{touches}
 use Rattle.run_records.specs.Recorded.{with_numbers, without_all, done_event}
 use Rattle.shared_state.specs.declared.deed.Deed.{Deed}
 use Rattle.shared_state.specs.declared.deed.HeldCells.{HeldCells}
+use Rattle.shared_state.specs.declared.deed.NewShape.{NewShape}
 use Rattle.shared_state.specs.Seen.{StoreSeen}
 use Rattle.shared_state.specs.Kept.{AreCellsOf, IsCurrent}
 use Rattle.shared_state.specs.Log.{Log, cells_held}
@@ -72,6 +75,25 @@ pub record IsDeed (store : StoreSeen) (log : Log) (owner : ℕ) (deed : Deed) (c
   pub held : (a : ℕ) (k : Known) → known_after log.events a ≡ Some k → is_local k.info.home ≡ true
       → IsHeldStill log (committed log owner deed) (done_event owner deed.commit) a k ⊎ IsHeldAnew store log (committed log owner deed) (done_event owner deed.commit) a k
   pub right : (opening : Opening) (start : Contents) → Agrees opening store log → opening.store.contents ≡ Some start → IsRightBy start log.events (done_event owner deed.commit) deed changes
+
+-- the log behind a new shape: one event more, whose number is the generation of the keys; what was kept under them is gone
+abbrev pub resized : Log → ℕ → NewShape → Log
+resized log owner new = record {
+  events = log.events ++ resized_event owner new.array new.shape ∷ [];
+  generations = with_numbers (length log.events + 1) log.generations new.keys.items;
+  cache = record log.cache { entries = without_all new.keys.items log.cache.entries };
+  locals = log.locals;
+}
+
+-- a stored array may get a shape by these changes, of which its metadata is one
+pub record IsNewShape (store : StoreSeen) (log : Log) (owner : ℕ) (new : NewShape) (changes : List Change) : Type 0 where
+  pub array : Known
+  pub known : known_after log.events new.array ≡ Some array
+  pub may : MayTake array new.shape
+  pub form : new.form ≡ with_shape (form_of array.info.home) new.shape
+  pub touched : AreTouched log.events (resized_event owner new.array new.shape) new.keys.items
+  pub some : 0 < length changes
+  pub right : (opening : Opening) (start : Contents) → Agrees opening store log → opening.store.contents ≡ Some start → AreChangesOf start log.events (resized_event owner new.array new.shape) changes
 
 -- changes that the store makes together
 pub record AreMade (store : StoreSeen) (changes : List Change) : Type 0 where

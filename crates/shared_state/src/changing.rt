@@ -156,7 +156,7 @@ impl<K: KvStore> State<K> {
 }
 
 /// Makes changes, where there are any.
-fn apply<K: KvStore>(store: &mut K, changes: &[Change]) -> Result<(), KvError>
+pub(crate) fn apply<K: KvStore>(store: &mut K, changes: &[Change]) -> Result<(), KvError>
     requires { let seen = seen_of K.contents K.faults K.prefixes K.names K.standing K.change_count in AreMade (seen store.old) changes.now }
     ensures done { OnOk result ((m : Contents) → K.contents store.old ≡ Some m → K.contents store.new ≡ Some (after m changes.now)) }
     ensures one_more { OnOk result (0 < length changes.now → OneMore (K.change_count store.old) (K.change_count store.new)) }

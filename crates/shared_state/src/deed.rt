@@ -1,5 +1,6 @@
-use cells::Name;
+use cells::{Name, Sizes};
 use chunk_cache::Snapshot;
+use chunk_forms::Form;
 use run_records::Commit;
 
 /// The cells that a local array gets.
@@ -19,6 +20,20 @@ pub struct Deed {
     pub keys: Vec<Name>,
     /// What the local arrays are that it touches.
     pub cells: Vec<HeldCells>,
+}
+
+/// A new shape of a stored array that is about to be made.
+#[derive(Drop)]
+pub struct NewShape {
+    /// The mount that a failed call is told of.
+    pub mount: Name,
+    pub array: u64,
+    /// In cells.
+    pub shape: Sizes,
+    /// How its chunks are stored, by that shape.
+    pub form: Form,
+    /// The keys of the chunks that it cuts.
+    pub keys: Vec<Name>,
 }
 
 /// Why a change was not made.

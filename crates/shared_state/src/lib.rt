@@ -23,10 +23,11 @@ mod new_array;
 mod opening;
 mod place;
 mod reading;
+mod reshaping;
 mod state;
 
 pub use book::AtStart;
-pub use deed::{ChangeError, Deed, HeldCells};
+pub use deed::{ChangeError, Deed, HeldCells, NewShape};
 pub use error::FetchError;
 pub use opening::{OpenError, Opened};
 pub use reading::{Bounds, Fetched, Look};

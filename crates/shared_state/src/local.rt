@@ -57,6 +57,7 @@ fn add_given(records: &mut Records, owner: u32, new: NewArray, cells: Snapshot) 
       events = records.old.events ++ opened_event owner new.info ∷ [];
       locals = records.old.locals ++ Some cells ∷ [];
       room = records.new.room;
+      event_room = records.new.event_room;
     } }
 {
     let NewArray { info, form, array } = new;

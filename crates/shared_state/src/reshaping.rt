@@ -1,0 +1,111 @@
+// Giving an array a new shape.
+ghost use Rattle.std.specs.Prelude.{◌≡◌, ◌++◌, ◌∷◌, [], ◌≤◌, ◌<◌, ◌+◌, ℕ, List, length, Some, Ok, Err, IfOk, OnOk, OnErr, false};
+ghost use Rattle.std.specs.List.{AllByRecursion};
+ghost use Rattle.chunk_forms.specs.Metadata.{with_shape};
+ghost use Rattle.kv_face.specs.Store.{Contents, OneMore, after};
+ghost use Rattle.history.specs.Arrays.{Known, known_after, form_of, is_local};
+ghost use Rattle.history.specs.Own.{resized_event};
+ghost use Rattle.run_records.specs.Numbers.{HasPlace, KeepsPlaces};
+ghost use Rattle.run_records.specs.Recorded.{with_numbers, without_all};
+ghost use Rattle.shared_state.specs.Seen.{IsFrame, IsQuiet, seen_of};
+ghost use Rattle.shared_state.specs.Agreement.{IsState, KeepsAgreement};
+ghost use Rattle.shared_state.specs.Changing.{AreMade, IsNewShape, resized};
+ghost use Rattle.shared_state.specs.Fetches.{HasFailed};
+
+use crate::changing::apply;
+use crate::deed::{ChangeError, NewShape};
+use crate::state::State;
+use kv_face::{Change, KvError, KvStore};
+use run_records::Records;
+
+/// Adds the event of a new shape that was made.
+fn enter_shape(records: &mut Records, owner: u32, new: NewShape) -> u64
+    requires array { (k : Known) × (known_after records.old.events new.array ≡ Some k) × (is_local k.info.home ≡ false) × (new.form ≡ with_shape (form_of k.info.home) new.shape) }
+    requires room { 0 < records.old.event_room }
+    requires places { AllByRecursion (HasPlace records.old.places) new.keys.items }
+    ensures number { result ≡ length records.old.events + 1 }
+    ensures after { records.new ≡ record records.old {
+      events = records.old.events ++ resized_event owner new.array new.shape ∷ [];
+      generations = with_numbers (length records.old.events + 1) records.old.generations new.keys.items;
+      cache = record records.old.cache { entries = without_all new.keys.items records.old.cache.entries };
+      room = records.new.room;
+      event_room = records.new.event_room;
+      places = records.new.places;
+    } }
+    ensures room { records.new.event_room + 1 ≡ records.old.event_room }
+    ensures places { KeepsPlaces records.old.places records.new.places }
+{
+    let NewShape {
+        mount: _,
+        array,
+        shape,
+        form,
+        keys,
+    } = new;
+    records.add_resized(owner, array, shape, form, keys)
+}
+
+impl<K: KvStore> State<K> {
+    /// Gives a stored array a new shape, by changes that the store makes together, and adds its event, whose number it gives. Room and
+    /// places were made before (`make_room`).
+    ///
+    /// # Errors
+    /// `StoreFailed` where the store failed, which one event more tells; `Memory` where the store wanted memory. Nothing was
+    /// changed then, and no memory is wanted besides.
+    pub fn reshape(
+        &mut self,
+        owner: u32,
+        new: NewShape,
+        changes: &[Change],
+    ) -> Result<u64, ChangeError>
+        requires agrees { let seen = seen_of K.contents K.faults K.prefixes K.names K.standing K.change_count in IsState (seen self.old.store) self.old.log }
+        requires shape { let seen = seen_of K.contents K.faults K.prefixes K.names K.standing K.change_count in IsNewShape (seen self.old.store) self.old.log owner new changes.now }
+        requires made { let seen = seen_of K.contents K.faults K.prefixes K.names K.standing K.change_count in AreMade (seen self.old.store) changes.now }
+        requires room { 0 < self.old.spare.events }
+        requires places { AllByRecursion (HasPlace self.old.spare.places) new.keys.items }
+        ensures number { IfOk result (λ n. n ≡ length self.old.log.events + 1) }
+        ensures after { OnOk result (self.new.log ≡ resized self.old.log owner new) }
+        ensures done { OnOk result ((m : Contents) → K.contents self.old.store ≡ Some m → K.contents self.new.store ≡ Some (after m changes.now)) }
+        ensures failed { (event : ℕ) → result ≡ Err (ChangeError.StoreFailed event) → let seen = seen_of K.contents K.faults K.prefixes K.names K.standing K.change_count in HasFailed owner new.mount (seen self.old.store) (seen self.new.store) self.old.log self.new.log event }
+        ensures memory { result ≡ Err ChangeError.Memory → self.new.log ≡ self.old.log }
+        ensures quiet { let seen = seen_of K.contents K.faults K.prefixes K.names K.standing K.change_count in OnErr result (IsQuiet (seen self.old.store) (seen self.new.store)) }
+        ensures frame { let seen = seen_of K.contents K.faults K.prefixes K.names K.standing K.change_count in IsFrame (seen self.old.store) (seen self.new.store) }
+        ensures kept { let seen = seen_of K.contents K.faults K.prefixes K.names K.standing K.change_count in KeepsAgreement (seen self.old.store) self.old.log (seen self.new.store) self.new.log }
+        ensures room { self.old.spare.events ≤ self.new.spare.events + 1 }
+        ensures places { KeepsPlaces self.old.spare.places self.new.spare.places }
+    {
+        self.make_shape(owner, new, changes)
+    }
+
+    fn make_shape(
+        &mut self,
+        owner: u32,
+        new: NewShape,
+        changes: &[Change],
+    ) -> Result<u64, ChangeError>
+        requires array { (k : Known) × (known_after self.old.log.events new.array ≡ Some k) × (is_local k.info.home ≡ false) × (new.form ≡ with_shape (form_of k.info.home) new.shape) }
+        requires made { let seen = seen_of K.contents K.faults K.prefixes K.names K.standing K.change_count in AreMade (seen self.old.store) changes.now }
+        requires room { 0 < self.old.spare.events }
+        requires places { AllByRecursion (HasPlace self.old.spare.places) new.keys.items }
+        ensures number { IfOk result (λ n. n ≡ length self.old.log.events + 1) }
+        ensures after { OnOk result (self.new.log ≡ resized self.old.log owner new) }
+        ensures done { OnOk result ((m : Contents) → K.contents self.old.store ≡ Some m → K.contents self.new.store ≡ Some (after m changes.now)) }
+        ensures one_more { OnOk result (0 < length changes.now → OneMore (K.change_count self.old.store) (K.change_count self.new.store)) }
+        ensures none { OnOk result (length changes.now ≡ 0 → K.change_count self.new.store ≡ K.change_count self.old.store) }
+        ensures failed { (event : ℕ) → result ≡ Err (ChangeError.StoreFailed event) → let seen = seen_of K.contents K.faults K.prefixes K.names K.standing K.change_count in HasFailed owner new.mount (seen self.old.store) (seen self.new.store) self.old.log self.new.log event }
+        ensures memory { result ≡ Err ChangeError.Memory → self.new.log ≡ self.old.log }
+        ensures quiet { let seen = seen_of K.contents K.faults K.prefixes K.names K.standing K.change_count in OnErr result (IsQuiet (seen self.old.store) (seen self.new.store)) }
+        ensures frame { let seen = seen_of K.contents K.faults K.prefixes K.names K.standing K.change_count in IsFrame (seen self.old.store) (seen self.new.store) }
+        ensures room { self.old.spare.events ≤ self.new.spare.events + 1 }
+        ensures places { KeepsPlaces self.old.spare.places self.new.spare.places }
+    {
+        match apply(&mut self.store, changes) {
+            Ok(()) => Ok(enter_shape(&mut self.records, owner, new)),
+            Err(KvError::Failed) => {
+                let event = self.records.add_fault(owner, new.mount);
+                Err(ChangeError::StoreFailed { event })
+            }
+            Err(KvError::Memory) => Err(ChangeError::Memory),
+        }
+    }
+}
