@@ -1,5 +1,5 @@
 // The chunks that a new shape cuts, one after another.
-ghost use Rattle.std.specs.Prelude.{◌≡◌, ◌<◌, ◌≤◌, ◌∷◌, [], Bool, false, IfOk, drop, length, slice_index_or};
+ghost use Rattle.std.specs.Prelude.{◌≡◌, ◌<◌, ◌≤◌, ◌∷◌, [], IfOk, drop, length, slice_index_or};
 ghost use Rattle.std.specs.List.{AllByRecursion};
 ghost use Rattle.cells.specs.Shapes.{IsChunkShape};
 ghost use Rattle.chunk_laying.specs.Behind.{AreBehind, IsCounted, chunks_of};
