@@ -1,6 +1,6 @@
 use crate::fault::Fault;
 use crate::read::word;
-use crate::{caching, casts, held, numbers, placing, staging};
+use crate::{caching, casts, held, laying, numbers, placing, staging};
 use json_forms::parse;
 use std::alloc::{AllocError, Global};
 
@@ -26,6 +26,9 @@ fn told(alloc: Global, line: &str) -> Result<String, Fault> {
     }
     if let Some(call) = word(&v, "staged") {
         return staging::answer(alloc, call);
+    }
+    if let Some(call) = word(&v, "laying") {
+        return laying::answer(alloc, call, &v);
     }
     if let Some(call) = word(&v, "cache") {
         return caching::answer(alloc, call, &v);

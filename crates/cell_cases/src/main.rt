@@ -8,6 +8,7 @@ mod cases;
 mod casts;
 mod fault;
 mod held;
+mod laying;
 mod numbers;
 mod placing;
 mod read;

@@ -1,15 +1,18 @@
 -- How many chunks a new shape cuts, one dimension after another, none of the counts ever above a limit.
-use Rattle.std.proofs.Common.{◌≡◌, ℕ, zero, suc, ◌+◌, ◌-◌, ◌*◌, ◌<◌, ◌≤◌, List, [], ◌∷◌, length, drop, slice_index, min, inl, inr, refl, sym, ap, subst, ◌∙◌, arith}
+use Rattle.std.proofs.Common.{◌≡◌, ℕ, zero, suc, ◌+◌, ◌-◌, ◌*◌, ◌<◌, ◌≤◌, List, [], ◌∷◌, length, drop, get_or, set, slice_index, min, ◌≢◌, inl, inr, refl, sym, ap, subst, ◌∙◌, arith}
 use Rattle.std.specs.Int.{div_ceil}
 use Rattle.std.proofs.Math.Nat.{le-mul_of_pos_right, add-mul, mul_comm}
 use Rattle.std.proofs.Math.Seq.{drop-cons}
+use Rattle.std.proofs.lemmas.List.{get_or-set_other, get_or-set_same}
 use Rattle.cells.specs.Places.{cell_count}
 use Rattle.cells.proofs.Laws.{less_or_not}
 use Rattle.history.specs.Grid.{grid_of}
 use Rattle.history.specs.Resizes.{whole_along, whole_grid}
 use Rattle.history.proofs.Known.{ArePositive}
 use Rattle.history.proofs.CutCounts.{cut_count}
+use Rattle.chunk_laying.specs.declared.counting.Counts.{Counts}
 use Rattle.chunk_laying.specs.Resized.{cut_indices}
+use Rattle.chunk_laying.specs.Behind.{IsCounted}
 
 -- a product below a limit is that of its factors below the limit
 capped_product : (s a b x y : ℕ) → 0 < s → x ≡ min a s → y ≡ min b s → min (x * y) s ≡ min (a * b) s
@@ -79,11 +82,6 @@ rank-drop (suc k) [] (s ∷ olds) e = absurd (omega arith)
 rank-drop (suc k) (n ∷ ns) [] e = absurd (omega arith)
 rank-drop (suc k) (n ∷ ns) (s ∷ olds) e = rank-drop k ns olds (omega arith)
 
--- what is counted of some dimensions
-pub record IsCounted (ns olds news : List ℕ) (all cut : ℕ) : Type 0 where
-  pub all_is : all ≡ min (cell_count (grid_of olds ns)) 65537
-  pub cut_is : cut ≡ min (length (cut_indices ns olds news)) 65537
-
 one_more : (n s t : ℕ) (ns olds news : List ℕ) (all cut count whole : ℕ) → ArePositive (n ∷ ns) → length ns ≡ length olds → length news ≡ length olds → count ≡ div_ceil s n → whole ≡ whole_along s t n count → whole ≤ count
     → IsCounted ns olds news all cut → IsCounted (n ∷ ns) (s ∷ olds) (t ∷ news) (min (min count 65537 * all) 65537) (min (min (count - whole) 65537 * all + min whole 65537 * cut) 65537)
 one_more n s t ns olds news all cut count whole pos e f count_is whole_is most so_far =
@@ -123,3 +121,22 @@ counted-none (n ∷ ns) [] news k e f is = absurd (omega arith)
 counted-none (n ∷ ns) (s ∷ olds) [] k e f is = absurd (omega arith)
 counted-none (n ∷ ns) (s ∷ olds) (t ∷ news) zero e f is = absurd (omega arith)
 counted-none (n ∷ ns) (s ∷ olds) (t ∷ news) (suc k) e f is = counted-none ns olds news k (omega arith) (omega arith) (omega arith)
+
+-- what stands for each dimension that is done, with one more
+pub behind-step : (ns olds news : List ℕ) (behind next : List Counts) (k turn : ℕ) (counts : Counts) → turn ≡ suc k → k < length behind → next ≡ set behind k counts
+    → IsCounted (drop turn ns) (drop turn olds) (drop turn news) counts.all counts.cut
+    → ((j : ℕ) (d : Counts) → turn ≤ j → j < length ns → IsCounted (drop (suc j) ns) (drop (suc j) olds) (drop (suc j) news) (get_or behind j d).all (get_or behind j d).cut)
+    → (j : ℕ) (d : Counts) → k ≤ j → j < length ns → IsCounted (drop (suc j) ns) (drop (suc j) olds) (drop (suc j) news) (get_or next j d).all (get_or next j d).cut
+behind-step ns olds news behind next k turn counts is lt set_is here done j d le below =
+    let P : ℕ → Counts → Type 0 = λ i c. IsCounted (drop i ns) (drop i olds) (drop i news) c.all c.cut in
+    elim (less_or_not k j) [
+      | inl later ↦
+          let other : j ≢ k = omega arith in
+          let same : get_or behind j d ≡ get_or next j d = sym (ap (λ l. get_or l j d) set_is ∙ get_or-set_other behind k j counts d other) in
+          subst (P (suc j)) same (done j d (omega arith) below)
+      | inr now ↦
+          let one : turn ≡ suc j = omega arith in
+          let place : j ≡ k = omega arith in
+          let same : counts ≡ get_or next j d = sym (ap (λ i. get_or next i d) place ∙ ap (λ l. get_or l k d) set_is ∙ get_or-set_same behind k counts d lt) in
+          subst (P (suc j)) same (subst (λ i. P i counts) one here)
+    ]

@@ -1,4 +1,6 @@
 pub mod CountLaws
+pub mod PassLaws
+pub mod NthLaws
 pub mod RowLaws
 pub mod CoverLaws
 pub mod SnapshotLaws

@@ -1,3 +1,4 @@
 pub mod Resized
+pub mod Behind
 pub mod Laid
 pub mod Rows

@@ -10,7 +10,14 @@ ghost use Rattle.chunk_laying.specs.Resized.{cut_indices};
 pub const MOST_CUT_CHUNKS: u64 = 65_536;
 
 // One more than that stands for every greater count.
-const MANY: u64 = 65_537;
+pub(crate) const MANY: u64 = 65_537;
+
+/// How many chunks there are and how many of them a new shape cuts, `MANY` standing for every greater count.
+#[derive(Clone, Copy)]
+pub(crate) struct Counts {
+    pub(crate) all: u64,
+    pub(crate) cut: u64,
+}
 
 /// How many chunks a new shape of an array cuts: those with a cell in the old shape and not in the new one. `None` exactly
 /// where there are more than 65,536. It takes a few steps a dimension, however many chunks there are.
@@ -36,7 +43,7 @@ pub fn count_cut(chunk_shape: &[u64], old: &[u64], new: &[u64]) -> Option<u64>
 }
 
 // How many chunks along a dimension keep all their cells.
-fn whole_along(size: u64, new: u64, n: u64, count: u64) -> u64
+pub(crate) fn whole_along(size: u64, new: u64, n: u64, count: u64) -> u64
     requires positive { 0 < n }
     requires count { count ≡ div_ceil size n }
     ensures value { result ≡ whole_along size new n count }
@@ -47,7 +54,7 @@ fn whole_along(size: u64, new: u64, n: u64, count: u64) -> u64
 
 // The chunks that are cut, with one dimension more: those past the whole ones along it, and of the whole ones those that are
 // cut along another.
-fn cut_with(count: u64, whole: u64, all: u64, cut: u64) -> u64
+pub(crate) fn cut_with(count: u64, whole: u64, all: u64, cut: u64) -> u64
     requires whole { whole ≤ count }
     requires all { all ≤ 65537 }
     requires cut { cut ≤ 65537 }
@@ -57,7 +64,7 @@ fn cut_with(count: u64, whole: u64, all: u64, cut: u64) -> u64
 }
 
 // All chunks, with one dimension more.
-fn all_with(count: u64, all: u64) -> u64
+pub(crate) fn all_with(count: u64, all: u64) -> u64
     requires { all ≤ 65537 }
     ensures { result ≡ min (min count 65537 * all) 65537 }
 {

@@ -1,13 +1,15 @@
 //! What a commit or a new shape does to the cells of one chunk, and which chunks a new shape cuts.
 //!
 //! Crates above rest on three things: `lay` and `cut` give a chunk's words cell by cell, with the fill past the array's
-//! shape, `covers` tells whether a commit needs the chunk that there is, and cut chunks are counted without a walk over them.
+//! shape, `covers` tells whether a commit needs the chunk that there is, and cut chunks are counted and listed without a walk
+//! over the others.
 #![tactic(auto)]
 
 mod asking;
 mod counting;
 mod covering;
 mod laying;
+mod listing;
 mod remaining;
 mod rows;
 
@@ -15,4 +17,5 @@ pub use asking::is_chunk_of;
 pub use counting::{MOST_CUT_CHUNKS, count_cut};
 pub use covering::covers;
 pub use laying::{cut, lay};
+pub use listing::cut_chunks;
 pub use remaining::{is_cut_in_part, is_gone};

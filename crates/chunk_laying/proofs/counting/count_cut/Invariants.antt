@@ -1,5 +1,5 @@
 use Rattle.std.proofs.Common.{drop}
-use Rattle.chunk_laying.proofs.CountLaws.{IsCounted}
+use Rattle.chunk_laying.specs.Behind.{IsCounted}
 use Rattle.chunk_laying.proofs.counting.count_cut.Given as goal
 
 -- both counts, of the dimensions that are done
