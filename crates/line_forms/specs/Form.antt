@@ -1,6 +1,6 @@
 -- A command, with what its parts are.
-use Rattle.std.specs.Prelude.{ℕ, List, length, Bool, Option}
-use Rattle.std.specs.List.{All}
+use Rattle.std.specs.Prelude.{◌<◌, ◌≤◌, ℕ, List, length, Bool, Option, Some, None}
+use Rattle.std.specs.List.{All, AllByRecursion}
 use Rattle.serde_json.specs.Data.{Data}
 use Rattle.serde_json.specs.View.{view}
 use Rattle.cells.specs.Shapes.{IsShape}
@@ -9,6 +9,7 @@ use Rattle.step_forms.specs.Given.{IsGiven}
 use Rattle.step_forms.specs.declared.act.Step.{Step}
 use Rattle.spec_open.specs.Conditions.{IsTree}
 use Rattle.spec_open.specs.declared.plan.OpenPlan.{OpenPlan}
+use Rattle.downsample_view.specs.Groups.{IsFactor}
 use Rattle.line_forms.specs.declared.command.Command.{Command}
 use Rattle.line_forms.specs.declared.command.Command.TheVariants.{Open, View, Join, Read, Write, Begin, Commit, Abort, Resize, Resolve}
 use Rattle.line_forms.specs.declared.command.DownWant.{DownWant}
@@ -40,12 +41,25 @@ form_of Abort = aborting
 form_of (Resize name shape) = resizing name shape
 form_of (Resolve name) = resolving name
 
+-- 1 to 256 views
+abbrev pub AreLayers : List (List ℕ) → Type 0
+AreLayers layers = (0 < length layers) × (length layers ≤ 256)
+
+-- each factor may be one of a downsampled read
+abbrev pub HasFactors : DownWant → Type 0
+HasFactors down = AllByRecursion IsFactor down.factors
+
+-- the same, where a read is downsampled
+abbrev pub MayHaveFactors : Option DownWant → Type 0
+MayHaveFactors None = Unit {0}
+MayHaveFactors (Some down) = HasFactors down
+
 -- what is done with a command may rest on this
 abbrev pub IsSound : Command → Type 0
 IsSound (Open name plan) = IsTree (length plan.leaves) plan.tree
 IsSound (View name of transform steps) = All IsGiven steps
-IsSound (Join name form layers transform steps) = All IsGiven steps
-IsSound (Read name steps down) = All IsGiven steps
+IsSound (Join name form layers transform steps) = All IsGiven steps × AreLayers layers
+IsSound (Read name steps down) = All IsGiven steps × MayHaveFactors down
 IsSound (Write name steps values) = All IsGiven steps
 IsSound (Begin atomic repeatable_read) = Unit {0}
 IsSound Commit = Unit {0}

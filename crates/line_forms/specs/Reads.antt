@@ -6,6 +6,7 @@ use Rattle.serde_json.specs.Data.{Data}
 use Rattle.serde_json.specs.Find.{get, as_str}
 use Rattle.json_forms.specs.Lists.{u64_list}
 use Rattle.json_forms.specs.Members.{least_unknown}
+use Rattle.downsample_view.specs.Groups.{is_factor}
 use Rattle.downsample_view.specs.declared.method.Method.{Method}
 use Rattle.downsample_view.specs.declared.method.Method.TheVariants as method
 use Rattle.step_forms.specs.declared.act.Step.{Step}
@@ -25,10 +26,6 @@ method_named s =
 -- the method of a line
 abbrev pub method_at : Data → Option Method
 method_at d = option_and_then method_named (option_and_then as_str (get (codes "downsample_method") d))
-
--- from 1 to 4194304
-abbrev pub is_factor : ℕ → Bool
-is_factor f = nat_le 1 f && nat_le f 4194304
 
 -- the numbers, where each is a factor
 abbrev pub as_factors : List ℕ → Option (List ℕ)

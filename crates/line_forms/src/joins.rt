@@ -1,9 +1,9 @@
 // `{"view":NAME,"overlay":NAMES,"transform":TRANSFORM,"steps":STEPS}`, and with `concat` or `stack` and an `axis`.
-ghost use Rattle.std.specs.Prelude.{◌≡◌, ◌≢◌, ◌∷◌, ◌++◌, [], Ok, Err, IfOk, IfErr, OnOk, Some, codes, is_some, map, option_map, option_and_then};
+ghost use Rattle.std.specs.Prelude.{◌≡◌, ◌≢◌, ◌∷◌, ◌++◌, [], Ok, Err, IfOk, IfErr, IfSome, OnOk, Some, codes, is_some, map, option_map, option_and_then};
 ghost use Rattle.serde_json.specs.View.{view};
 ghost use Rattle.json_forms.specs.Lists.{list_items, all_of};
 ghost use Rattle.json_forms.specs.Members.{least_unknown};
-ghost use Rattle.line_forms.specs.Form.{form_of, IsSound};
+ghost use Rattle.line_forms.specs.Form.{form_of, AreLayers, IsSound};
 ghost use Rattle.line_forms.specs.Names.{name_of};
 ghost use Rattle.line_forms.specs.Parts.{earlier, unless_so, no_name, where_sound};
 ghost use Rattle.line_forms.specs.Views.{as_layers, layers_at, as_axis, axis_at, overlay_members, axis_members, overlay_fault, axis_fault, join_of, join_by, join_as, join_in, joined, overlay_form, concat_form, stack_form};
@@ -100,7 +100,8 @@ fn as_axis(number: u64) -> Option<u32>
 }
 
 fn layers_at(alloc: Global, value: &Value, key: &str) -> Result<Option<List<Name>>, AllocError>
-    ensures { IfOk result (λ layers. layers_at key.now (view value.now) ≡ layers) }
+    ensures layers { IfOk result (λ layers. layers_at key.now (view value.now) ≡ layers) }
+    ensures few { IfOk result (λ layers. IfSome layers AreLayers) }
 {
     match value.get(key) {
         Some(list) => layers_of(alloc, list),
@@ -109,7 +110,8 @@ fn layers_at(alloc: Global, value: &Value, key: &str) -> Result<Option<List<Name
 }
 
 fn layers_of(alloc: Global, list: &Value) -> Result<Option<List<Name>>, AllocError>
-    ensures { IfOk result (λ layers. option_and_then as_layers (option_and_then (all_of name_of) (list_items (view list.now))) ≡ layers) }
+    ensures layers { IfOk result (λ layers. option_and_then as_layers (option_and_then (all_of name_of) (list_items (view list.now))) ≡ layers) }
+    ensures few { IfOk result (λ layers. IfSome layers AreLayers) }
 {
     match list_items(list) {
         Some(items) => layers_in(alloc, items),
@@ -118,7 +120,8 @@ fn layers_of(alloc: Global, list: &Value) -> Result<Option<List<Name>>, AllocErr
 }
 
 fn layers_in(alloc: Global, items: &[Value]) -> Result<Option<List<Name>>, AllocError>
-    ensures { IfOk result (λ layers. option_and_then as_layers (all_of name_of (map view items.now)) ≡ layers) }
+    ensures layers { IfOk result (λ layers. option_and_then as_layers (all_of name_of (map view items.now)) ≡ layers) }
+    ensures few { IfOk result (λ layers. IfSome layers AreLayers) }
 {
     match names_in(alloc, items)? {
         Some(names) => Ok(as_layers(names)),
@@ -127,7 +130,8 @@ fn layers_in(alloc: Global, items: &[Value]) -> Result<Option<List<Name>>, Alloc
 }
 
 fn as_layers(names: Vec<Name>) -> Option<List<Name>>
-    ensures { result ≡ as_layers names.items }
+    ensures layers { result ≡ as_layers names.items }
+    ensures few { IfSome result AreLayers }
 {
     if 1 <= names.len() && names.len() <= 256 {
         Some(List::wrap(names))
@@ -229,6 +233,7 @@ fn joined(
     form: Option<JoinForm>,
     layers: Option<List<Name>>,
 ) -> Result<Command, LineError>
+    requires { IfSome layers AreLayers }
     ensures ok { IfOk result (λ command. joined key.now (option_map (λ s. s.now) fault.entry) form layers (view value.now)
         ≡ Ok (form_of command)) }
     ensures err { IfErr result (λ e. e ≢ LineError.Memory
@@ -250,6 +255,7 @@ fn where_sound(
     layers: Option<List<Name>>,
     transform: Option<Transform>,
 ) -> Result<Command, LineError>
+    requires { IfSome layers AreLayers }
     ensures ok { IfOk result (λ command. where_sound (option_map (λ s. s.now) fault.entry) (join_in key.now form layers (view value.now) transform) ≡ Ok (form_of command)) }
     ensures err { IfErr result (λ e. e ≢ LineError.Memory → where_sound (option_map (λ s. s.now) fault.entry) (join_in key.now form layers (view value.now) transform) ≡ Err e) }
     ensures sound { IfOk result IsSound }
@@ -268,6 +274,7 @@ fn named(
     layers: Option<List<Name>>,
     transform: Option<Transform>,
 ) -> Result<Command, LineError>
+    requires { IfSome layers AreLayers }
     ensures ok { IfOk result (λ command. join_in key.now form layers (view value.now) transform ≡ Ok (form_of command)) }
     ensures err { IfErr result (λ e. e ≢ LineError.Memory → join_in key.now form layers (view value.now) transform ≡ Err e) }
     ensures sound { IfOk result IsSound }
@@ -287,6 +294,7 @@ fn formed(
     transform: Option<Transform>,
     name: Name,
 ) -> Result<Command, LineError>
+    requires { IfSome layers AreLayers }
     ensures ok { IfOk result (λ command. join_as key.now form layers (view value.now) transform name ≡ Ok (form_of command)) }
     ensures err { IfErr result (λ e. e ≢ LineError.Memory → join_as key.now form layers (view value.now) transform name ≡ Err e) }
     ensures sound { IfOk result IsSound }
@@ -306,6 +314,7 @@ fn layered(
     transform: Option<Transform>,
     name: Name,
 ) -> Result<Command, LineError>
+    requires { IfSome layers AreLayers }
     ensures ok { IfOk result (λ command. join_by key.now layers (view value.now) transform name kind ≡ Ok (form_of command)) }
     ensures err { IfErr result (λ e. e ≢ LineError.Memory → join_by key.now layers (view value.now) transform name kind ≡ Err e) }
     ensures sound { IfOk result IsSound }
@@ -324,6 +333,7 @@ fn stepped(
     transform: Option<Transform>,
     name: Name,
 ) -> Result<Command, LineError>
+    requires { AreLayers names }
     ensures ok { IfOk result (λ command. join_of (view value.now) transform name kind names ≡ Ok (form_of command)) }
     ensures err { IfErr result (λ e. e ≢ LineError.Memory → join_of (view value.now) transform name kind names ≡ Err e) }
     ensures sound { IfOk result IsSound }

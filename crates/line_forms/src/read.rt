@@ -1,12 +1,13 @@
 // `{"read":NAME,"steps":STEPS,"downsample_factors":FACTORS,"downsample_method":METHOD}`.
-ghost use Rattle.std.specs.Prelude.{◌≡◌, ◌≢◌, ◌∷◌, [], Ok, Err, IfOk, IfErr, codes, option_map, option_and_then, is_some};
-ghost use Rattle.std.specs.List.{list_all};
+ghost use Rattle.std.specs.Prelude.{◌≡◌, ◌≢◌, ◌∷◌, [], Ok, Err, IfOk, IfErr, IfSome, IsTrue, codes, option_map, option_and_then, is_some};
+ghost use Rattle.std.specs.List.{list_all, AllByRecursion};
+ghost use Rattle.downsample_view.specs.Groups.{IsFactor, is_factor};
 ghost use Rattle.serde_json.specs.View.{view};
 ghost use Rattle.json_forms.specs.Lists.{u64_list};
 ghost use Rattle.json_forms.specs.Members.{least_unknown};
-ghost use Rattle.line_forms.specs.Form.{form_of, IsSound};
+ghost use Rattle.line_forms.specs.Form.{form_of, MayHaveFactors, IsSound};
 ghost use Rattle.line_forms.specs.Parts.{earlier, no_name};
-ghost use Rattle.line_forms.specs.Reads.{method_named, method_at, is_factor, as_factors, factors_at, half_fault, read_members, down_of, read_as, read_so, read_form};
+ghost use Rattle.line_forms.specs.Reads.{method_named, method_at, as_factors, factors_at, half_fault, read_members, down_of, read_as, read_so, read_form};
 
 use crate::command::{Command, DownWant};
 use crate::error::LineError;
@@ -33,7 +34,8 @@ pub(crate) fn read_line(alloc: Global, value: &Value) -> Result<Command, LineErr
 }
 
 fn factors_at(alloc: Global, value: &Value) -> Result<Option<Sizes>, AllocError>
-    ensures { IfOk result (λ factors. factors_at (view value.now) ≡ factors) }
+    ensures factors { IfOk result (λ factors. factors_at (view value.now) ≡ factors) }
+    ensures sound { IfOk result (λ factors. IfSome factors (AllByRecursion IsFactor)) }
 {
     match value.get("downsample_factors") {
         Some(list) => factors_of(alloc, list),
@@ -42,7 +44,8 @@ fn factors_at(alloc: Global, value: &Value) -> Result<Option<Sizes>, AllocError>
 }
 
 fn factors_of(alloc: Global, list: &Value) -> Result<Option<Sizes>, AllocError>
-    ensures { IfOk result (λ factors. option_and_then as_factors (u64_list (view list.now)) ≡ factors) }
+    ensures factors { IfOk result (λ factors. option_and_then as_factors (u64_list (view list.now)) ≡ factors) }
+    ensures sound { IfOk result (λ factors. IfSome factors (AllByRecursion IsFactor)) }
 {
     match u64_list(alloc, list)? {
         Some(factors) => Ok(as_factors(factors)),
@@ -51,7 +54,8 @@ fn factors_of(alloc: Global, list: &Value) -> Result<Option<Sizes>, AllocError>
 }
 
 fn as_factors(factors: Vec<u64>) -> Option<Sizes>
-    ensures { result ≡ as_factors factors.items }
+    ensures factors { result ≡ as_factors factors.items }
+    ensures sound { IfSome result (AllByRecursion IsFactor) }
 {
     if are_factors(&factors) {
         Some(Sizes::wrap(factors))
@@ -61,6 +65,13 @@ fn as_factors(factors: Vec<u64>) -> Option<Sizes>
 }
 
 fn are_factors(factors: &[u64]) -> bool
+    ensures value { result ≡ list_all is_factor factors.now }
+    ensures from { IsTrue result → AllByRecursion IsFactor factors.now }
+{
+    all_factors(factors)
+}
+
+fn all_factors(factors: &[u64]) -> bool
     ensures { result ≡ list_all is_factor factors.now }
 {
     factors.iter().all(|f| 1 <= *f && *f <= MOST_CELLS)
@@ -152,7 +163,9 @@ fn half_method(value: &Value) -> Option<&str>
 }
 
 fn down_of(factors: Option<Sizes>, method: Option<Method>) -> Option<DownWant>
-    ensures { result ≡ down_of factors method }
+    requires { IfSome factors (AllByRecursion IsFactor) }
+    ensures down { result ≡ down_of factors method }
+    ensures sound { MayHaveFactors result }
 {
     match (factors, method) {
         (Some(factors), Some(method)) => Some(DownWant { factors, method }),
@@ -161,6 +174,7 @@ fn down_of(factors: Option<Sizes>, method: Option<Method>) -> Option<DownWant>
 }
 
 fn named(alloc: Global, value: &Value, down: Option<DownWant>) -> Result<Command, LineError>
+    requires { MayHaveFactors down }
     ensures ok { IfOk result (λ command. read_so down (view value.now) ≡ Ok (form_of command)) }
     ensures err { IfErr result (λ e. e ≢ LineError.Memory → read_so down (view value.now) ≡ Err e) }
     ensures sound { IfOk result IsSound }
@@ -177,6 +191,7 @@ fn stepped(
     name: Name,
     down: Option<DownWant>,
 ) -> Result<Command, LineError>
+    requires { MayHaveFactors down }
     ensures ok { IfOk result (λ command. read_as down (view value.now) name ≡ Ok (form_of command)) }
     ensures err { IfErr result (λ e. e ≢ LineError.Memory → read_as down (view value.now) name ≡ Err e) }
     ensures sound { IfOk result IsSound }
