@@ -15,3 +15,5 @@ pub mod Filled
 pub mod Given
 pub mod Keyed
 pub mod Asked
+pub mod Settling
+pub mod Laws
