@@ -72,7 +72,7 @@ pub agrees_looked : (opening : Opening) (store : StoreSeen) (log : Log) (k : Kno
 agrees_looked opening store log k key is = looked_by opening store log key (is_local k.info.home) is
 
 -- and behind a chunk that was settled
-module _ (opening : Opening) (store : StoreSeen) (log : Log) (c : Chunk) (key : List ℕ) (k : Known) (snapshot : SnapshotCells) (named : IsNamed log.events c key) (known : known_after log.events c.array ≡ Some k) (may : MaySettle store log c snapshot)
+module _ (opening : Opening) (store : StoreSeen) (log : Log) (c : Chunk) (key : List ℕ) (k : Known) (snapshot : SnapshotCells) (named : IsNamed log.events c key) (known : known_after log.events c.array ≡ Some k) (may : MaySettle opening log c snapshot)
     (agrees : Agrees opening store log) where
   kept_new : is_local k.info.home ≡ false → IsKept log.events (key, snapshot)
   kept_new stored =
@@ -91,7 +91,7 @@ module _ (opening : Opening) (store : StoreSeen) (log : Log) (c : Chunk) (key : 
   unfolding kept_new
   kept_new_now stored same start told =
       let now = generation_now opening start store log c key k agrees told named known in
-      (kept_new stored, may.now opening start k agrees told known (sym (eqb-true (generation_in log k key) snapshot.generation same) ∙ now))
+      (kept_new stored, may.now start k told known (sym (eqb-true (generation_in log k key) snapshot.generation same) ∙ now))
 
   settled_by : (local same : Bool) → is_local k.info.home ≡ local → (generation_in log k key == snapshot.generation) ≡ same
       → Agrees opening store (cond local log (cond same (record log { cache = record log.cache { entries = after_keep log.cache.limit key snapshot log.cache.entries } }) log))

@@ -27,7 +27,7 @@ use Rattle.history.proofs.Known.{some_inj}
 use Rattle.shared_state.specs.Seen.{StoreSeen}
 use Rattle.shared_state.specs.Log.{Log}
 use Rattle.shared_state.specs.Kept.{AreCellsOf, IsCurrent}
-use Rattle.shared_state.specs.Agreement.{IsState}
+use Rattle.shared_state.specs.Agreement.{Opening, Agrees, IsState}
 use Rattle.shared_state.specs.Fetches.{IsAnswered, IsDamagedThere, IsNamed, MaySettle, generation_in}
 use Rattle.shared_state.proofs.Outline.{good_in}
 use Rattle.shared_state.proofs.Cached.{generation_now}
@@ -88,8 +88,8 @@ module _ (store : StoreSeen) (log : Log) (c : Chunk) (key : List ℕ) (f : Form)
       (damaged_there start true_to.contents log.events c named.array f true_to.legal true_to.represents named.known stored named.valid is cause (subst (λ o. stored_fault f o ≡ Some cause) here fault))
 
 -- an answer may be settled
-pub answered_may : (store : StoreSeen) (log : Log) (c : Chunk) (snapshot : SnapshotCells) → IsAnswered store log c snapshot → MaySettle store log c snapshot
-answered_may store log c snapshot is = record {
+pub answered_may : (opening : Opening) (store : StoreSeen) (log : Log) (c : Chunk) (snapshot : SnapshotCells) → Agrees opening store log → IsAnswered store log c snapshot → MaySettle opening log c snapshot
+answered_may opening store log c snapshot agrees is = record {
   cells = is.cells;
-  now = λ opening start k agrees told known same. is.now opening start k agrees told known;
+  now = λ start k told known same. is.now opening start k agrees told known;
 }

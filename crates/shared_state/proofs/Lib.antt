@@ -18,3 +18,5 @@ pub mod Given
 pub mod Keyed
 pub mod Asked
 pub mod Reshaped
+pub mod Settling
+pub mod Laws

@@ -68,8 +68,12 @@ settled log k key snapshot =
     if is_local k.info.home then log
     else (if generation_in log k key == snapshot.generation then record log { cache = record log.cache { entries = after_keep log.cache.limit key snapshot log.cache.entries } } else log)
 
--- cells that may be settled: of the chunk's dtype and shape, and where their generation is the chunk's, those of the chunk
-pub record MaySettle (store : StoreSeen) (log : Log) (c : Chunk) (snapshot : SnapshotCells) : Type 0 where
+-- cells that may be settled: of the chunk's dtype and shape, and where the store told its contents at the start and their generation is
+-- the chunk's, those of the chunk
+pub record MaySettle (opening : Opening) (log : Log) (c : Chunk) (snapshot : SnapshotCells) : Type 0 where
   pub cells : (k : Known) → known_after log.events c.array ≡ Some k → AreCellsOf k snapshot
-  pub now : (opening : Opening) (start : Contents) (k : Known) → Agrees opening store log → opening.store.contents ≡ Some start → known_after log.events c.array ≡ Some k
-      → snapshot.generation ≡ generation_of log.events c → IsCurrent start log.events k c snapshot
+  pub now : (start : Contents) (k : Known) → opening.store.contents ≡ Some start → known_after log.events c.array ≡ Some k → snapshot.generation ≡ generation_of log.events c → IsCurrent start log.events k c snapshot
+
+-- behind cells that were settled, a state agrees with each opening by which they may be
+abbrev pub KeepsSettled : StoreSeen → Log → Chunk → SnapshotCells → StoreSeen → Log → Type 0
+KeepsSettled store log c snapshot next later = (opening : Opening) → Agrees opening store log → MaySettle opening log c snapshot → Agrees opening next later

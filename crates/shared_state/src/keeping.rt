@@ -5,7 +5,7 @@ ghost use Rattle.history.specs.Chunks.{chunk_key};
 ghost use Rattle.shared_state.specs.Seen.{seen_of};
 ghost use Rattle.shared_state.specs.Log.{cells_held};
 ghost use Rattle.shared_state.specs.Agreement.{IsState, KeepsAgreement};
-ghost use Rattle.shared_state.specs.Fetches.{IsAnswered, IsChunkOf, IsNamed, MaySettle, kept_of, looked_at, generation_in, settled};
+ghost use Rattle.shared_state.specs.Fetches.{IsAnswered, IsChunkOf, IsNamed, KeepsSettled, kept_of, looked_at, generation_in, settled};
 
 use crate::state::State;
 use array_homes::is_local;
@@ -79,11 +79,11 @@ impl<K: KvStore> State<K> {
     ) -> Result<(), AllocError>
         requires agrees { let seen = seen_of K.contents K.faults K.prefixes K.names K.standing K.change_count in IsState (seen self.old.store) self.old.log }
         requires named { IsNamed self.old.log.events (record { array = array; index = chunk.now }) (string_bytes key) }
-        requires may { let seen = seen_of K.contents K.faults K.prefixes K.names K.standing K.change_count in MaySettle (seen self.old.store) self.old.log (record { array = array; index = chunk.now }) snapshot }
         ensures after { OnOk result ((k : Known) → known_after self.old.log.events array ≡ Some k → self.new.log ≡ settled self.old.log k (string_bytes key) snapshot) }
         ensures err { OnErr result (self.new.log ≡ self.old.log) }
         ensures store { self.new.store ≡ self.old.store }
-        ensures kept { let seen = seen_of K.contents K.faults K.prefixes K.names K.standing K.change_count in KeepsAgreement (seen self.old.store) self.old.log (seen self.new.store) self.new.log }
+        ensures kept { let seen = seen_of K.contents K.faults K.prefixes K.names K.standing K.change_count in
+            KeepsSettled (seen self.old.store) self.old.log (record { array = array; index = chunk.now }) snapshot (seen self.new.store) self.new.log }
     {
         if self.is_local(array) {
             return Ok(());
@@ -117,7 +117,7 @@ impl<K: KvStore> State<K> {
     }
 
     /// Keeps a chunk's cells as the last used, where their generation is still the chunk's and a store holds the array; else
-    /// nothing changes. No call of the store.
+    /// nothing changes. No call of the store. The cells are to be those of a look, at this turn or an earlier one.
     ///
     /// # Errors
     /// Want of memory alone.
@@ -129,11 +129,11 @@ impl<K: KvStore> State<K> {
     ) -> Result<(), AllocError>
         requires agrees { let seen = seen_of K.contents K.faults K.prefixes K.names K.standing K.change_count in IsState (seen self.old.store) self.old.log }
         requires chunk { IsChunkOf self.old.log.events (record { array = array; index = chunk.now }) }
-        requires may { let seen = seen_of K.contents K.faults K.prefixes K.names K.standing K.change_count in MaySettle (seen self.old.store) self.old.log (record { array = array; index = chunk.now }) snapshot }
         ensures after { OnOk result ((k : Known) → known_after self.old.log.events array ≡ Some k → self.new.log ≡ settled self.old.log k (chunk_key k chunk.now) snapshot) }
         ensures err { OnErr result (self.new.log ≡ self.old.log) }
         ensures store { self.new.store ≡ self.old.store }
-        ensures kept { let seen = seen_of K.contents K.faults K.prefixes K.names K.standing K.change_count in KeepsAgreement (seen self.old.store) self.old.log (seen self.new.store) self.new.log }
+        ensures kept { let seen = seen_of K.contents K.faults K.prefixes K.names K.standing K.change_count in
+            KeepsSettled (seen self.old.store) self.old.log (record { array = array; index = chunk.now }) snapshot (seen self.new.store) self.new.log }
     {
         let key = self.key_text(array, chunk)?;
         self.settle_at(array, chunk, key, snapshot)

@@ -7,14 +7,10 @@ use Rattle.shared_state.specs.Fetches.{IsAnswered}
 use Rattle.shared_state.proofs.Filled.{answered_may}
 use Rattle.shared_state.proofs.state.State.put.Goals as goal
 
-pub settle_at-requires-clause-may : goal.settle_at-requires-clause-may
-settle_at-requires-clause-may g c =
+pub returns-clause-kept : goal.returns-clause-kept
+returns-clause-kept g c = λ opening agrees.
     let seen = seen_of g.K.KvStore.contents g.K.KvStore.faults g.K.KvStore.prefixes g.K.KvStore.names g.K.KvStore.standing g.K.KvStore.change_count in
     let chunk : Chunk = record { array = c.args.array; index = c.args.chunk.now } in
-    answered_may (seen c.args.self.now.store) c.args.self.now.log chunk c.in_ok-shared.shared (subst (IsAnswered (seen c.args.self.now.store) c.args.self.now.log chunk) same c.requires.answered)
-  where
-    told : arc_value c.in-Ok.cells ≡ c.args.cells
-    told = c.in-Ok.ensures.ok
-
-    same : record { generation = c.args.generation; cells = c.args.cells } ≡ c.in_ok-shared.shared
-    same = ap (λ (d : DenseCells). record { generation = c.args.generation; cells = d }) (sym told) ∙ sym c.new-snapshot.ensures ∙ sym c.in_ok-shared.ensures
+    let told : arc_value c.in-Ok.cells ≡ c.args.cells = c.in-Ok.ensures.ok in
+    let same : record { generation = c.args.generation; cells = c.args.cells } ≡ c.in_ok-shared.shared = ap (λ (d : DenseCells). record { generation = c.args.generation; cells = d }) (sym told) ∙ sym c.new-snapshot.ensures ∙ sym c.in_ok-shared.ensures in
+    c.settle_at.ensures.kept opening agrees (answered_may opening (seen c.args.self.now.store) c.args.self.now.log chunk c.in_ok-shared.shared agrees (subst (IsAnswered (seen c.args.self.now.store) c.args.self.now.log chunk) same c.requires.answered))

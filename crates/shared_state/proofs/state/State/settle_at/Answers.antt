@@ -11,7 +11,7 @@ use Rattle.shared_state.proofs.Cached.{agrees_settled, either_way}
 use Rattle.shared_state.proofs.state.State.settle_at.Goals as goal
 
 pub returns-clause-kept : goal.returns-clause-kept
-returns-clause-kept g c = λ opening agrees.
+returns-clause-kept g c = λ opening agrees may.
     let log = c.args.self.now.log in
     let named = c.requires.named in
     let k = named.array in
@@ -28,5 +28,5 @@ returns-clause-kept g c = λ opening agrees.
     let is : settled log k key snapshot ≡ keep log = ap (λ b. cond b log (cond (generation_in log k key == snapshot.generation) (keep log) log)) stored ∙ ap (λ b. cond b (keep log) log) equal in
     subst (λ s. Agrees opening s (log_of c.keep.new.self)) (sym kept_store)
     (either_way c.keep.result c.keep.ensures.ok c.keep.ensures.err
-    (λ done. subst (Agrees opening (store c.args.self.now.store)) (sym (ap log_of done ∙ ap keep same ∙ sym is)) (agrees_settled opening (store c.args.self.now.store) log chunk key k snapshot named named.known c.requires.may agrees))
+    (λ done. subst (Agrees opening (store c.args.self.now.store)) (sym (ap log_of done ∙ ap keep same ∙ sym is)) (agrees_settled opening (store c.args.self.now.store) log chunk key k snapshot named named.known may agrees))
     (λ failed. subst (Agrees opening (store c.args.self.now.store)) (sym (ap log_of failed ∙ same)) agrees))
