@@ -45,7 +45,7 @@ use Rattle.shared_state.specs.Log.{Log}
 use Rattle.shared_state.specs.Outline.{outline, outlined_event}
 use Rattle.shared_state.specs.Kept.{IsKept, IsKeptNow, IsCurrent}
 use Rattle.shared_state.specs.Agreement.{Opening, Agrees, IsTrueTo, IsHeld, IsHeldNow, is_fault, TakesMount}
-use Rattle.shared_state.specs.Changing.{IsOneOf, with_cells, committed, AreTouched, IsHeldStill, IsHeldAnew, IsDeed}
+use Rattle.shared_state.specs.Changing.{IsOneOf, with_cells, committed, AreTouched, IsHeldStill, IsHeldAnew, IsDeed, IsRightDeed}
 use Rattle.shared_state.specs.declared.deed.ChangeError.{ChangeError}
 use Rattle.shared_state.specs.declared.deed.ChangeError.TheVariants as error
 use Rattle.shared_state.specs.Fetches.{HasFailed}
@@ -158,7 +158,9 @@ module _ (opening : Opening) (store next : StoreSeen) (log : Log) (e : Event) (k
     pub no_opening : is_opening e ≡ false
     pub count : length locals ≡ length log.locals
     pub outline : IsLegal finmap.empty (outline later)
-    pub held : (a : ℕ) (k : Known) → known_after later a ≡ Some k → is_local k.info.home ≡ true → (known_after h a ≡ Some k) × (IsHeldStill log changed_log e a k ⊎ IsHeldAnew store log changed_log e a k)
+    pub held : (a : ℕ) (k : Known) → known_after later a ≡ Some k → is_local k.info.home ≡ true → (known_after h a ≡ Some k) × (IsHeldStill log changed_log e a k ⊎ IsHeldAnew log changed_log e a k)
+    pub held_now : (start : Contents) → opening.store.contents ≡ Some start → (a : ℕ) (k : Known) → known_after h a ≡ Some k → is_local k.info.home ≡ true → (anew : IsHeldAnew log changed_log e a k) → (index : List ℕ) → IsIndexOf k.info index
+        → IsCurrent start later k (record { array = a; index = index }) anew.snapshot
     pub right : (start : Contents) → opening.store.contents ≡ Some start → IsLegalKind start h e.kind × AreChangesOf start h e changes × (is_change start h e.kind ≡ nat_lt 0 (length changes))
     pub made : (m : Contents) → store.contents ≡ Some m → next.contents ≡ Some (after m changes)
     pub more : 0 < length changes → OneMore store.changes next.changes
@@ -239,13 +241,13 @@ module _ (opening : Opening) (store next : StoreSeen) (log : Log) (e : Event) (k
             λ index valid. current_later k k (record { array = a; index = index }) was.0.snapshot now (still.untouched index valid) (was.1 index valid),
           )
 
-      held_anew : (a : ℕ) (k : Known) → IsHeldAnew store log changed_log e a k → IsHeldNow start changed_log a k
-      held_anew a k anew = (record { snapshot = anew.snapshot; held = anew.held; cells = anew.cells }, λ index valid. anew.now opening start agrees told index valid)
+      held_anew : (a : ℕ) (k : Known) → known_after h a ≡ Some k → is_local k.info.home ≡ true → IsHeldAnew log changed_log e a k → IsHeldNow start changed_log a k
+      held_anew a k known local anew = (record { snapshot = anew.snapshot; held = anew.held; cells = anew.cells }, λ index valid. owed.held_now start told a k known local anew index valid)
 
       held_now : (a : ℕ) (k : Known) → known_after later a ≡ Some k → is_local k.info.home ≡ true → IsHeldNow start changed_log a k
       held_now a k known local =
           let held = owed.held a k known local in
-          elim held.1 [ inl still ↦ held_still a k held.0 known local still | inr anew ↦ held_anew a k anew ]
+          elim held.1 [ inl still ↦ held_still a k held.0 known local still | inr anew ↦ held_anew a k held.0 local anew ]
 
       numbered : IsNumbered h e log.generations changed_log.generations
       numbered = record {
@@ -315,7 +317,7 @@ module _ (opening : Opening) (store next : StoreSeen) (log : Log) (e : Event) (k
     }
 
 -- a commit that was made
-module _ (opening : Opening) (store next : StoreSeen) (log : Log) (owner : ℕ) (deed : Deed) (changes : List Change) (agrees : Agrees opening store log) (is_deed : IsDeed store log owner deed changes) where
+module _ (opening : Opening) (store next : StoreSeen) (log : Log) (owner : ℕ) (deed : Deed) (changes : List Change) (agrees : Agrees opening store log) (is_deed : IsDeed log owner deed) (right : IsRightDeed opening log owner deed changes) where
   abbrev deed_event : Event
   deed_event = done_event owner deed.commit
 
@@ -334,7 +336,8 @@ module _ (opening : Opening) (store next : StoreSeen) (log : Log) (owner : ℕ) 
         count = cells_count deed.cells.items log.locals;
         outline = subst (IsLegal finmap.empty) (sym (outline-more log.events deed_event)) (legal_more finmap.empty (outline log.events) (outlined_event deed_event) agrees.outline tt);
         held = λ a k known local. let before = sym (same a) ∙ known in (before, is_deed.held a k before local);
-        right = λ start told. let right = is_deed.right opening start agrees told in (right.legal, right.changes_are, right.counted);
+        held_now = λ start told a k known local anew index valid. let is = right start told in is.held a k known local anew index valid;
+        right = λ start told. let is = right start told in (is.legal, is.changes_are, is.counted);
         made = made;
         more = more;
         none = none;
@@ -343,11 +346,11 @@ module _ (opening : Opening) (store next : StoreSeen) (log : Log) (owner : ℕ) 
 -- what comes of a deed
 pub agrees_deed : (opening : Opening) (store next : StoreSeen) (log then : Log) (owner : ℕ) (deed : Deed) (changes : List Change) (r : Result ℕ ChangeError) → OnOk r (then ≡ committed log owner deed)
     → OnOk r ((m : Contents) → store.contents ≡ Some m → next.contents ≡ Some (after m changes)) → OnOk r (0 < length changes → OneMore store.changes next.changes) → OnOk r (length changes ≡ 0 → next.changes ≡ store.changes) → OnErr r (IsQuiet store next)
-    → ((event : ℕ) → r ≡ Err (error.StoreFailed event) → HasFailed owner deed.mount store next log then event) → (r ≡ Err error.Memory → then ≡ log) → IsFrame store next → IsDeed store log owner deed changes → Agrees opening store log
+    → ((event : ℕ) → r ≡ Err (error.StoreFailed event) → HasFailed owner deed.mount store next log then event) → (r ≡ Err error.Memory → then ≡ log) → IsFrame store next → IsDeed log owner deed → IsRightDeed opening log owner deed changes → Agrees opening store log
     → Agrees opening next then
-agrees_deed opening store next log then owner deed changes (Ok n) ok done more none quiet failed memory frame is_deed is =
-    subst (Agrees opening next) (sym ok) (agrees_committed opening store next log owner deed changes is is_deed frame done more none)
-agrees_deed opening store next log then owner deed changes (Err (error.StoreFailed event)) ok done more none quiet failed memory frame is_deed is =
+agrees_deed opening store next log then owner deed changes (Ok n) ok done more none quiet failed memory frame is_deed right is =
+    subst (Agrees opening next) (sym ok) (agrees_committed opening store next log owner deed changes is is_deed right frame done more none)
+agrees_deed opening store next log then owner deed changes (Err (error.StoreFailed event)) ok done more none quiet failed memory frame is_deed right is =
     let has = failed event refl in
     subst (Agrees opening next) (sym has.added) (agrees_fault opening store next log owner deed.mount quiet has.rose is)
-agrees_deed opening store next log then owner deed changes (Err error.Memory) ok done more none quiet failed memory frame is_deed is = subst (Agrees opening next) (sym (memory refl)) (agrees_quiet opening store next log quiet is)
+agrees_deed opening store next log then owner deed changes (Err error.Memory) ok done more none quiet failed memory frame is_deed right is = subst (Agrees opening next) (sym (memory refl)) (agrees_quiet opening store next log quiet is)

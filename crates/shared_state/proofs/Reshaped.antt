@@ -12,6 +12,7 @@ use Rattle.history.specs.Arrays.{Known, known_after, known_reshaped, is_local}
 use Rattle.history.specs.Legal.{IsLegal, IsLegalResize}
 use Rattle.history.specs.Own.{resized_event}
 use Rattle.history.specs.Resizes.{is_cut_in}
+use Rattle.history.specs.Touch.{touches}
 use Rattle.history.proofs.Histories.{known_after-more, legal_more}
 use Rattle.history.proofs.Known.{some_inj}
 use Rattle.shared_state.specs.declared.deed.ChangeError.{ChangeError}
@@ -21,7 +22,7 @@ use Rattle.shared_state.specs.Seen.{StoreSeen, IsFrame, IsQuiet}
 use Rattle.shared_state.specs.Log.{Log}
 use Rattle.shared_state.specs.Outline.{outline, outlined_event}
 use Rattle.shared_state.specs.Agreement.{Opening, Agrees}
-use Rattle.shared_state.specs.Changing.{resized, IsNewShape, IsHeldStill, IsHeldAnew}
+use Rattle.shared_state.specs.Changing.{resized, IsNewShape, IsRightShape, IsHeldStill, IsHeldAnew}
 use Rattle.shared_state.specs.Fetches.{HasFailed}
 use Rattle.shared_state.proofs.Got.{agrees_quiet}
 use Rattle.shared_state.proofs.Later.{agrees_fault}
@@ -32,7 +33,7 @@ use Rattle.shared_state.proofs.Committed.{IsStill, agrees_changed}
 differs : (x y : ℕ) → x ≢ y → (x == y) ≡ false
 differs x y ne = elim (true_or_false (x == y)) [ inl h ↦ absurd (ne (eqb-true x y h)) | inr h ↦ h ]
 
-module _ (opening : Opening) (store next : StoreSeen) (log : Log) (owner : ℕ) (new : NewShape) (changes : List Change) (agrees : Agrees opening store log) (is_new : IsNewShape store log owner new changes) where
+module _ (opening : Opening) (store next : StoreSeen) (log : Log) (owner : ℕ) (new : NewShape) (changes : List Change) (agrees : Agrees opening store log) (is_new : IsNewShape log owner new changes) (right : IsRightShape opening log owner new changes) where
   abbrev b : ℕ
   b = new.array
 
@@ -82,12 +83,22 @@ module _ (opening : Opening) (store next : StoreSeen) (log : Log) (owner : ℕ) 
       absurd (cc)
 
   held_by : (a : ℕ) (k : Known) → known_after later a ≡ Some k → is_local k.info.home ≡ true
-      → (known_after log.events a ≡ Some k) × (IsHeldStill log (resized log owner new) event a k ⊎ IsHeldAnew store log (resized log owner new) event a k)
+      → (known_after log.events a ≡ Some k) × (IsHeldStill log (resized log owner new) event a k ⊎ IsHeldAnew log (resized log owner new) event a k)
   held_by a k known local =
       let other = other_by a k (b == a) refl known local in (
         sym (step a ∙ ap (λ t. cond t (known_reshaped shape (known_after log.events a)) (known_after log.events a)) other) ∙ known,
         inl (record { same = refl; untouched = λ index valid. ap (λ t. t && is_cut_in (known_after log.events a) shape index) other }),
       )
+
+  -- the event touches no chunk of it
+  no_anew_by : (a : ℕ) (k : Known) (index : List ℕ) (t : Bool) → (b == a) ≡ t → known_after log.events a ≡ Some k → is_local k.info.home ≡ true → touches log.events event (record { array = a; index = index }) ≡ true → ⊥
+  no_anew_by a k index false test known local touched =
+      let clash : true ≡ false = sym touched ∙ ap (λ t. t && is_cut_in (known_after log.events a) shape index) test in
+      absurd (cc)
+  no_anew_by a k index true test known local touched =
+      let same = some_inj k is_new.array (sym known ∙ ap (known_after log.events) (sym (eqb-true b a test)) ∙ is_new.known) in
+      let clash : true ≡ false = sym local ∙ ap (λ (m : Known). is_local m.info.home) same ∙ is_new.may.stored in
+      absurd (cc)
 
   may_be : IsLegalResize (known_after (outline log.events) b) shape
   may_be = subst (λ o. IsLegalResize o shape) (sym (known-outline b log.events ∙ is_new.known)) is_new.may
@@ -105,9 +116,10 @@ module _ (opening : Opening) (store next : StoreSeen) (log : Log) (owner : ℕ) 
         count = refl;
         outline = subst (IsLegal finmap.empty) (sym (outline-more log.events event)) (legal_more finmap.empty (outline log.events) (outlined_event event) agrees.outline may_be);
         held = held_by;
+        held_now = λ start told a k known local anew index valid. absurd (no_anew_by a k index (b == a) refl known local (anew.touched index valid));
         right = λ start told. (
           subst (λ o. IsLegalResize o shape) (sym is_new.known) is_new.may,
-          is_new.right opening start agrees told,
+          right start told,
           sym (lt-ltb 0 (length changes) is_new.some),
         );
         made = made;
@@ -118,11 +130,11 @@ module _ (opening : Opening) (store next : StoreSeen) (log : Log) (owner : ℕ) 
 -- what comes of a new shape
 pub agrees_shape : (opening : Opening) (store next : StoreSeen) (log then : Log) (owner : ℕ) (new : NewShape) (changes : List Change) (r : Result ℕ ChangeError) → OnOk r (then ≡ resized log owner new)
     → OnOk r ((m : Contents) → store.contents ≡ Some m → next.contents ≡ Some (after m changes)) → OnOk r (0 < length changes → OneMore store.changes next.changes) → OnOk r (length changes ≡ 0 → next.changes ≡ store.changes) → OnErr r (IsQuiet store next)
-    → ((event : ℕ) → r ≡ Err (error.StoreFailed event) → HasFailed owner new.mount store next log then event) → (r ≡ Err error.Memory → then ≡ log) → IsFrame store next → IsNewShape store log owner new changes → Agrees opening store log
+    → ((event : ℕ) → r ≡ Err (error.StoreFailed event) → HasFailed owner new.mount store next log then event) → (r ≡ Err error.Memory → then ≡ log) → IsFrame store next → IsNewShape log owner new changes → IsRightShape opening log owner new changes → Agrees opening store log
     → Agrees opening next then
-agrees_shape opening store next log then owner new changes (Ok n) ok done more none quiet failed memory frame is_new is =
-    subst (Agrees opening next) (sym ok) (agrees_resized opening store next log owner new changes is is_new frame done more none)
-agrees_shape opening store next log then owner new changes (Err (error.StoreFailed event)) ok done more none quiet failed memory frame is_new is =
+agrees_shape opening store next log then owner new changes (Ok n) ok done more none quiet failed memory frame is_new right is =
+    subst (Agrees opening next) (sym ok) (agrees_resized opening store next log owner new changes is is_new right frame done more none)
+agrees_shape opening store next log then owner new changes (Err (error.StoreFailed event)) ok done more none quiet failed memory frame is_new right is =
     let has = failed event refl in
     subst (Agrees opening next) (sym has.added) (agrees_fault opening store next log owner new.mount quiet has.rose is)
-agrees_shape opening store next log then owner new changes (Err error.Memory) ok done more none quiet failed memory frame is_new is = subst (Agrees opening next) (sym (memory refl)) (agrees_quiet opening store next log quiet is)
+agrees_shape opening store next log then owner new changes (Err error.Memory) ok done more none quiet failed memory frame is_new right is = subst (Agrees opening next) (sym (memory refl)) (agrees_quiet opening store next log quiet is)

@@ -6,6 +6,7 @@ use Rattle.chunk_cache.specs.Snapshot.{SnapshotCells}
 use Rattle.kv_face.specs.Store.{Contents, takes, keys_of, are_together}
 use Rattle.kv_face.specs.declared.change.Change.{Change}
 use Rattle.history.specs.declared.event.Event.{Event}
+use Rattle.history.specs.declared.event.Kind.TheVariants.{Done}
 use Rattle.history.specs.History.{History}
 use Rattle.history.specs.Arrays.{Known, known_after, form_of, is_local}
 use Rattle.history.specs.Chunks.{Chunk, IsIndexOf}
@@ -50,31 +51,41 @@ pub record AreTouched (events : History) (e : Event) (keys : List (List ℕ)) : 
   pub all : (c : Chunk) (key : List ℕ) → IsKeyTouched events e c key → IsOneOf keys key
   pub only : (key : List ℕ) → IsOneOf keys key → (c : Chunk) × IsKeyTouched events e c key
 
--- a local array that no part of the event touches keeps its cells
+-- a local array that the event doesn't touch keeps its cells
 pub record IsHeldStill (log later : Log) (e : Event) (a : ℕ) (k : Known) : Type 0 where
   pub same : cells_held later a ≡ cells_held log a
   pub untouched : (index : List ℕ) → IsIndexOf k.info index → touches log.events e (record { array = a; index = index }) ≡ false
 
--- one that it touches has those that are its chunk then
-pub record IsHeldAnew (store : StoreSeen) (log later : Log) (e : Event) (a : ℕ) (k : Known) : Type 0 where
+-- one that it touches has others
+pub record IsHeldAnew (log later : Log) (e : Event) (a : ℕ) (k : Known) : Type 0 where
   pub snapshot : SnapshotCells
   pub held : cells_held later a ≡ Some snapshot
   pub cells : AreCellsOf k snapshot
-  pub now : (opening : Opening) (start : Contents) → Agrees opening store log → opening.store.contents ≡ Some start → (index : List ℕ) → IsIndexOf k.info index
-      → IsCurrent start (log.events ++ e ∷ []) k (record { array = a; index = index }) snapshot
+  pub touched : (index : List ℕ) → IsIndexOf k.info index → touches log.events e (record { array = a; index = index }) ≡ true
 
--- what is done where the store told its contents at the start: the event may follow, and the changes are its own
-pub record IsRightBy (start : Contents) (events : History) (e : Event) (deed : Deed) (changes : List Change) : Type 0 where
-  pub legal : IsLegalDone start events deed.commit.ops
-  pub changes_are : AreChangesOf start events e changes
-  pub counted : is_change start events e.kind ≡ nat_lt 0 (length changes)
-
--- a commit, or one key of it, may be made by these changes
-pub record IsDeed (store : StoreSeen) (log : Log) (owner : ℕ) (deed : Deed) (changes : List Change) : Type 0 where
+-- a commit, or one key of it, that may be made: its keys are those of the chunks that it touches, and local arrays keep their cells or
+-- have others
+pub record IsDeed (log : Log) (owner : ℕ) (deed : Deed) : Type 0 where
   pub touched : AreTouched log.events (done_event owner deed.commit) deed.keys.items
   pub held : (a : ℕ) (k : Known) → known_after log.events a ≡ Some k → is_local k.info.home ≡ true
-      → IsHeldStill log (committed log owner deed) (done_event owner deed.commit) a k ⊎ IsHeldAnew store log (committed log owner deed) (done_event owner deed.commit) a k
-  pub right : (opening : Opening) (start : Contents) → Agrees opening store log → opening.store.contents ≡ Some start → IsRightBy start log.events (done_event owner deed.commit) deed changes
+      → IsHeldStill log (committed log owner deed) (done_event owner deed.commit) a k ⊎ IsHeldAnew log (committed log owner deed) (done_event owner deed.commit) a k
+
+-- by what the store told at the start it is right: the event may follow, the changes are its own, and the cells that local arrays get
+-- are their chunks then
+pub record IsRightBy (start : Contents) (log : Log) (owner : ℕ) (deed : Deed) (changes : List Change) : Type 0 where
+  pub legal : IsLegalDone start log.events deed.commit.ops
+  pub changes_are : AreChangesOf start log.events (done_event owner deed.commit) changes
+  pub counted : is_change start log.events (Done deed.commit.line deed.commit.mode deed.commit.ops deed.commit.key) ≡ nat_lt 0 (length changes)
+  pub held : (a : ℕ) (k : Known) → known_after log.events a ≡ Some k → is_local k.info.home ≡ true → (anew : IsHeldAnew log (committed log owner deed) (done_event owner deed.commit) a k) → (index : List ℕ) → IsIndexOf k.info index
+      → IsCurrent start (log.events ++ done_event owner deed.commit ∷ []) k (record { array = a; index = index }) anew.snapshot
+
+-- so it is where the store told its contents at the start
+abbrev pub IsRightDeed : Opening → Log → ℕ → Deed → List Change → Type 0
+IsRightDeed opening log owner deed changes = (start : Contents) → opening.store.contents ≡ Some start → IsRightBy start log owner deed changes
+
+-- behind a commit, a state agrees with each opening by which it was right
+abbrev pub KeepsByDeed : StoreSeen → Log → ℕ → Deed → List Change → StoreSeen → Log → Type 0
+KeepsByDeed store log owner deed changes next later = (opening : Opening) → Agrees opening store log → IsRightDeed opening log owner deed changes → Agrees opening next later
 
 -- the log behind a new shape: one event more, whose number is the generation of the keys; what was kept under them is gone
 abbrev pub resized : Log → ℕ → NewShape → Log
@@ -86,14 +97,21 @@ resized log owner new = record {
 }
 
 -- a stored array may get a shape by these changes, of which its metadata is one
-pub record IsNewShape (store : StoreSeen) (log : Log) (owner : ℕ) (new : NewShape) (changes : List Change) : Type 0 where
+pub record IsNewShape (log : Log) (owner : ℕ) (new : NewShape) (changes : List Change) : Type 0 where
   pub array : Known
   pub known : known_after log.events new.array ≡ Some array
   pub may : MayTake array new.shape
   pub form : new.form ≡ with_shape (form_of array.info.home) new.shape
   pub touched : AreTouched log.events (resized_event owner new.array new.shape) new.keys.items
   pub some : 0 < length changes
-  pub right : (opening : Opening) (start : Contents) → Agrees opening store log → opening.store.contents ≡ Some start → AreChangesOf start log.events (resized_event owner new.array new.shape) changes
+
+-- where the store told its contents at the start, the changes are those of the event
+abbrev pub IsRightShape : Opening → Log → ℕ → NewShape → List Change → Type 0
+IsRightShape opening log owner new changes = (start : Contents) → opening.store.contents ≡ Some start → AreChangesOf start log.events (resized_event owner new.array new.shape) changes
+
+-- behind a new shape, a state agrees with each opening by which it was right
+abbrev pub KeepsByShape : StoreSeen → Log → ℕ → NewShape → List Change → StoreSeen → Log → Type 0
+KeepsByShape store log owner new changes next later = (opening : Opening) → Agrees opening store log → IsRightShape opening log owner new changes → Agrees opening next later
 
 -- changes that the store makes together
 pub record AreMade (store : StoreSeen) (changes : List Change) : Type 0 where

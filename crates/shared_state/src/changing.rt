@@ -7,8 +7,8 @@ ghost use Rattle.run_records.specs.Numbers.{HasPlace, KeepsPlaces};
 ghost use Rattle.run_records.specs.Recorded.{with_numbers, without_all, done_event, RecordsOf};
 ghost use Rattle.shared_state.specs.declared.deed.HeldCells.{HeldCells as HeldCellsOf};
 ghost use Rattle.shared_state.specs.Seen.{IsFrame, IsQuiet, seen_of};
-ghost use Rattle.shared_state.specs.Agreement.{IsState, KeepsAgreement};
-ghost use Rattle.shared_state.specs.Changing.{AreMade, IsDeed, committed, with_cells};
+ghost use Rattle.shared_state.specs.Agreement.{IsState};
+ghost use Rattle.shared_state.specs.Changing.{AreMade, IsDeed, KeepsByDeed, committed, with_cells};
 ghost use Rattle.shared_state.specs.Fetches.{HasFailed};
 
 use crate::deed::{ChangeError, Deed, HeldCells};
@@ -106,7 +106,7 @@ impl<K: KvStore> State<K> {
     /// changed then, and no memory is wanted besides.
     pub fn commit(&mut self, owner: u32, deed: Deed, changes: &[Change]) -> Result<u64, ChangeError>
         requires agrees { let seen = seen_of K.contents K.faults K.prefixes K.names K.standing K.change_count in IsState (seen self.old.store) self.old.log }
-        requires deed { let seen = seen_of K.contents K.faults K.prefixes K.names K.standing K.change_count in IsDeed (seen self.old.store) self.old.log owner deed changes.now }
+        requires deed { IsDeed self.old.log owner deed }
         requires made { let seen = seen_of K.contents K.faults K.prefixes K.names K.standing K.change_count in AreMade (seen self.old.store) changes.now }
         requires known { AllByRecursion (λ (c : HeldCellsOf). IsSome (known_after self.old.log.events c.array)) deed.cells.items }
         requires room { 0 < self.old.spare.events }
@@ -119,7 +119,7 @@ impl<K: KvStore> State<K> {
         ensures memory { result ≡ Err ChangeError.Memory → self.new.log ≡ self.old.log }
         ensures quiet { let seen = seen_of K.contents K.faults K.prefixes K.names K.standing K.change_count in OnErr result (IsQuiet (seen self.old.store) (seen self.new.store)) }
         ensures frame { let seen = seen_of K.contents K.faults K.prefixes K.names K.standing K.change_count in IsFrame (seen self.old.store) (seen self.new.store) }
-        ensures kept { let seen = seen_of K.contents K.faults K.prefixes K.names K.standing K.change_count in KeepsAgreement (seen self.old.store) self.old.log (seen self.new.store) self.new.log }
+        ensures kept { let seen = seen_of K.contents K.faults K.prefixes K.names K.standing K.change_count in KeepsByDeed (seen self.old.store) self.old.log owner deed changes.now (seen self.new.store) self.new.log }
         ensures room { self.old.spare.events ≤ self.new.spare.events + 1 }
         ensures places { KeepsPlaces self.old.spare.places self.new.spare.places }
     {

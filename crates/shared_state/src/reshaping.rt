@@ -8,8 +8,8 @@ ghost use Rattle.history.specs.Own.{resized_event};
 ghost use Rattle.run_records.specs.Numbers.{HasPlace, KeepsPlaces};
 ghost use Rattle.run_records.specs.Recorded.{with_numbers, without_all};
 ghost use Rattle.shared_state.specs.Seen.{IsFrame, IsQuiet, seen_of};
-ghost use Rattle.shared_state.specs.Agreement.{IsState, KeepsAgreement};
-ghost use Rattle.shared_state.specs.Changing.{AreMade, IsNewShape, resized};
+ghost use Rattle.shared_state.specs.Agreement.{IsState};
+ghost use Rattle.shared_state.specs.Changing.{AreMade, IsNewShape, KeepsByShape, resized};
 ghost use Rattle.shared_state.specs.Fetches.{HasFailed};
 
 use crate::changing::apply;
@@ -59,7 +59,7 @@ impl<K: KvStore> State<K> {
         changes: &[Change],
     ) -> Result<u64, ChangeError>
         requires agrees { let seen = seen_of K.contents K.faults K.prefixes K.names K.standing K.change_count in IsState (seen self.old.store) self.old.log }
-        requires shape { let seen = seen_of K.contents K.faults K.prefixes K.names K.standing K.change_count in IsNewShape (seen self.old.store) self.old.log owner new changes.now }
+        requires shape { IsNewShape self.old.log owner new changes.now }
         requires made { let seen = seen_of K.contents K.faults K.prefixes K.names K.standing K.change_count in AreMade (seen self.old.store) changes.now }
         requires room { 0 < self.old.spare.events }
         requires places { AllByRecursion (HasPlace self.old.spare.places) new.keys.items }
@@ -70,7 +70,7 @@ impl<K: KvStore> State<K> {
         ensures memory { result ≡ Err ChangeError.Memory → self.new.log ≡ self.old.log }
         ensures quiet { let seen = seen_of K.contents K.faults K.prefixes K.names K.standing K.change_count in OnErr result (IsQuiet (seen self.old.store) (seen self.new.store)) }
         ensures frame { let seen = seen_of K.contents K.faults K.prefixes K.names K.standing K.change_count in IsFrame (seen self.old.store) (seen self.new.store) }
-        ensures kept { let seen = seen_of K.contents K.faults K.prefixes K.names K.standing K.change_count in KeepsAgreement (seen self.old.store) self.old.log (seen self.new.store) self.new.log }
+        ensures kept { let seen = seen_of K.contents K.faults K.prefixes K.names K.standing K.change_count in KeepsByShape (seen self.old.store) self.old.log owner new changes.now (seen self.new.store) self.new.log }
         ensures room { self.old.spare.events ≤ self.new.spare.events + 1 }
         ensures places { KeepsPlaces self.old.spare.places self.new.spare.places }
     {
