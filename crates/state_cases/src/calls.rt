@@ -1,0 +1,48 @@
+// One call on a state: `{"call":NAME, arguments}`.
+ghost use Rattle.shared_state.specs.Seen.{seen_of};
+ghost use Rattle.state_cases.specs.Ready.{IsReady};
+
+use crate::chunks::chunk;
+use crate::fault::Fault;
+use crate::opens::{open, open_local};
+use crate::read::{number, text, told};
+use kv_face::KvStore;
+use serde_json::Value;
+use shared_state::State;
+use std::alloc::Global;
+
+pub(crate) fn answer<K: KvStore>(
+    alloc: Global,
+    v: &Value,
+    state: &mut State<K>,
+) -> Result<String, Fault>
+    requires { IsReady (seen_of K.contents K.faults K.prefixes K.names K.standing K.change_count state.old.store) state.old.log }
+    ensures { IsReady (seen_of K.contents K.faults K.prefixes K.names K.standing K.change_count state.new.store) state.new.log }
+{
+    match text(v, "call")? {
+        "open" => open(alloc, v, state),
+        "local" => open_local(alloc, v, state),
+        "events" => told(alloc, &state.events()),
+        "generation" => generation(alloc, state, text(v, "key")?),
+        "array" => array(alloc, state, number(v, "array")?),
+        call => chunk(alloc, call, v, state),
+    }
+}
+
+fn generation<K: KvStore>(alloc: Global, state: &State<K>, key: &str) -> Result<String, Fault>
+    requires { IsReady (seen_of K.contents K.faults K.prefixes K.names K.standing K.change_count state.now.store) state.now.log }
+{
+    told(alloc, &state.generation(key))
+}
+
+// An array's present bounds and form, or that there is none of this number.
+fn array<K: KvStore>(alloc: Global, state: &State<K>, array: u64) -> Result<String, Fault>
+    requires { IsReady (seen_of K.contents K.faults K.prefixes K.names K.standing K.change_count state.now.store) state.now.log }
+{
+    if !state.has_array(array) {
+        return told(alloc, &"no array");
+    }
+    let bounds = state.bounds(array)?;
+    let form = state.info(array)?;
+    told(alloc, &(bounds, form))
+}

@@ -1,0 +1,106 @@
+// Calls for a chunk: `{"call":NAME,"array":N,"chunk":[..]}`.
+ghost use Rattle.std.specs.Prelude.{◌≡◌};
+ghost use Rattle.shared_state.specs.Seen.{seen_of};
+ghost use Rattle.shared_state.specs.Fetches.{IsChunkOf};
+ghost use Rattle.state_cases.specs.Ready.{IsReady};
+
+use crate::fault::Fault;
+use crate::read::{number, owner, sizes, told};
+use crate::settling::settle;
+use kv_face::KvStore;
+use serde_json::Value;
+use shared_state::State;
+use std::alloc::Global;
+
+pub(crate) fn chunk<K: KvStore>(
+    alloc: Global,
+    call: &str,
+    v: &Value,
+    state: &mut State<K>,
+) -> Result<String, Fault>
+    requires { IsReady (seen_of K.contents K.faults K.prefixes K.names K.standing K.change_count state.old.store) state.old.log }
+    ensures { IsReady (seen_of K.contents K.faults K.prefixes K.names K.standing K.change_count state.new.store) state.new.log }
+{
+    let chunk = sizes(alloc, v, "chunk")?;
+    of_chunk(alloc, call, owner(v)?, number(v, "array")?, &chunk, state)
+}
+
+fn of_chunk<K: KvStore>(
+    alloc: Global,
+    call: &str,
+    owner: u32,
+    array: u64,
+    chunk: &[u64],
+    state: &mut State<K>,
+) -> Result<String, Fault>
+    requires { IsReady (seen_of K.contents K.faults K.prefixes K.names K.standing K.change_count state.old.store) state.old.log }
+    ensures { IsReady (seen_of K.contents K.faults K.prefixes K.names K.standing K.change_count state.new.store) state.new.log }
+{
+    if !state.is_chunk(array, chunk) {
+        return told(alloc, &"no chunk");
+    }
+    match call {
+        "fetch" => fetch(alloc, owner, array, chunk, state),
+        "look" => look(alloc, owner, array, chunk, state),
+        "kept" => kept(alloc, array, chunk, state),
+        "settle" => settle(alloc, owner, array, chunk, state),
+        "key" => key(alloc, array, chunk, state),
+        _ => Err(Fault::Line),
+    }
+}
+
+fn fetch<K: KvStore>(
+    alloc: Global,
+    owner: u32,
+    array: u64,
+    chunk: &[u64],
+    state: &mut State<K>,
+) -> Result<String, Fault>
+    requires ready { IsReady (seen_of K.contents K.faults K.prefixes K.names K.standing K.change_count state.old.store) state.old.log }
+    requires chunk { IsChunkOf state.old.log.events (record { array = array; index = chunk.now }) }
+    ensures { IsReady (seen_of K.contents K.faults K.prefixes K.names K.standing K.change_count state.new.store) state.new.log }
+{
+    let answer = state.fetch(owner, array, chunk);
+    told(alloc, &answer)
+}
+
+fn look<K: KvStore>(
+    alloc: Global,
+    owner: u32,
+    array: u64,
+    chunk: &[u64],
+    state: &mut State<K>,
+) -> Result<String, Fault>
+    requires ready { IsReady (seen_of K.contents K.faults K.prefixes K.names K.standing K.change_count state.old.store) state.old.log }
+    requires chunk { IsChunkOf state.old.log.events (record { array = array; index = chunk.now }) }
+    ensures { IsReady (seen_of K.contents K.faults K.prefixes K.names K.standing K.change_count state.new.store) state.new.log }
+{
+    let answer = state.look(owner, array, chunk);
+    told(alloc, &answer)
+}
+
+fn kept<K: KvStore>(
+    alloc: Global,
+    array: u64,
+    chunk: &[u64],
+    state: &mut State<K>,
+) -> Result<String, Fault>
+    requires ready { IsReady (seen_of K.contents K.faults K.prefixes K.names K.standing K.change_count state.old.store) state.old.log }
+    requires chunk { IsChunkOf state.old.log.events (record { array = array; index = chunk.now }) }
+    ensures { IsReady (seen_of K.contents K.faults K.prefixes K.names K.standing K.change_count state.new.store) state.new.log }
+{
+    let answer = state.kept(array, chunk);
+    told(alloc, &answer)
+}
+
+fn key<K: KvStore>(
+    alloc: Global,
+    array: u64,
+    chunk: &[u64],
+    state: &State<K>,
+) -> Result<String, Fault>
+    requires { IsChunkOf state.now.log.events (record { array = array; index = chunk.now }) }
+{
+    let key = state.key(array, chunk)?;
+    told(alloc, &key.items())
+}

@@ -1,0 +1,100 @@
+// `{"store":[[KEY,TEXT or BYTES],..],"cache":N,"get":N,"apply":N,"calls":[..],"keys":[..]}`: calls on a state over a store that
+// begins with these, with a cache of so many cells; then the number of calls of `get`, and what stands under the keys.
+ghost use Rattle.std.specs.Prelude.{◌≡◌, ◌≤◌, ◌^◌, None};
+ghost use Rattle.shared_state.specs.Seen.{seen_of};
+ghost use Rattle.state_cases.specs.Ready.{IsReady};
+
+use crate::calls::answer;
+use crate::fault::Fault;
+use crate::filling::store;
+use crate::read::{items, member, number_or, told};
+use kv_face::{KvStore, MemoryKv};
+use serde_json::Value;
+use shared_state::State;
+use std::alloc::Global;
+
+const MOST_CACHED: u64 = 1 << 27;
+
+pub(crate) fn run(alloc: Global, v: &Value) -> Result<String, Fault> {
+    let limit = number_or(v, "cache", 1_048_576)?;
+    if limit > MOST_CACHED {
+        return Err(Fault::Line);
+    }
+    let store = store(alloc, v)?;
+    let (text, store) = called(alloc, v, store, limit)?;
+    ended(alloc, v, text, &store)
+}
+
+// What the calls give, and the store behind them.
+fn called<K: KvStore>(alloc: Global, v: &Value, store: K, limit: u64) -> Result<(String, K), Fault>
+    requires limit { limit ≤ 2 ^ 27 }
+    requires every { K.names store ≡ None }
+{
+    match State::new(alloc, store, limit) {
+        Ok(state) => with_state(alloc, v, state),
+        Err(_) => Err(Fault::Memory),
+    }
+}
+
+fn with_state<K: KvStore>(
+    alloc: Global,
+    v: &Value,
+    mut state: State<K>,
+) -> Result<(String, K), Fault>
+    requires { IsReady (seen_of K.contents K.faults K.prefixes K.names K.standing K.change_count state.store) state.log }
+{
+    let text = answers(alloc, items(member(v, "calls")?)?, &mut state)?;
+    let (store, _) = state.into_parts();
+    Ok((text, store))
+}
+
+fn answers<K: KvStore>(
+    alloc: Global,
+    calls: &[Value],
+    state: &mut State<K>,
+) -> Result<String, Fault>
+    requires { IsReady (seen_of K.contents K.faults K.prefixes K.names K.standing K.change_count state.old.store) state.old.log }
+{
+    let mut text = String::new(alloc);
+    for call in calls {
+        put_answer(alloc, &mut text, call, state)?;
+    }
+    Ok(text)
+}
+
+fn put_answer<K: KvStore>(
+    alloc: Global,
+    text: &mut String,
+    call: &Value,
+    state: &mut State<K>,
+) -> Result<(), Fault>
+    requires { IsReady (seen_of K.contents K.faults K.prefixes K.names K.standing K.change_count state.old.store) state.old.log }
+    ensures { IsReady (seen_of K.contents K.faults K.prefixes K.names K.standing K.change_count state.new.store) state.new.log }
+{
+    let line = answer(alloc, call, state)?;
+    text.push_str(line.as_str())?;
+    Ok(())
+}
+
+// The number of calls of `get`, and what the store has under some keys.
+fn ended(alloc: Global, v: &Value, mut text: String, store: &MemoryKv) -> Result<String, Fault> {
+    put_gets(alloc, &mut text, store.gets())?;
+    if let Some(keys) = v.get("keys") {
+        for key in items(keys)? {
+            put_held(alloc, &mut text, key.as_str().ok_or(Fault::Line)?, store)?;
+        }
+    }
+    Ok(text)
+}
+
+fn put_gets(alloc: Global, text: &mut String, gets: u64) -> Result<(), Fault> {
+    let line = format!(in alloc; "gets {gets}\n")?;
+    text.push_str(line.as_str())?;
+    Ok(())
+}
+
+fn put_held(alloc: Global, text: &mut String, key: &str, store: &MemoryKv) -> Result<(), Fault> {
+    let line = told(alloc, &store.held(key))?;
+    text.push_str(line.as_str())?;
+    Ok(())
+}
