@@ -1,0 +1,37 @@
+use Rattle.std.proofs.Common.{sym, ap, subst, List}
+use Rattle.std.specs.Prelude.{IsSome}
+use Rattle.std.specs.List.{AllByRecursion}
+use Rattle.kv_face.specs.declared.change.Change.{Change}
+use Rattle.history.specs.Arrays.{known_after}
+use Rattle.run_records.specs.Recorded.{done_event}
+use Rattle.shared_state.specs.declared.deed.HeldCells.{HeldCells}
+use Rattle.shared_state.specs.Changing.{IsDeed, KeepsByDeed}
+use Rattle.shared_state.specs.Log.{Log, StateOf}
+use Rattle.shared_state.specs.Seen.{seen_of}
+use Rattle.state_commits.specs.Plans.{deed_of}
+use Rattle.state_commits.proofs.HeldLaws.{plans_deed, cells_known}
+use Rattle.state_commits.proofs.making.commit_parts.Goals as goal
+
+pub commit-requires-clause-deed : goal.commit-requires-clause-deed
+commit-requires-clause-deed g c =
+    let seen = seen_of g.K.KvStore.contents g.K.KvStore.faults g.K.KvStore.prefixes g.K.KvStore.names g.K.KvStore.standing g.K.KvStore.change_count in
+    let parts = c.requires.parts in
+    let same = ap (λ (st : StateOf g.row.K.Denot). st.log) c.make_room.ensures.same in
+    subst (λ (log : Log). IsDeed log c.args.owner (deed_of c.args.mount c.args.commit c.args.parts)) (sym same)
+    (plans_deed c.requires.agrees.0 (seen c.args.state.now.store) c.args.state.now.log c.args.owner (deed_of c.args.mount c.args.commit c.args.parts) parts.0 c.requires.agrees.1 parts.2.keys parts.2.cells parts.1)
+
+pub commit-requires-clause-known : goal.commit-requires-clause-known
+commit-requires-clause-known g c =
+    let parts = c.requires.parts in
+    let same = ap (λ (st : StateOf g.row.K.Denot). st.log) c.make_room.ensures.same in
+    subst (λ (log : Log). AllByRecursion (λ (h : HeldCells). IsSome (known_after log.events h.array)) c.args.parts.cells.items) (sym same)
+    (subst (AllByRecursion (λ (h : HeldCells). IsSome (known_after c.args.state.now.log.events h.array))) (sym parts.2.cells) (cells_known c.args.state.now.log (done_event c.args.owner c.args.commit) parts.0 parts.1.each))
+
+pub returns-clause-kept : goal.returns-clause-kept
+returns-clause-kept g c =
+    let seen = seen_of g.K.KvStore.contents g.K.KvStore.faults g.K.KvStore.prefixes g.K.KvStore.names g.K.KvStore.standing g.K.KvStore.change_count in
+    let deed = deed_of c.args.mount c.args.commit c.args.parts in
+    let next = seen c.commit.new.self.store in
+    let later = c.commit.new.self.log in
+    subst (λ (changes : List Change). KeepsByDeed (seen c.args.state.now.store) c.args.state.now.log c.args.owner deed changes next later) c.deref-2.ensures.value
+    (subst (λ (st : StateOf g.row.K.Denot). KeepsByDeed (seen st.store) st.log c.args.owner deed c.deref-2.result.now next later) c.make_room.ensures.same c.commit.ensures.kept)
