@@ -4,15 +4,16 @@ use json_forms::parse;
 use std::alloc::{AllocError, Global};
 
 /// What the calls of a line give, as lines of text; `no case` where it is no run.
-pub(crate) fn answer(alloc: Global, line: &str) -> Result<String, AllocError> {
-    match told(alloc, line) {
+pub(crate) fn answer(rt: HostRuntime, line: &str) -> Result<String, AllocError> {
+    let alloc = rt.alloc();
+    match told(rt, alloc, line) {
         Ok(text) => Ok(text),
         Err(Fault::Line) => String::from_str(alloc, "no case\n"),
         Err(Fault::Memory) => Err(AllocError),
     }
 }
 
-fn told(alloc: Global, line: &str) -> Result<String, Fault> {
+fn told(rt: HostRuntime, alloc: Global, line: &str) -> Result<String, Fault> {
     let v = parse(alloc, line.as_bytes())?;
-    run(alloc, &v)
+    run(rt, alloc, &v)
 }

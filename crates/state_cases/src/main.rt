@@ -18,7 +18,7 @@ use std::io;
 
 fn main(rt: HostRuntime) -> io::Result<()> {
     for line in rt.lines(rt.alloc()) {
-        let text = answer(rt.alloc(), line?.as_str())?;
+        let text = answer(rt, line?.as_str())?;
         print!(rt; "{text}")?;
     }
     Ok(())

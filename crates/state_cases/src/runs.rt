@@ -1,5 +1,6 @@
 // `{"store":[[KEY,TEXT or BYTES],..],"cache":N,"get":N,"apply":N,"calls":[..],"keys":[..]}`: calls on a state over a store that
 // begins with these, with a cache of so many cells; then the number of calls of `get`, and what stands under the keys.
+// `{"files":FOLDER,"cache":N,"calls":[..]}`: the same calls over the files of a folder.
 ghost use Rattle.std.specs.Prelude.{◌≡◌, ◌≤◌, ◌^◌, None};
 ghost use Rattle.shared_state.specs.Seen.{seen_of};
 ghost use Rattle.state_cases.specs.Ready.{IsReady};
@@ -9,20 +10,44 @@ use crate::fault::Fault;
 use crate::filling::store;
 use crate::read::{items, member, number_or, told};
 use kv_face::{KvStore, MemoryKv};
+use kv_mounts::FileKv;
 use serde_json::Value;
 use shared_state::State;
 use std::alloc::Global;
 
 const MOST_CACHED: u64 = 1 << 27;
 
-pub(crate) fn run(alloc: Global, v: &Value) -> Result<String, Fault> {
+pub(crate) fn run(rt: HostRuntime, alloc: Global, v: &Value) -> Result<String, Fault> {
     let limit = number_or(v, "cache", 1_048_576)?;
     if limit > MOST_CACHED {
         return Err(Fault::Line);
     }
+    match v.get("files") {
+        Some(root) => over_files(rt, alloc, v, root.as_str().ok_or(Fault::Line)?, limit),
+        None => over_memory(alloc, v, limit),
+    }
+}
+
+fn over_memory(alloc: Global, v: &Value, limit: u64) -> Result<String, Fault>
+    requires { limit ≤ 2 ^ 27 }
+{
     let store = store(alloc, v)?;
     let (text, store) = called(alloc, v, store, limit)?;
     ended(alloc, v, text, &store)
+}
+
+fn over_files(
+    rt: HostRuntime,
+    alloc: Global,
+    v: &Value,
+    root: &str,
+    limit: u64,
+) -> Result<String, Fault>
+    requires { limit ≤ 2 ^ 27 }
+{
+    let store = FileKv::new(rt, root)?;
+    let (text, _) = called(alloc, v, store, limit)?;
+    Ok(text)
 }
 
 // What the calls give, and the store behind them.
