@@ -15,7 +15,7 @@ use Rattle.std.proofs.lemmas.Slice.Eq.{bytes_eq-Decides}
 use Rattle.std.proofs.lemmas.Map.Text.{is_eq-slice_cmp}
 use Rattle.cells.proofs.Laws.{true_or_false}
 use Rattle.history.specs.Generations.{Generations}
-use Rattle.run_records.specs.Numbers.{numbers_of, places_of, KeepsPlaces, HasPlace}
+use Rattle.run_records.specs.Numbers.{numbers_of, prepared_of, KeepsPrepared, IsPrepared}
 
 abbrev pub Key : Type 0
 Key = Vec ℕ Global
@@ -51,20 +51,20 @@ number_at q (e ∷ es) =
     get_by_test q e (numbers_of es) (e.1 == 0) ∙ ap (cond (is_eq (slice_cmp nat_cmp q e.0.items)) (number_in (Some e.1))) (number_at q es)
     ∙ sym (number_either (is_eq (slice_cmp nat_cmp q e.0.items)) (Some e.1) (entry_at q es))
 
--- and a key has a place where it has an entry
-pub place_at : (q : List ℕ) (es : Entries) → finmap.get (places_of es) q ≡ entry_at q es
-place_at q [] = get-empty (slice_cmp nat_cmp) q
-place_at q (e ∷ es) = get-insert nat_list_cmp_total (places_of es) e.0.items e.1 q ∙ ap (cond (is_eq (slice_cmp nat_cmp q e.0.items)) (Some e.1)) (place_at q es)
+-- and a key is prepared where it has an entry
+pub prepared_at : (q : List ℕ) (es : Entries) → finmap.get (prepared_of es) q ≡ entry_at q es
+prepared_at q [] = get-empty (slice_cmp nat_cmp) q
+prepared_at q (e ∷ es) = get-insert nat_list_cmp_total (prepared_of es) e.0.items e.1 q ∙ ap (cond (is_eq (slice_cmp nat_cmp q e.0.items)) (Some e.1)) (prepared_at q es)
 
--- a key with a place has an entry
-pub none_is_none_at : (es : Entries) (q : List ℕ) → HasPlace (places_of es) q → entry_at q es ≡ None → ⊥
-none_is_none_at es q has none = no_some (entry_at q es) none (subst IsSome (place_at q es) has)
+-- a key that is prepared has an entry
+pub none_is_none_at : (es : Entries) (q : List ℕ) → IsPrepared (prepared_of es) q → entry_at q es ≡ None → ⊥
+none_is_none_at es q has none = no_some (entry_at q es) none (subst IsSome (prepared_at q es) has)
   where
     no_some : (o : Option ℕ) → o ≡ None → IsSome o → ⊥
     no_some None none some = absurd (cc)
     no_some (Some n) none some = absurd (cc)
 
--- a key of an entry has a place
+-- a key of an entry is prepared
 some_of : (o : Option ℕ) → is_some o ≡ true → IsSome o
 some_of None is = absurd (cc)
 some_of (Some n) is = refl
@@ -73,8 +73,8 @@ none_of : (o : Option ℕ) → is_some o ≡ false → o ≡ None
 none_of None is = refl
 none_of (Some n) is = absurd (cc)
 
-pub has_place : (es : Entries) (q : List ℕ) → is_some (entry_at q es) ≡ true → HasPlace (places_of es) q
-has_place es q is = subst IsSome (sym (place_at q es)) (some_of (entry_at q es) is)
+pub is_prepared : (es : Entries) (q : List ℕ) → is_some (entry_at q es) ≡ true → IsPrepared (prepared_of es) q
+is_prepared es q is = subst IsSome (sym (prepared_at q es)) (some_of (entry_at q es) is)
 
 pub none_at : (es : Entries) (q : List ℕ) → is_some (entry_at q es) ≡ false → entry_at q es ≡ None
 none_at es q is = none_of (entry_at q es) is
@@ -129,12 +129,12 @@ module _ (old new : Entries) (key : Key) (n : ℕ) (found : entry_at key.items n
   some_either true o some = refl
   some_either false o some = some
 
-  -- leaves the places, and makes one there
-  pub put_places : KeepsPlaces (places_of old) (places_of new)
-  put_places other has = subst IsSome (sym (place_at other new ∙ put_in other)) (some_either (bytes_eq other key.items) (entry_at other old) (subst IsSome (place_at other old) has))
+  -- leaves what is prepared, and prepares it
+  pub put_prepared : KeepsPrepared (prepared_of old) (prepared_of new)
+  put_prepared other has = subst IsSome (sym (prepared_at other new ∙ put_in other)) (some_either (bytes_eq other key.items) (entry_at other old) (subst IsSome (prepared_at other old) has))
 
-  pub put_place : HasPlace (places_of new) key.items
-  put_place = subst IsSome (sym (place_at key.items new ∙ found)) refl
+  pub put_key : IsPrepared (prepared_of new) key.items
+  put_key = subst IsSome (sym (prepared_at key.items new ∙ found)) refl
 
   -- and is the number of that key, where it is one
   pub put_number : (n == 0) ≡ false → numbers_of new ≡ finmap.insert (numbers_of old) key.items n
@@ -146,7 +146,7 @@ module _ (old new : Entries) (key : Key) (n : ℕ) (found : entry_at key.items n
       ∙ ap (cond (is_eq (slice_cmp nat_cmp q key.items)) (Some n)) (sym (number_at q old))
       ∙ sym (get-insert nat_list_cmp_total (numbers_of old) key.items n q))
 
-  -- a place without a number changes no number
+  -- an entry without a number changes no number
   none_either : (b : Bool) (o : Option ℕ) → (b ≡ true → o ≡ None) → cond b None (number_in o) ≡ number_in o
   none_either true o none = sym (ap number_in (none refl))
   none_either false o none = refl

@@ -14,22 +14,22 @@ numbers_of [] = finmap.empty
 numbers_of (e ∷ es) = if e.1 == 0 then finmap.remove (numbers_of es) e.0.items else finmap.insert (numbers_of es) e.0.items e.1
 
 -- the keys that have an entry
-abbrev pub places_of : List (Vec ℕ Global × ℕ) → Generations
-places_of [] = finmap.empty
-places_of (e ∷ es) = finmap.insert (places_of es) e.0.items e.1
+abbrev pub prepared_of : List (Vec ℕ Global × ℕ) → Generations
+prepared_of [] = finmap.empty
+prepared_of (e ∷ es) = finmap.insert (prepared_of es) e.0.items e.1
 
 -- what contracts see of a table: numbers by keys, and the keys at which a number may be put without memory, with what stands there
 pub record KeyTable : Type 0 where
   pub numbers : Generations
-  pub places : Generations
+  pub prepared : Generations
 
 abbrev pub key_table : List (Vec ℕ Global × ℕ) → KeyTable
-key_table entries = record { numbers = numbers_of entries; places = places_of entries }
+key_table entries = record { numbers = numbers_of entries; prepared = prepared_of entries }
 
 -- a number may be put at the key without memory
-abbrev pub HasPlace : Generations → List ℕ → Type 0
-HasPlace places key = IsSome (finmap.get places key)
+abbrev pub IsPrepared : Generations → List ℕ → Type 0
+IsPrepared prepared key = IsSome (finmap.get prepared key)
 
 -- so it may where it could before
-abbrev pub KeepsPlaces : Generations → Generations → Type 0
-KeepsPlaces old new = (key : List ℕ) → HasPlace old key → HasPlace new key
+abbrev pub KeepsPrepared : Generations → Generations → Type 0
+KeepsPrepared old new = (key : List ℕ) → IsPrepared old key → IsPrepared new key

@@ -21,7 +21,7 @@ pub record RecordsOf : Type 0 where
   pub locals : List (Option SnapshotCells)
   pub room : ℕ
   pub event_room : ℕ
-  pub places : Generations
+  pub prepared : Generations
 
 -- the table of generations with one number at each of some keys
 abbrev pub with_numbers : ℕ → Generations → List (List ℕ) → Generations

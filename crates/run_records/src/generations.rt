@@ -1,16 +1,16 @@
 // Numbers of events by the keys of chunks.
 ghost use Rattle.std.specs.Prelude.{◌≡◌, ◌<◌, List, ℕ, IsSome, OnOk};
 ghost use Rattle.std.specs.FinMap as finmap;
-ghost use Rattle.run_records.specs.Numbers.{HasPlace, KeepsPlaces};
+ghost use Rattle.run_records.specs.Numbers.{IsPrepared, KeepsPrepared};
 
 use std::alloc::{AllocError, Global};
 use std::collections::BTreeMap;
 use std::marker::Model;
 
-/// Numbers of events by the keys of chunks. A key has a place from `prepare` on, and its number then needs no memory.
+/// Numbers of events by the keys of chunks. A key is prepared from `prepare` on, and its number then needs no memory.
 #[derive(Drop)]
 pub(crate) struct KeyNumbers {
-    // A key with a place and no number has 0.
+    // A key that is prepared and has no number has 0.
     table: BTreeMap<Vec<u8>, u64>,
 }
 
@@ -46,10 +46,10 @@ impl KeyNumbers {
         }
     }
 
-    /// Makes a place for a key.
+    /// Prepares a key.
     pub(crate) fn prepare(&mut self, key: Vec<u8>) -> Result<(), AllocError>
-        ensures place { OnOk result (HasPlace self.new.places key.items) }
-        ensures places { KeepsPlaces self.old.places self.new.places }
+        ensures key { OnOk result (IsPrepared self.new.prepared key.items) }
+        ensures prepared { KeepsPrepared self.old.prepared self.new.prepared }
         ensures numbers { self.new.numbers ≡ self.old.numbers }
     {
         if self.table.contains_key(&key) {
@@ -61,11 +61,11 @@ impl KeyNumbers {
         Ok(())
     }
 
-    /// Puts a number at a key that has a place.
+    /// Puts a number at a key that is prepared.
     pub(crate) fn put(&mut self, key: Vec<u8>, number: u64)
-        requires place { HasPlace self.old.places key.items }
+        requires key { IsPrepared self.old.prepared key.items }
         requires number { 0 < number }
-        ensures places { KeepsPlaces self.old.places self.new.places }
+        ensures prepared { KeepsPrepared self.old.prepared self.new.prepared }
         ensures numbers { self.new.numbers ≡ finmap.insert self.old.numbers key.items number }
     {
         let Ok(_) = self.table.insert(key, number) else {

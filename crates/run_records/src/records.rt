@@ -10,7 +10,7 @@ ghost use Rattle.history.specs.Places.{array_at};
 ghost use Rattle.history.specs.Store.{resized_after};
 ghost use Rattle.run_records.specs.declared.arrays.Entry.{Entry as EntryOf};
 ghost use Rattle.run_records.specs.Indexed.{AreArrays};
-ghost use Rattle.run_records.specs.Numbers.{HasPlace, KeepsPlaces};
+ghost use Rattle.run_records.specs.Numbers.{IsPrepared, KeepsPrepared};
 ghost use Rattle.run_records.specs.Recorded.{cells_held, with_numbers, without_all, done_event};
 ghost use Rattle.history.specs.History.{History};
 ghost use Rattle.std.specs.List.{AllByRecursion, slice_get};
@@ -55,7 +55,7 @@ impl Model for Records {
       locals = map (λ (e : Entry). e.local) r.arrays.items;
       room = min (vec_capacity r.events - length r.events.items) (vec_capacity r.arrays - length r.arrays.items);
       event_room = vec_capacity r.events - length r.events.items;
-      places = r.generations.places;
+      prepared = r.generations.prepared;
     } };
 
     ghost invariant = { λ r. AreArrays r.events.items r.arrays.items };
@@ -235,23 +235,23 @@ impl Records {
         self.events.reserve(count)
     }
 
-    /// Makes a place for the generation of a key, which then needs no memory.
+    /// Prepares a key, whose generation then needs no memory.
     ///
     /// # Errors
     /// `AllocError` where memory is wanting.
     pub fn prepare(&mut self, key: Vec<u8>) -> Result<(), AllocError>
-        ensures place { OnOk result (HasPlace self.new.places key.items) }
-        ensures places { KeepsPlaces self.old.places self.new.places }
-        ensures same { self.new ≡ record self.old { places = self.new.places } }
+        ensures key { OnOk result (IsPrepared self.new.prepared key.items) }
+        ensures prepared { KeepsPrepared self.old.prepared self.new.prepared }
+        ensures same { self.new ≡ record self.old { prepared = self.new.prepared } }
     {
         self.generations.prepare(key)
     }
 
-    /// Adds a commit, or one key of it, where there is room and its keys have places; gives the event's number, which their
+    /// Adds a commit, or one key of it, where there is room and its keys are prepared; gives the event's number, which their
     /// generations are then. What was kept under the keys is dropped.
     pub fn add_done(&mut self, owner: u32, done: Commit, keys: Vec<Name>) -> u64
         requires room { 0 < self.old.event_room }
-        requires places { AllByRecursion (HasPlace self.old.places) keys.items }
+        requires prepared { AllByRecursion (IsPrepared self.old.prepared) keys.items }
         ensures number { result ≡ length self.old.events + 1 }
         ensures after { self.new ≡ record self.old {
           events = self.old.events ++ done_event owner done ∷ [];
@@ -259,10 +259,10 @@ impl Records {
           cache = record self.old.cache { entries = without_all keys.items self.old.cache.entries };
           room = self.new.room;
           event_room = self.new.event_room;
-          places = self.new.places;
+          prepared = self.new.prepared;
         } }
         ensures room { self.new.event_room + 1 ≡ self.old.event_room }
-        ensures places { KeepsPlaces self.old.places self.new.places }
+        ensures prepared { KeepsPrepared self.old.prepared self.new.prepared }
     {
         let Commit {
             line,
@@ -282,7 +282,7 @@ impl Records {
     }
 
     /// Adds a new shape of a stored array, whose form is given by it, where there is room and the keys of the chunks that it cuts
-    /// have places; gives the event's number, which their generations are then. What was kept under the keys is dropped.
+    /// are prepared; gives the event's number, which their generations are then. What was kept under the keys is dropped.
     pub fn add_resized(
         &mut self,
         owner: u32,
@@ -293,7 +293,7 @@ impl Records {
     ) -> u64
         requires stored { (k : Known) × (known_after self.old.events array ≡ Some k) × (is_local k.info.home ≡ false) × (form ≡ with_shape (form_of k.info.home) shape) }
         requires room { 0 < self.old.event_room }
-        requires places { AllByRecursion (HasPlace self.old.places) keys.items }
+        requires prepared { AllByRecursion (IsPrepared self.old.prepared) keys.items }
         ensures number { result ≡ length self.old.events + 1 }
         ensures after { self.new ≡ record self.old {
           events = self.old.events ++ resized_event owner array shape ∷ [];
@@ -301,10 +301,10 @@ impl Records {
           cache = record self.old.cache { entries = without_all keys.items self.old.cache.entries };
           room = self.new.room;
           event_room = self.new.event_room;
-          places = self.new.places;
+          prepared = self.new.prepared;
         } }
         ensures room { self.new.event_room + 1 ≡ self.old.event_room }
-        ensures places { KeepsPlaces self.old.places self.new.places }
+        ensures prepared { KeepsPrepared self.old.prepared self.new.prepared }
     {
         prove!(array < self.arrays.len() as u64);
         let kind = Kind::Resized { array, shape };
@@ -354,12 +354,12 @@ impl Records {
     }
 }
 
-/// Puts a number at each of some keys that have a place, and drops what is kept under them.
+/// Puts a number at each of some keys that are prepared, and drops what is kept under them.
 fn number_keys(generations: &mut KeyNumbers, cache: &mut ChunkCache, keys: Vec<Name>, number: u64)
-    requires places { AllByRecursion (HasPlace generations.old.places) keys.items }
+    requires prepared { AllByRecursion (IsPrepared generations.old.prepared) keys.items }
     requires number { 0 < number }
     ensures numbers { generations.new.numbers ≡ with_numbers number generations.old.numbers keys.items }
-    ensures places { KeepsPlaces generations.old.places generations.new.places }
+    ensures prepared { KeepsPrepared generations.old.prepared generations.new.prepared }
     ensures cache { cache.new ≡ record cache.old { entries = without_all keys.items cache.old.entries } }
 {
     for key in keys {
@@ -368,10 +368,10 @@ fn number_keys(generations: &mut KeyNumbers, cache: &mut ChunkCache, keys: Vec<N
 }
 
 fn number_key(generations: &mut KeyNumbers, cache: &mut ChunkCache, key: Name, number: u64)
-    requires place { HasPlace generations.old.places key }
+    requires key { IsPrepared generations.old.prepared key }
     requires number { 0 < number }
     ensures numbers { generations.new.numbers ≡ finmap.insert generations.old.numbers key number }
-    ensures places { KeepsPlaces generations.old.places generations.new.places }
+    ensures prepared { KeepsPrepared generations.old.prepared generations.new.prepared }
     ensures cache { cache.new ≡ record cache.old { entries = after_drop key cache.old.entries } }
 {
     cache.drop_key(key.items());

@@ -21,10 +21,10 @@ log_of records = record { events = records.events; generations = records.generat
 -- what may be added without memory: so many events, and generations at these keys
 pub record Spare : Type 0 where
   pub events : ℕ
-  pub places : Generations
+  pub prepared : Generations
 
 abbrev pub spare_of : RecordsOf → Spare
-spare_of records = record { events = records.event_room; places = records.places }
+spare_of records = record { events = records.event_room; prepared = records.prepared }
 
 -- the store, the log, and what may be added without memory
 pub record StateOf (K : Type 0) : Type 0 where

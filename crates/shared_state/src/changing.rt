@@ -3,7 +3,7 @@ ghost use Rattle.std.specs.Prelude.{◌≡◌, ◌++◌, ◌∷◌, [], ◌≤�
 ghost use Rattle.std.specs.List.{AllByRecursion};
 ghost use Rattle.kv_face.specs.Store.{Contents, OneMore, after};
 ghost use Rattle.history.specs.Arrays.{known_after};
-ghost use Rattle.run_records.specs.Numbers.{HasPlace, KeepsPlaces};
+ghost use Rattle.run_records.specs.Numbers.{IsPrepared, KeepsPrepared};
 ghost use Rattle.run_records.specs.Recorded.{with_numbers, without_all, done_event, RecordsOf};
 ghost use Rattle.shared_state.specs.declared.deed.HeldCells.{HeldCells as HeldCellsOf};
 ghost use Rattle.shared_state.specs.Seen.{IsFrame, IsQuiet, seen_of};
@@ -18,11 +18,11 @@ use kv_face::{Change, KvError, KvStore};
 use run_records::Records;
 use std::alloc::{AllocError, Global};
 
-/// Makes places for the generations of keys.
+/// Prepares keys.
 fn prepare_all(alloc: Global, records: &mut Records, keys: &[Name]) -> Result<(), AllocError>
-    ensures places { OnOk result (AllByRecursion (HasPlace records.new.places) keys.now) }
-    ensures kept { KeepsPlaces records.old.places records.new.places }
-    ensures same { records.new ≡ record records.old { places = records.new.places } }
+    ensures prepared { OnOk result (AllByRecursion (IsPrepared records.new.prepared) keys.now) }
+    ensures kept { KeepsPrepared records.old.prepared records.new.prepared }
+    ensures same { records.new ≡ record records.old { prepared = records.new.prepared } }
 {
     for key in keys {
         prepare(alloc, records, key.items())?;
@@ -31,9 +31,9 @@ fn prepare_all(alloc: Global, records: &mut Records, keys: &[Name]) -> Result<()
 }
 
 fn prepare(alloc: Global, records: &mut Records, key: &str) -> Result<(), AllocError>
-    ensures place { OnOk result (HasPlace records.new.places key.now) }
-    ensures kept { KeepsPlaces records.old.places records.new.places }
-    ensures same { records.new ≡ record records.old { places = records.new.places } }
+    ensures key { OnOk result (IsPrepared records.new.prepared key.now) }
+    ensures kept { KeepsPrepared records.old.prepared records.new.prepared }
+    ensures same { records.new ≡ record records.old { prepared = records.new.prepared } }
 {
     records.prepare(Vec::from_slice(alloc, key.as_bytes())?)
 }
@@ -59,7 +59,7 @@ fn put(records: &mut Records, held: HeldCells)
 /// Adds the event of a commit that was made.
 fn enter_commit(records: &mut Records, owner: u32, deed: Deed) -> u64
     requires room { 0 < records.old.event_room }
-    requires places { AllByRecursion (HasPlace records.old.places) deed.keys.items }
+    requires prepared { AllByRecursion (IsPrepared records.old.prepared) deed.keys.items }
     requires known { AllByRecursion (λ (c : HeldCellsOf). IsSome (known_after records.old.events c.array)) deed.cells.items }
     ensures number { result ≡ length records.old.events + 1 }
     ensures after { records.new ≡ record records.old {
@@ -69,10 +69,10 @@ fn enter_commit(records: &mut Records, owner: u32, deed: Deed) -> u64
       locals = with_cells records.old.locals deed.cells.items;
       room = records.new.room;
       event_room = records.new.event_room;
-      places = records.new.places;
+      prepared = records.new.prepared;
     } }
     ensures room { records.new.event_room + 1 ≡ records.old.event_room }
-    ensures places { KeepsPlaces records.old.places records.new.places }
+    ensures prepared { KeepsPrepared records.old.prepared records.new.prepared }
 {
     let Deed {
         mount: _,
@@ -85,13 +85,13 @@ fn enter_commit(records: &mut Records, owner: u32, deed: Deed) -> u64
 }
 
 impl<K: KvStore> State<K> {
-    /// Makes room for so many events and places for the generations of keys, so that commits of them need no memory.
+    /// Makes room for so many events and prepares keys for their generations, so that commits of them need no memory.
     ///
     /// # Errors
     /// Want of memory alone.
     pub fn make_room(&mut self, count: usize, keys: &[Name]) -> Result<(), AllocError>
         ensures events { OnOk result (count ≤ self.new.spare.events) }
-        ensures places { OnOk result (AllByRecursion (HasPlace self.new.spare.places) keys.now) }
+        ensures prepared { OnOk result (AllByRecursion (IsPrepared self.new.spare.prepared) keys.now) }
         ensures same { self.new ≡ record self.old { spare = self.new.spare } }
     {
         self.records.reserve_events(count)?;
@@ -110,7 +110,7 @@ impl<K: KvStore> State<K> {
         requires made { let seen = seen_of K.contents K.faults K.prefixes K.names K.standing K.change_count in AreMade (seen self.old.store) changes.now }
         requires known { AllByRecursion (λ (c : HeldCellsOf). IsSome (known_after self.old.log.events c.array)) deed.cells.items }
         requires room { 0 < self.old.spare.events }
-        requires places { AllByRecursion (HasPlace self.old.spare.places) deed.keys.items }
+        requires prepared { AllByRecursion (IsPrepared self.old.spare.prepared) deed.keys.items }
         ensures number { IfOk result (λ n. n ≡ length self.old.log.events + 1) }
         ensures after { OnOk result (self.new.log ≡ committed self.old.log owner deed) }
         ensures done { OnOk result ((m : Contents) → K.contents self.old.store ≡ Some m → K.contents self.new.store ≡ Some (after m changes.now)) }
@@ -121,7 +121,7 @@ impl<K: KvStore> State<K> {
         ensures frame { let seen = seen_of K.contents K.faults K.prefixes K.names K.standing K.change_count in IsFrame (seen self.old.store) (seen self.new.store) }
         ensures kept { let seen = seen_of K.contents K.faults K.prefixes K.names K.standing K.change_count in KeepsByDeed (seen self.old.store) self.old.log owner deed changes.now (seen self.new.store) self.new.log }
         ensures room { self.old.spare.events ≤ self.new.spare.events + 1 }
-        ensures places { KeepsPlaces self.old.spare.places self.new.spare.places }
+        ensures prepared { KeepsPrepared self.old.spare.prepared self.new.spare.prepared }
     {
         self.make_deed(owner, deed, changes)
     }
@@ -130,7 +130,7 @@ impl<K: KvStore> State<K> {
         requires made { let seen = seen_of K.contents K.faults K.prefixes K.names K.standing K.change_count in AreMade (seen self.old.store) changes.now }
         requires known { AllByRecursion (λ (c : HeldCellsOf). IsSome (known_after self.old.log.events c.array)) deed.cells.items }
         requires room { 0 < self.old.spare.events }
-        requires places { AllByRecursion (HasPlace self.old.spare.places) deed.keys.items }
+        requires prepared { AllByRecursion (IsPrepared self.old.spare.prepared) deed.keys.items }
         ensures number { IfOk result (λ n. n ≡ length self.old.log.events + 1) }
         ensures after { OnOk result (self.new.log ≡ committed self.old.log owner deed) }
         ensures done { OnOk result ((m : Contents) → K.contents self.old.store ≡ Some m → K.contents self.new.store ≡ Some (after m changes.now)) }
@@ -142,7 +142,7 @@ impl<K: KvStore> State<K> {
         ensures quiet { let seen = seen_of K.contents K.faults K.prefixes K.names K.standing K.change_count in OnErr result (IsQuiet (seen self.old.store) (seen self.new.store)) }
         ensures frame { let seen = seen_of K.contents K.faults K.prefixes K.names K.standing K.change_count in IsFrame (seen self.old.store) (seen self.new.store) }
         ensures room { self.old.spare.events ≤ self.new.spare.events + 1 }
-        ensures places { KeepsPlaces self.old.spare.places self.new.spare.places }
+        ensures prepared { KeepsPrepared self.old.spare.prepared self.new.spare.prepared }
     {
         match apply(&mut self.store, changes) {
             Ok(()) => Ok(enter_commit(&mut self.records, owner, deed)),

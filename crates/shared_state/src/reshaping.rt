@@ -5,7 +5,7 @@ ghost use Rattle.chunk_forms.specs.Metadata.{with_shape};
 ghost use Rattle.kv_face.specs.Store.{Contents, OneMore, after};
 ghost use Rattle.history.specs.Arrays.{Known, known_after, form_of, is_local};
 ghost use Rattle.history.specs.Own.{resized_event};
-ghost use Rattle.run_records.specs.Numbers.{HasPlace, KeepsPlaces};
+ghost use Rattle.run_records.specs.Numbers.{IsPrepared, KeepsPrepared};
 ghost use Rattle.run_records.specs.Recorded.{with_numbers, without_all};
 ghost use Rattle.shared_state.specs.Seen.{IsFrame, IsQuiet, seen_of};
 ghost use Rattle.shared_state.specs.Agreement.{IsState};
@@ -22,7 +22,7 @@ use run_records::Records;
 fn enter_shape(records: &mut Records, owner: u32, new: NewShape) -> u64
     requires array { (k : Known) × (known_after records.old.events new.array ≡ Some k) × (is_local k.info.home ≡ false) × (new.form ≡ with_shape (form_of k.info.home) new.shape) }
     requires room { 0 < records.old.event_room }
-    requires places { AllByRecursion (HasPlace records.old.places) new.keys.items }
+    requires prepared { AllByRecursion (IsPrepared records.old.prepared) new.keys.items }
     ensures number { result ≡ length records.old.events + 1 }
     ensures after { records.new ≡ record records.old {
       events = records.old.events ++ resized_event owner new.array new.shape ∷ [];
@@ -30,10 +30,10 @@ fn enter_shape(records: &mut Records, owner: u32, new: NewShape) -> u64
       cache = record records.old.cache { entries = without_all new.keys.items records.old.cache.entries };
       room = records.new.room;
       event_room = records.new.event_room;
-      places = records.new.places;
+      prepared = records.new.prepared;
     } }
     ensures room { records.new.event_room + 1 ≡ records.old.event_room }
-    ensures places { KeepsPlaces records.old.places records.new.places }
+    ensures prepared { KeepsPrepared records.old.prepared records.new.prepared }
 {
     let NewShape {
         mount: _,
@@ -46,8 +46,8 @@ fn enter_shape(records: &mut Records, owner: u32, new: NewShape) -> u64
 }
 
 impl<K: KvStore> State<K> {
-    /// Gives a stored array a new shape, by changes that the store makes together, and adds its event, whose number it gives. Room and
-    /// places were made before (`make_room`).
+    /// Gives a stored array a new shape, by changes that the store makes together, and adds its event, whose number it gives. Room
+    /// was made and its keys prepared before (`make_room`).
     ///
     /// # Errors
     /// `StoreFailed` where the store failed, which one event more tells; `Memory` where the store wanted memory. Nothing was
@@ -62,7 +62,7 @@ impl<K: KvStore> State<K> {
         requires shape { IsNewShape self.old.log owner new changes.now }
         requires made { let seen = seen_of K.contents K.faults K.prefixes K.names K.standing K.change_count in AreMade (seen self.old.store) changes.now }
         requires room { 0 < self.old.spare.events }
-        requires places { AllByRecursion (HasPlace self.old.spare.places) new.keys.items }
+        requires prepared { AllByRecursion (IsPrepared self.old.spare.prepared) new.keys.items }
         ensures number { IfOk result (λ n. n ≡ length self.old.log.events + 1) }
         ensures after { OnOk result (self.new.log ≡ resized self.old.log owner new) }
         ensures done { OnOk result ((m : Contents) → K.contents self.old.store ≡ Some m → K.contents self.new.store ≡ Some (after m changes.now)) }
@@ -72,7 +72,7 @@ impl<K: KvStore> State<K> {
         ensures frame { let seen = seen_of K.contents K.faults K.prefixes K.names K.standing K.change_count in IsFrame (seen self.old.store) (seen self.new.store) }
         ensures kept { let seen = seen_of K.contents K.faults K.prefixes K.names K.standing K.change_count in KeepsByShape (seen self.old.store) self.old.log owner new changes.now (seen self.new.store) self.new.log }
         ensures room { self.old.spare.events ≤ self.new.spare.events + 1 }
-        ensures places { KeepsPlaces self.old.spare.places self.new.spare.places }
+        ensures prepared { KeepsPrepared self.old.spare.prepared self.new.spare.prepared }
     {
         self.make_shape(owner, new, changes)
     }
@@ -86,7 +86,7 @@ impl<K: KvStore> State<K> {
         requires array { (k : Known) × (known_after self.old.log.events new.array ≡ Some k) × (is_local k.info.home ≡ false) × (new.form ≡ with_shape (form_of k.info.home) new.shape) }
         requires made { let seen = seen_of K.contents K.faults K.prefixes K.names K.standing K.change_count in AreMade (seen self.old.store) changes.now }
         requires room { 0 < self.old.spare.events }
-        requires places { AllByRecursion (HasPlace self.old.spare.places) new.keys.items }
+        requires prepared { AllByRecursion (IsPrepared self.old.spare.prepared) new.keys.items }
         ensures number { IfOk result (λ n. n ≡ length self.old.log.events + 1) }
         ensures after { OnOk result (self.new.log ≡ resized self.old.log owner new) }
         ensures done { OnOk result ((m : Contents) → K.contents self.old.store ≡ Some m → K.contents self.new.store ≡ Some (after m changes.now)) }
@@ -97,7 +97,7 @@ impl<K: KvStore> State<K> {
         ensures quiet { let seen = seen_of K.contents K.faults K.prefixes K.names K.standing K.change_count in OnErr result (IsQuiet (seen self.old.store) (seen self.new.store)) }
         ensures frame { let seen = seen_of K.contents K.faults K.prefixes K.names K.standing K.change_count in IsFrame (seen self.old.store) (seen self.new.store) }
         ensures room { self.old.spare.events ≤ self.new.spare.events + 1 }
-        ensures places { KeepsPlaces self.old.spare.places self.new.spare.places }
+        ensures prepared { KeepsPrepared self.old.spare.prepared self.new.spare.prepared }
     {
         match apply(&mut self.store, changes) {
             Ok(()) => Ok(enter_shape(&mut self.records, owner, new)),

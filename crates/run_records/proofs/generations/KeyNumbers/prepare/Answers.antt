@@ -1,16 +1,16 @@
 use Rattle.std.proofs.Common.{refl, sym, ap, subst, ◌∙◌}
-use Rattle.run_records.specs.Numbers.{KeyTable, HasPlace, KeepsPlaces, places_of}
-use Rattle.run_records.proofs.LookUps.{has_place, none_at, put_place, put_places, put_nothing}
+use Rattle.run_records.specs.Numbers.{KeyTable, IsPrepared, KeepsPrepared, prepared_of}
+use Rattle.run_records.proofs.LookUps.{is_prepared, none_at, put_key, put_prepared, put_nothing}
 use Rattle.run_records.proofs.generations.KeyNumbers.prepare.Goals as goal
 
-pub returns-then-contains_key-clause-place : goal.returns-then-contains_key-clause-place
-returns-then-contains_key-clause-place c = subst (λ (t : KeyTable). HasPlace t.places c.args.key.items) c.self.view_is (has_place c.self.inside.table.entries c.args.key.items (sym c.contains_key.ensures ∙ c.if-contains_key.true))
+pub returns-then-contains_key-clause-key : goal.returns-then-contains_key-clause-key
+returns-then-contains_key-clause-key c = subst (λ (t : KeyTable). IsPrepared t.prepared c.args.key.items) c.self.view_is (is_prepared c.self.inside.table.entries c.args.key.items (sym c.contains_key.ensures ∙ c.if-contains_key.true))
 
-pub returns-clause-place : goal.returns-clause-place
-returns-clause-place c = put_place c.self.inside.table.entries c.insert.new.self.entries c.args.key 0 c.in-Ok.ensures.updates.1 c.in-Ok.ensures.entries
+pub returns-clause-key : goal.returns-clause-key
+returns-clause-key c = put_key c.self.inside.table.entries c.insert.new.self.entries c.args.key 0 c.in-Ok.ensures.updates.1 c.in-Ok.ensures.entries
 
-pub returns-clause-places : goal.returns-clause-places
-returns-clause-places c = subst (λ (t : KeyTable). KeepsPlaces t.places (places_of c.insert.new.self.entries)) c.self.view_is (put_places c.self.inside.table.entries c.insert.new.self.entries c.args.key 0 c.in-Ok.ensures.updates.1 c.in-Ok.ensures.entries)
+pub returns-clause-prepared : goal.returns-clause-prepared
+returns-clause-prepared c = subst (λ (t : KeyTable). KeepsPrepared t.prepared (prepared_of c.insert.new.self.entries)) c.self.view_is (put_prepared c.self.inside.table.entries c.insert.new.self.entries c.args.key 0 c.in-Ok.ensures.updates.1 c.in-Ok.ensures.entries)
 
 pub returns-clause-numbers : goal.returns-clause-numbers
 returns-clause-numbers c =
