@@ -2,3 +2,4 @@ pub mod CacheLaws
 pub mod CallerLaws
 pub mod FittingLaws
 pub mod KeptLaws
+pub mod Laws

@@ -16,7 +16,7 @@ use Rattle.n5_blocks.specs.Metadata as n5
 use Rattle.n5_blocks.specs.Block as block
 use Rattle.zarr_chunks.proofs.Laws.{SpellsChunk-from_len}
 use Rattle.n5_blocks.specs.Faults.{header_len, block_fault}
-use Rattle.n5_blocks.specs.declared.error.BlockError.{BlockError}
+use Rattle.n5_blocks.specs.declared.chunk.BlockError.{BlockError}
 use Rattle.n5_blocks.proofs.Laws.{SpellsBlock-from_no_fault, no_fault-SpellsBlock, parsed}
 use Rattle.std.proofs.lemmas.List.{get_or-replicate}
 use Rattle.zarr3_chunks.specs.Metadata as zarr3

@@ -3,8 +3,8 @@ use Rattle.std.specs.Prelude.{Result, Ok, Err}
 use Rattle.cells.specs.Dense.{DenseCells}
 use Rattle.zarr_chunks.specs.declared.chunk.ChunkError.{ChunkError}
 use Rattle.zarr_chunks.specs.declared.chunk.ChunkError.TheVariants as chunk
-use Rattle.n5_blocks.specs.declared.error.BlockError.{BlockError}
-use Rattle.n5_blocks.specs.declared.error.BlockError.TheVariants as block
+use Rattle.n5_blocks.specs.declared.chunk.BlockError.{BlockError}
+use Rattle.n5_blocks.specs.declared.chunk.BlockError.TheVariants as block
 use Rattle.chunk_forms.specs.declared.form.FormError.{FormError}
 use Rattle.chunk_forms.specs.declared.form.FormError.TheVariants.{Damaged, Memory}
 use Rattle.chunk_forms.specs.declared.form.Damage.TheVariants as damage

@@ -21,10 +21,10 @@ use Rattle.transform_composition.specs.Reading.{has_array_along}
 use Rattle.transform_composition.specs.Tightening.{tightened, tight_dims, on_result}
 use Rattle.transform_composition.specs.Composing.{nowhere, composed, over_tightened, joined, joined_answer, composed_map, passes_word, is_too_large, unless_passed, unless_large, closed, closed_along, closed_dims}
 use Rattle.transform_composition.specs.declared.error.ComposeError.{ComposeError}
-use Rattle.transform_composition.proofs.AgreeLemmas.{IsTightened-of}
-use Rattle.transform_composition.proofs.FiniteLemmas.{value-inside, all-inside}
-use Rattle.transform_composition.proofs.FitLemmas.{maps-tight}
-use Rattle.transform_composition.proofs.ValueLemmas.{values-tight}
+use Rattle.transform_composition.proofs.Laws.{IsTightened-of}
+use Rattle.transform_composition.proofs.Laws.{value-inside, all-inside}
+use Rattle.transform_composition.proofs.Laws.{maps-tight}
+use Rattle.transform_composition.proofs.Laws.{values-tight}
 use Rattle.dim_changes.specs.Causes.{ReachesInto}
 use Rattle.dim_changes.proofs.RangeLaws.{AreBounds-each}
 use Rattle.dim_changes.proofs.StepLemmas.{between, length-IsCell}

@@ -4,7 +4,7 @@ use Rattle.std.specs.Prelude.{fold, zip, filter_map, slice_index, unwrap_or, ◌
 use Rattle.std.specs.FinMap as finmap
 use Rattle.std.specs.Option.{ForSome}
 use Rattle.std.specs.List.{AllByRecursion}
-use Rattle.cast_driver.proofs.ChainLaws.{IsWord-word_back}
+use Rattle.cast_driver.proofs.Laws.{IsWord-word_back}
 use Rattle.cast_driver.specs.Chain.{BeginsWith, dtype_after}
 use Rattle.cast_driver.specs.declared.cast.Cast.{Cast}
 use Rattle.cells.proofs.Laws.{IsWord-word_of_bytes, c_place-lt}

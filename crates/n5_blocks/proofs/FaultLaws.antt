@@ -12,7 +12,7 @@ use Rattle.cells.specs.declared.dtype.Dtype.{Dtype}
 use Rattle.n5_blocks.specs.Metadata.{Metadata}
 use Rattle.n5_blocks.specs.Block.{AreWithin}
 use Rattle.n5_blocks.specs.Faults.{mode_in, rank_in, header_len, size_in, sizes_in, size_fault, length_fault, cells_fault, block_fault}
-use Rattle.n5_blocks.specs.declared.error.BlockError.TheVariants.{WrongLength}
+use Rattle.n5_blocks.specs.declared.chunk.BlockError.TheVariants.{WrongLength}
 use Rattle.n5_blocks.proofs.SizeLaws.{none_from_if, within_from_no_fault}
 
 none_from_or : {A : Type 0} (o p : Option A) → option_or o p ≡ None → (o ≡ None) × (p ≡ None)

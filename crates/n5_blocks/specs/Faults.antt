@@ -7,8 +7,8 @@ use Rattle.cells.specs.Places.{cell_count}
 use Rattle.cells.specs.declared.dtype.Dtype.{Dtype}
 use Rattle.cells.specs.declared.dtype.Dtype.TheVariants.{U16, U32}
 use Rattle.n5_blocks.specs.Metadata.{Metadata}
-use Rattle.n5_blocks.specs.declared.error.BlockError.{BlockError}
-use Rattle.n5_blocks.specs.declared.error.BlockError.TheVariants.{WrongMode, WrongRank, WrongSize, WrongLength}
+use Rattle.n5_blocks.specs.declared.chunk.BlockError.{BlockError}
+use Rattle.n5_blocks.specs.declared.chunk.BlockError.TheVariants.{WrongMode, WrongRank, WrongSize, WrongLength}
 
 -- the first number of a header: its mode
 abbrev pub mode_in : List ℕ → ℕ

@@ -3,7 +3,7 @@ ghost use Rattle.std.specs.Prelude.{◌≡◌, ℕ, ◌+◌, ◌<◌, ◌≤◌,
 ghost use Rattle.cells.specs.Places.{cell_count};
 ghost use Rattle.n5_blocks.specs.Faults.{mode_in, rank_in, header_len, size_in, sizes_in, size_fault, length_fault, cells_fault, block_fault};
 
-use crate::error::BlockError;
+use crate::chunk::BlockError;
 use crate::metadata::N5Meta;
 use cells::{Dtype, LARGEST_RANK, MOST_CHUNK_CELLS, count_cells, take_word};
 

@@ -6,17 +6,17 @@
 //! `block_key` is a block's name below its array.
 #![tactic(auto)]
 
-mod block;
-mod error;
+mod chunk;
 mod faults;
 mod key;
+mod members;
 mod metadata;
 mod read;
 mod write;
 
-pub use block::{cut_sizes, decode, encode};
-pub use error::BlockError;
+pub use chunk::{BlockError, cut_sizes, decode, encode};
 pub use key::key_of;
+pub use members::{judged_compression, judged_dtype};
 pub use meta_forms::MetaError;
 pub use metadata::{N5Meta, N5Want};
 pub use read::read_meta;

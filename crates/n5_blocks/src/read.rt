@@ -3,17 +3,16 @@ ghost use Rattle.std.specs.Prelude.{◌≡◌, ◌≢◌, ◌≤◌, Some, Ok, E
 ghost use Rattle.serde_json.specs.View.{view};
 ghost use Rattle.cells.specs.Shapes.{IsShape};
 ghost use Rattle.meta_forms.specs.Faults.{named};
-ghost use Rattle.meta_forms.specs.Judged.{text_in, sizes_at};
+ghost use Rattle.meta_forms.specs.Judged.{sizes_at};
 ghost use Rattle.meta_forms.specs.declared.error.MetaError.{MetaError};
 ghost use Rattle.n5_blocks.specs.Described.{SpellsMetadata};
-ghost use Rattle.n5_blocks.specs.Read.{judged_dimensions, supported, judged_dtype, judged_compression, compression_in, metadata_of_members, metadata_of_data, metadata_of};
+ghost use Rattle.n5_blocks.specs.Read.{judged_dimensions, judged_dtype, judged_compression, metadata_of_members, metadata_of_data, metadata_of};
 
+use crate::members::{judged_compression, judged_dtype};
 use crate::metadata::N5Meta;
-use cells::{Dtype, Sizes};
+use cells::Sizes;
 use json_forms::{ParseError, parse};
-use meta_forms::{
-    Fault, MetaError, checked_chunks, checked_shape, fault_of, named, sizes_at, text_in,
-};
+use meta_forms::{Fault, MetaError, checked_chunks, checked_shape, fault_of, named, sizes_at};
 use serde_json::Value;
 use std::alloc::Global;
 
@@ -83,38 +82,4 @@ fn checked_dimensions(alloc: Global, sizes: Option<Vec<u64>>) -> Result<Vec<u64>
         return Err(fault_of(alloc, "dimensions", Fault::Unsupported));
     }
     checked_shape(alloc, "dimensions", Some(sizes))
-}
-
-fn judged_dtype(value: &Value) -> Result<Dtype, Fault>
-    ensures { result ≡ judged_dtype (text_in (codes "dataType") (view value.now)) }
-{
-    match text_in(value, "dataType") {
-        Some(text) => supported(Dtype::named(text)),
-        None => Err(Fault::Bad),
-    }
-}
-
-fn supported(dtype: Option<Dtype>) -> Result<Dtype, Fault>
-    ensures { result ≡ supported dtype }
-{
-    match dtype {
-        Some(dtype) => Ok(dtype),
-        None => Err(Fault::Unsupported),
-    }
-}
-
-fn judged_compression(value: &Value) -> Result<(), Fault>
-    ensures { result ≡ judged_compression (compression_in (view value.now)) }
-{
-    match compression_in(value) {
-        Some("raw") => Ok(()),
-        Some(_) => Err(Fault::Unsupported),
-        None => Err(Fault::Bad),
-    }
-}
-
-fn compression_in(value: &Value) -> Option<&str>
-    ensures { option_map (λ text. text.now) result ≡ compression_in (view value.now) }
-{
-    text_in(value.get("compression")?, "type")
 }

@@ -4,7 +4,7 @@ use Rattle.std.specs.Prelude.{◌==◌, unwrap_or, IfSome, Result, Ok, Err, OnOk
 use Rattle.std.specs.FinMap as finmap
 use Rattle.chunk_cache.specs.Cache.{kept, after_hit, after_keep}
 use Rattle.chunk_cache.specs.Snapshot.{SnapshotCells}
-use Rattle.chunk_cache.proofs.CallerLaws.{All-kept, All-after_hit, All-after_keep}
+use Rattle.chunk_cache.proofs.Laws.{All-kept, All-after_hit, All-after_keep}
 use Rattle.kv_face.specs.Store.{Contents}
 use Rattle.history.specs.Arrays.{Known, known_after, is_local}
 use Rattle.history.specs.Chunks.{Chunk, IsIndexOf, key_in, key_of}

@@ -9,3 +9,4 @@ pub mod AgreeLemmas
 pub mod IdentityLemmas
 pub mod MeetingLemmas
 pub mod ReachLemmas
+pub mod Laws

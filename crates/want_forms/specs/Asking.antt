@@ -41,11 +41,6 @@ abbrev pub right_or : {A : Type 0} → Result A Fault → Result A Fault → Res
 right_or (Ok x) other = Ok x
 right_or (Err fault) other = other
 
--- what f makes of what is judged right
-abbrev pub right_map : {A B : Type 0} → Result A Fault → (A → B) → Result B Fault
-right_map (Ok x) f = Ok (f x)
-right_map (Err fault) f = Err fault
-
 -- what is judged right
 abbrev pub if_right : {A : Type 0} → Result A Fault → Option A
 if_right (Ok x) = Some x

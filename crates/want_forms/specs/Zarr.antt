@@ -11,9 +11,9 @@ use Rattle.meta_forms.specs.declared.error.MetaError.TheVariants.{NotJson}
 use Rattle.meta_forms.specs.declared.error.Fault.{Fault}
 use Rattle.zarr_chunks.specs.Read.{judged_type, judged_compressor, filled, judged_order, judged_filters, judged_separator}
 use Rattle.zarr_chunks.specs.Want.{Want}
-use Rattle.want_forms.specs.Asking.{in_turn, none_left, if_right, right_map, word_asked}
+use Rattle.zarr_chunks.specs.declared.members.ElementType.{ElementType}
+use Rattle.want_forms.specs.Asking.{in_turn, none_left, if_right, word_asked}
 use Rattle.want_forms.specs.Sizes.{judged_beside}
-use Rattle.want_forms.specs.declared.zarr.NamedType.{NamedType}
 use Rattle.want_forms.specs.declared.zarr.Rest.{Rest}
 use Rattle.want_forms.specs.declared.zarr.TypeAsked.{TypeAsked}
 
@@ -23,19 +23,16 @@ zarr_members =
     codes "chunks" ∷ codes "compressor" ∷ codes "dimension_separator" ∷ codes "dtype" ∷ codes "fill_value" ∷ codes "filters"
     ∷ codes "order" ∷ codes "shape" ∷ codes "zarr_format" ∷ []
 
-abbrev pub named_type : Dtype → Bool → NamedType
-named_type dtype big = record { dtype = dtype; big = big }
-
 -- the type that the member `dtype` names
-unfoldable pub type_at : Data → Result NamedType Fault
-type_at d = right_map (judged_type (text_in (codes "dtype") d) (is_some (list_len_at (codes "dtype") d))) (λ t. named_type t.dtype t.big)
+unfoldable pub type_at : Data → Result ElementType Fault
+type_at d = judged_type (text_in (codes "dtype") d) (is_some (list_len_at (codes "dtype") d))
 
 -- the dtype of a right member `dtype`
 unfoldable pub zarr_dtype : Data → Option Dtype
-zarr_dtype d = option_map (λ (t : NamedType). t.dtype) (if_right (type_at d))
+zarr_dtype d = option_map (λ (t : ElementType). t.dtype) (if_right (type_at d))
 
 -- the dtype and byte order that are asked: those of the member, or else the Spec's own dtype in any order
-unfoldable pub type_asked : Option Dtype → Option NamedType → TypeAsked
+unfoldable pub type_asked : Option Dtype → Option ElementType → TypeAsked
 type_asked own None = record { dtype = own; big = None }
 type_asked own (Some t) = record { dtype = Some t.dtype; big = Some t.big }
 

@@ -5,8 +5,7 @@ ghost use Rattle.want_forms.specs.Wants.{want_of, named_dtype};
 
 use crate::n5::{n5_dtype, n5_want};
 use crate::zarr::{zarr_dtype, zarr_want};
-use crate::zarr3::zarr3_want;
-use crate::zarr3_members::zarr3_dtype;
+use crate::zarr3::{zarr3_dtype, zarr3_want};
 use cells::Dtype;
 use chunk_forms::Want;
 use meta_forms::MetaError;

@@ -11,12 +11,10 @@ mod n5;
 mod sizes;
 mod zarr;
 mod zarr3;
-mod zarr3_members;
 
 pub use asking::{comes_before, word_asked};
 pub use format::Format;
 pub use meta_forms::MetaError;
 pub use n5::{n5_dtype, n5_want};
 pub use zarr::{zarr_dtype, zarr_want};
-pub use zarr3::zarr3_want;
-pub use zarr3_members::zarr3_dtype;
+pub use zarr3::{zarr3_dtype, zarr3_want};

@@ -3,9 +3,9 @@ ghost use Rattle.std.specs.Prelude.{◌≡◌, ◌≢◌, ◌≤◌, Ok, Err, So
 ghost use Rattle.serde_json.specs.View.{view};
 ghost use Rattle.cells.specs.Shapes.{IsShape};
 ghost use Rattle.json_forms.specs.Members.{least_unknown};
-ghost use Rattle.meta_forms.specs.Judged.{text_in, sizes_at, list_len_at};
+ghost use Rattle.meta_forms.specs.Judged.{sizes_at, list_len_at};
 ghost use Rattle.meta_forms.specs.declared.error.MetaError.{MetaError};
-ghost use Rattle.n5_blocks.specs.Read.{judged_dimensions, judged_dtype, judged_compression, compression_in};
+ghost use Rattle.n5_blocks.specs.Read.{judged_dimensions, judged_dtype, judged_compression};
 ghost use Rattle.want_forms.specs.Asking.{in_turn};
 ghost use Rattle.want_forms.specs.N5.{n5_members, n5_dtype, dimensions_asked, members_asked, n5_object, n5_want};
 
@@ -13,8 +13,8 @@ use crate::asking::{if_right, in_turn, none_before, none_left};
 use crate::sizes::chunks_in_turn;
 use cells::{Dtype, Sizes};
 use json_forms::least_unknown;
-use meta_forms::{Fault, MetaError, checked_shape, fault_of, is_there, sizes_at, text_in};
-use n5_blocks::N5Want;
+use meta_forms::{Fault, MetaError, checked_shape, fault_of, is_there, sizes_at};
+use n5_blocks::{N5Want, judged_compression, judged_dtype};
 use serde_json::Value;
 use std::alloc::Global;
 
@@ -151,32 +151,4 @@ fn dimensions_in_turn(
     }
     let sizes = checked_shape(alloc, "dimensions", Some(sizes))?;
     Ok(Some(Sizes::wrap(sizes)))
-}
-
-fn judged_dtype(value: &Value) -> Result<Dtype, Fault>
-    ensures { result ≡ judged_dtype (text_in (codes "dataType") (view value.now)) }
-{
-    match text_in(value, "dataType") {
-        Some(text) => match Dtype::named(text) {
-            Some(dtype) => Ok(dtype),
-            None => Err(Fault::Unsupported),
-        },
-        None => Err(Fault::Bad),
-    }
-}
-
-fn judged_compression(value: &Value) -> Result<(), Fault>
-    ensures { result ≡ judged_compression (compression_in (view value.now)) }
-{
-    match compression_in(value) {
-        Some("raw") => Ok(()),
-        Some(_) => Err(Fault::Unsupported),
-        None => Err(Fault::Bad),
-    }
-}
-
-fn compression_in(value: &Value) -> Option<&str>
-    ensures { option_map (λ text. text.now) result ≡ compression_in (view value.now) }
-{
-    text_in(value.get("compression")?, "type")
 }

@@ -1,27 +1,26 @@
 // What is asked in Zarr version 2.
-ghost use Rattle.std.specs.Prelude.{◌≡◌, ◌≢◌, Ok, Err, Some, None, IfOk, IfErr, IfSome, IfNone, codes, false, length, option_map, is_some};
+ghost use Rattle.std.specs.Prelude.{◌≡◌, ◌≢◌, Ok, Err, Some, None, IfOk, IfErr, IfSome, IfNone, codes, false, length, option_map};
 ghost use Rattle.serde_json.specs.View.{view};
 ghost use Rattle.cells.specs.Bytes.{byte_count};
 ghost use Rattle.cells.specs.Numbers.{IsWord};
 ghost use Rattle.cells.specs.Shapes.{IsShape};
 ghost use Rattle.json_forms.specs.Members.{least_unknown};
-ghost use Rattle.meta_forms.specs.Judged.{text_in, whole_at, is_there, is_null_at, is_object_at, list_len_at};
+ghost use Rattle.meta_forms.specs.Judged.{whole_at, is_null_at, list_len_at};
 ghost use Rattle.meta_forms.specs.declared.error.MetaError.{MetaError};
-ghost use Rattle.zarr_chunks.specs.Read.{judged_type, type_named, judged_compressor, filled, order_named, judged_order, judged_filters, separator_named, judged_separator};
-ghost use Rattle.want_forms.specs.Asking.{right_map};
-ghost use Rattle.want_forms.specs.Zarr.{named_type, type_at, type_asked, zarr_dtype, fill_asked, rest_asked, shape_asked, members_asked, zarr_members, zarr_object, zarr_want};
+ghost use Rattle.zarr_chunks.specs.Read.{judged_type, judged_compressor, judged_order, judged_filters, judged_separator};
+ghost use Rattle.want_forms.specs.Zarr.{type_at, type_asked, zarr_dtype, fill_asked, rest_asked, shape_asked, members_asked, zarr_members, zarr_object, zarr_want};
 
 use crate::asking::{if_right, in_turn, none_left, word_asked};
 use crate::sizes::{chunks_in_turn, shape_in_turn};
 use cells::{Dtype, Order, Sizes};
 use json_forms::least_unknown;
-use meta_forms::{
-    Fault, MetaError, is_null_at, is_object_at, is_there, judged_format, judged_len, list_len_at,
-    text_in, whole_at,
-};
+use meta_forms::{Fault, MetaError, is_null_at, judged_format, list_len_at, whole_at};
 use serde_json::Value;
 use std::alloc::Global;
-use zarr_chunks::ZarrWant;
+use zarr_chunks::{
+    ElementType, ZarrWant, judged_compressor, judged_filters, judged_order, judged_separator,
+    judged_type,
+};
 
 /// What is asked of an array by the `metadata` of a Spec, which may be left out, beside a dtype of the Spec's own. The dtype of
 /// `metadata` counts before the Spec's. A fill is a word of the dtype that is asked, or of 64 bits where none is.
@@ -192,13 +191,6 @@ fn shape_asked(
     Ok(shape)
 }
 
-/// A type that a text names, and whether the highest byte of an element stands first.
-#[derive(Clone, Copy, Debug, PartialEq, Eq)]
-pub(crate) struct NamedType {
-    pub dtype: Dtype,
-    pub big: bool,
-}
-
 /// The dtype and the byte order that are asked.
 #[derive(Clone, Copy, Debug, PartialEq, Eq)]
 pub(crate) struct TypeAsked {
@@ -207,7 +199,7 @@ pub(crate) struct TypeAsked {
 }
 
 #[tactic(auto, unfolding(crate::specs::Zarr::type_asked))]
-fn type_asked(own: Option<Dtype>, named: Option<NamedType>) -> TypeAsked
+fn type_asked(own: Option<Dtype>, named: Option<ElementType>) -> TypeAsked
     requires { IfSome named (λ t. byte_count t.dtype ≡ 1 → t.big ≡ false) }
     ensures value { result ≡ type_asked own named }
     ensures one_byte { IfSome result.dtype (λ d. byte_count d ≡ 1 → IfSome result.big (λ big. big ≡ false)) }
@@ -225,61 +217,11 @@ fn type_asked(own: Option<Dtype>, named: Option<NamedType>) -> TypeAsked
 }
 
 #[tactic(auto, unfolding(crate::specs::Zarr::type_at))]
-fn type_at(value: &Value) -> Result<NamedType, Fault>
+fn type_at(value: &Value) -> Result<ElementType, Fault>
     ensures value { result ≡ type_at (view value.now) }
     ensures one_byte { IfOk result (λ t. byte_count t.dtype ≡ 1 → t.big ≡ false) }
 {
-    match text_in(value, "dtype") {
-        Some(text) => type_named(text),
-        None => if list_len_at(value, "dtype").is_some() {
-            Err(Fault::Unsupported)
-        } else {
-            Err(Fault::Bad)
-        },
-    }
-}
-
-fn type_named(text: &str) -> Result<NamedType, Fault>
-    ensures value { result ≡ right_map (judged_type (Some text.now) false) (λ t. named_type t.dtype t.big) }
-    ensures one_byte { IfOk result (λ t. byte_count t.dtype ≡ 1 → t.big ≡ false) }
-{
-    match text {
-        "|i1" | "<i1" | ">i1" => named(Dtype::I8, false),
-        "|u1" | "<u1" | ">u1" => named(Dtype::U8, false),
-        "<i2" => named(Dtype::I16, false),
-        ">i2" => named(Dtype::I16, true),
-        "<u2" => named(Dtype::U16, false),
-        ">u2" => named(Dtype::U16, true),
-        "<i4" => named(Dtype::I32, false),
-        ">i4" => named(Dtype::I32, true),
-        "<u4" => named(Dtype::U32, false),
-        ">u4" => named(Dtype::U32, true),
-        "<i8" => named(Dtype::I64, false),
-        ">i8" => named(Dtype::I64, true),
-        "<u8" => named(Dtype::U64, false),
-        ">u8" => named(Dtype::U64, true),
-        _ => Err(Fault::Unsupported),
-    }
-}
-
-fn named(dtype: Dtype, big: bool) -> Result<NamedType, Fault>
-    ensures { result ≡ Ok (record { dtype = dtype; big = big }) }
-{
-    Ok(NamedType { dtype, big })
-}
-
-fn judged_compressor(value: &Value) -> Result<(), Fault>
-    ensures { result ≡ judged_compressor (is_null_at (codes "compressor") (view value.now))
-        (is_object_at (codes "compressor") (view value.now)) }
-{
-    if is_null_at(value, "compressor") {
-        return Ok(());
-    }
-    if is_object_at(value, "compressor") {
-        Err(Fault::Unsupported)
-    } else {
-        Err(Fault::Bad)
-    }
+    judged_type(value)
 }
 
 #[tactic(auto, unfolding(crate::specs::Zarr::fill_asked))]
@@ -294,41 +236,5 @@ fn fill_asked(dtype: Option<Dtype>, value: &Value) -> Result<Option<u64>, Fault>
     match word_asked(dtype, whole_at(value, "fill_value")) {
         Ok(word) => Ok(Some(word)),
         Err(fault) => Err(fault),
-    }
-}
-
-fn judged_order(value: &Value) -> Result<Order, Fault>
-    ensures { result ≡ judged_order (text_in (codes "order") (view value.now)) }
-{
-    match text_in(value, "order") {
-        Some("C") => Ok(Order::C),
-        Some("F") => Ok(Order::F),
-        _ => Err(Fault::Bad),
-    }
-}
-
-fn judged_filters(value: &Value) -> Result<(), Fault>
-    ensures { result ≡ judged_filters (is_null_at (codes "filters") (view value.now))
-        (list_len_at (codes "filters") (view value.now)) }
-{
-    if is_null_at(value, "filters") {
-        return Ok(());
-    }
-    judged_len(list_len_at(value, "filters"))
-}
-
-fn judged_separator(value: &Value) -> Result<bool, Fault>
-    ensures { result ≡ judged_separator (is_there (codes "dimension_separator") (view value.now))
-        (text_in (codes "dimension_separator") (view value.now)) }
-{
-    match text_in(value, "dimension_separator") {
-        Some("/") => Ok(true),
-        Some(".") => Ok(false),
-        Some(_) => Err(Fault::Bad),
-        None => if is_there(value, "dimension_separator") {
-            Err(Fault::Bad)
-        } else {
-            Ok(false)
-        },
     }
 }

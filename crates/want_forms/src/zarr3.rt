@@ -9,22 +9,19 @@ ghost use Rattle.meta_forms.specs.Faults.{named};
 ghost use Rattle.json_forms.specs.Members.{least_unknown};
 ghost use Rattle.meta_forms.specs.Judged.{list_len_at};
 ghost use Rattle.meta_forms.specs.declared.error.MetaError.{MetaError};
-ghost use Rattle.zarr3_chunks.specs.Read.{grid_sizes};
+ghost use Rattle.zarr3_chunks.specs.Read.{grid_sizes, judged_codecs, judged_dtype, judged_keys, judged_node};
 ghost use Rattle.want_forms.specs.Asking.{in_turn};
 ghost use Rattle.want_forms.specs.Sizes.{HasRank};
-ghost use Rattle.want_forms.specs.Zarr3.{zarr3_members, zarr3_dtype, grid_asked, rest_asked, shape_asked, members_asked, zarr3_object, zarr3_want};
+ghost use Rattle.want_forms.specs.Zarr3.{dtype_at, codecs_asked, zarr3_members, zarr3_dtype, grid_asked, rest_asked, shape_asked, members_asked, zarr3_object, zarr3_want};
 
-use crate::asking::{in_turn, none_before, none_left, word_asked};
+use crate::asking::{if_right, in_turn, none_before, none_left, word_asked};
 use crate::sizes::{chunks_beside, shape_in_turn};
-use crate::zarr3_members::{codecs_asked, dtype_at, judged_keys, judged_node, zarr3_dtype};
 use cells::{Dtype, Sizes};
 use json_forms::least_unknown;
-use meta_forms::{
-    Fault, MetaError, fault_of, judged_format, list_len_at, sizes_at, text_in, whole_at,
-};
+use meta_forms::{Fault, MetaError, fault_of, judged_format, list_len_at, text_in, whole_at};
 use serde_json::Value;
-use std::alloc::{AllocError, Global};
-use zarr3_chunks::Zarr3Want;
+use std::alloc::Global;
+use zarr3_chunks::{Zarr3Want, grid_sizes, judged_codecs, judged_dtype, judged_keys, judged_node};
 
 /// What is asked of an array by the `metadata` of a Spec, which may be left out, beside a dtype of the Spec's own. The dtype of
 /// `metadata` counts before the Spec's. A fill is a word of the dtype that is asked, or of 64 bits where none is; where none is
@@ -207,11 +204,26 @@ fn checked_grid(alloc: Global, rank: Option<usize>, grid: &Value) -> Result<Vec<
     }
 }
 
-fn grid_sizes(alloc: Global, grid: &Value) -> Result<Option<Vec<u64>>, AllocError>
-    ensures { IfOk result (λ o. option_map (λ v. v.items) o ≡ grid_sizes (view grid.now)) }
+/// The dtype that `metadata` names, where its member `data_type` is right.
+#[tactic(auto, unfolding(crate::specs::Zarr3::zarr3_dtype))]
+pub fn zarr3_dtype(metadata: &Value) -> Option<Dtype>
+    ensures { result ≡ zarr3_dtype (view metadata.now) }
 {
-    match grid.get("configuration") {
-        Some(configuration) => sizes_at(alloc, configuration, "chunk_shape"),
-        None => Ok(None),
-    }
+    if_right(dtype_at(metadata))
+}
+
+#[tactic(auto, unfolding(crate::specs::Zarr3::dtype_at))]
+fn dtype_at(value: &Value) -> Result<Dtype, Fault>
+    ensures { result ≡ dtype_at (view value.now) }
+{
+    judged_dtype(value)
+}
+
+/// The byte order that codecs name; where no dtype is named, it has to be there.
+#[tactic(auto, unfolding(crate::specs::Zarr3::codecs_asked))]
+fn codecs_asked(dtype: Option<Dtype>, value: &Value) -> Result<bool, Fault>
+    ensures value { result ≡ codecs_asked dtype (view value.now) }
+    ensures one_byte { IfSome dtype (λ d. IfOk result (λ big. byte_count d ≡ 1 → big ≡ false)) }
+{
+    judged_codecs(dtype.unwrap_or(Dtype::I16), value)
 }

@@ -8,13 +8,14 @@
 
 mod chunk;
 mod key;
+mod members;
 mod metadata;
 mod read;
-mod unread;
 mod write;
 
 pub use chunk::{decode, encode};
 pub use key::key_of;
+pub use members::{grid_sizes, judged_codecs, judged_dtype, judged_keys, judged_node};
 pub use meta_forms::MetaError;
 pub use metadata::{Zarr3Meta, Zarr3Want};
 pub use read::read_meta;

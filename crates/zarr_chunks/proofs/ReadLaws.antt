@@ -23,7 +23,7 @@ use Rattle.zarr_chunks.specs.Metadata.{Metadata, IsMetadata}
 use Rattle.zarr_chunks.specs.Written.{order_text}
 use Rattle.zarr_chunks.specs.Described.{NamesType, IsFillMember, Describes, SpellsMetadata}
 use Rattle.zarr_chunks.specs.Read.{type_named, supported, judged_type, judged_compressor, filled, judged_fill, judged_order, judged_filters, separator_named, judged_separator, rest_of_members, metadata_of_members, metadata_of_data, metadata_of}
-use Rattle.zarr_chunks.specs.declared.types.ElementType.{ElementType}
+use Rattle.zarr_chunks.specs.declared.members.ElementType.{ElementType}
 use Rattle.zarr_chunks.specs.declared.read.Rest.{Rest}
 use Rattle.zarr_chunks.proofs.TypeLaws.{type_named-names, names-type_named}
 

@@ -8,7 +8,7 @@ use Rattle.cells.specs.declared.dtype.Dtype.TheVariants.{I8, U8, I16, U16, I32, 
 use Rattle.zarr_chunks.specs.Described.{NamesType}
 use Rattle.zarr_chunks.specs.Written.{byte_order, type_name}
 use Rattle.zarr_chunks.specs.Read.{of_type, written_types, beside, type_named}
-use Rattle.zarr_chunks.specs.declared.types.ElementType.{ElementType}
+use Rattle.zarr_chunks.specs.declared.members.ElementType.{ElementType}
 
 -- the text names the type, and an element of one byte has no byte order
 abbrev pub Names : List ℕ → ElementType → Type 0

@@ -15,7 +15,7 @@ use Rattle.meta_forms.specs.declared.error.MetaError.TheVariants.{NotJson}
 use Rattle.meta_forms.specs.declared.error.Fault.{Fault}
 use Rattle.meta_forms.specs.declared.error.Fault.TheVariants.{Bad, Unsupported}
 use Rattle.zarr_chunks.specs.Metadata.{Metadata}
-use Rattle.zarr_chunks.specs.declared.types.ElementType.{ElementType}
+use Rattle.zarr_chunks.specs.declared.members.ElementType.{ElementType}
 use Rattle.zarr_chunks.specs.declared.read.Rest.{Rest}
 
 abbrev pub of_type : Dtype → Bool → ElementType

@@ -7,14 +7,18 @@
 
 mod chunk;
 mod key;
+mod members;
 mod metadata;
 mod read;
-mod types;
 mod write;
 
 pub use cells::{is_chunk_shape, is_shape};
 pub use chunk::{ChunkError, decode, encode};
 pub use key::key_of;
+pub use members::{
+    ElementType, judged_compressor, judged_fill, judged_filters, judged_order, judged_separator,
+    judged_type,
+};
 pub use meta_forms::MetaError;
 pub use metadata::{ZarrMeta, ZarrWant};
 pub use read::read_meta;

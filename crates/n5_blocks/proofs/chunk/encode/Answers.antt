@@ -4,7 +4,7 @@ use Rattle.n5_blocks.specs.Metadata.{Metadata, IsMetadata}
 use Rattle.n5_blocks.specs.Block.{AreWithin, cut_sizes}
 use Rattle.n5_blocks.proofs.CutLaws.{within-cut_sizes}
 use Rattle.n5_blocks.proofs.BlockLaws.{WritesBlock-same}
-use Rattle.n5_blocks.proofs.block.encode.Goals as goal
+use Rattle.n5_blocks.proofs.chunk.encode.Goals as goal
 
 pub write_block-requires-clause-within : goal.write_block-requires-clause-within
 write_block-requires-clause-within c =

@@ -1,7 +1,7 @@
 use Rattle.std.proofs.Common.{◌≡◌, ℕ, List, ◌||◌, codes, Bool, true, false, refl, sym}
 use Rattle.std.specs.Str.{bytes_eq}
 use Rattle.std.proofs.lemmas.Slice.Eq.{bytes_eq-Decides}
-use Rattle.zarr3_chunks.proofs.unread.is_known.Goals as goal
+use Rattle.zarr3_chunks.proofs.members.is_known.Goals as goal
 
 -- another name than the first, and none of the others
 other : (known name : List ℕ) (rest : Bool) → ¬ (name ≡ known) → rest ≡ false → (bytes_eq known name || rest) ≡ false

@@ -2,7 +2,7 @@ use Rattle.std.proofs.Common.{◌≡◌, Option, Some, None, option_map, string_
 use Rattle.serde_json.specs.View.{view}
 use Rattle.json_forms.proofs.Laws.{Text}
 use Rattle.zarr3_chunks.proofs.UnreadLaws.{unread_member-object, unread_member-other}
-use Rattle.zarr3_chunks.proofs.unread.unread_member.Goals as goal
+use Rattle.zarr3_chunks.proofs.members.unread_member.Goals as goal
 
 found_bytes : (o : Option (Bor Text)) (p : Option Text) → option_map (λ name. name.now) o ≡ p → option_map (λ name. string_bytes name.now) o ≡ option_map string_bytes p
 found_bytes None p e = ap (option_map string_bytes) e

@@ -4,7 +4,7 @@ use Rattle.std.proofs.Math.ListN.{get_or-append}
 use Rattle.std.proofs.lemmas.List.{ext_get_or}
 use Rattle.n5_blocks.specs.Block.{cut_sizes}
 use Rattle.n5_blocks.proofs.CutLaws.{length-cut_sizes, get_or-cut_sizes}
-use Rattle.n5_blocks.proofs.block.cut_sizes.Goals as goal
+use Rattle.n5_blocks.proofs.chunk.cut_sizes.Goals as goal
 
 pub loop-k-preserved : goal.loop-k-preserved
 loop-k-preserved c =

@@ -6,14 +6,44 @@ ghost use Rattle.cells.specs.Shapes.{IsChunkShape};
 ghost use Rattle.n5_blocks.specs.Block.{AreWithin, IsReached, IsZeroOutside, SpellsBlock, WritesBlock, cut_sizes, header, word_at};
 ghost use Rattle.n5_blocks.specs.Faults.{block_fault, cells_fault, header_len, sizes_in};
 ghost use Rattle.chunk_elements.specs.Blocks.{AddsBlock, AreStored};
-ghost use Rattle.n5_blocks.specs.declared.error.BlockError.{BlockError};
+ghost use Rattle.n5_blocks.specs.declared.chunk.BlockError.{BlockError};
 
-use crate::error::BlockError;
 use crate::faults::{block_fault, cells_of, header_len, sizes_in};
 use crate::metadata::N5Meta;
 use cells::{Dense, Dtype, Sizes, Words, put_word};
 use chunk_elements::{put_block, words_of_block};
 use std::alloc::{AllocError, Global};
+use thiserror::Error;
+
+/// Why bytes are no block, the first that holds.
+#[derive(Clone, Copy, Debug, PartialEq, Eq, Error)]
+pub enum BlockError {
+    /// The mode is `have` and not 0.
+    #[error("a block of mode {have}")]
+    WrongMode { have: u16 },
+    /// The block has `have` dimensions, and the array has another number.
+    #[error("a block of {have} dimensions")]
+    WrongRank { have: u16 },
+    /// The size `have` of the dimension `dim` is greater than the array's block size.
+    #[error("a block of the size {have} in dimension {dim}")]
+    WrongSize { dim: u32, have: u32 },
+    /// There are `have` bytes; the header and the elements want `want`.
+    #[error("a block of {want} bytes has {have}")]
+    WrongLength { have: u64, want: u64 },
+    /// An allocation failed.
+    #[error("out of memory")]
+    Memory,
+}
+
+impl From<AllocError> for BlockError {
+    ghost use Rattle.n5_blocks.specs.declared.chunk.BlockError.TheVariants as block;
+
+    ghost from_gives = { λ _ e. e ≡ block.Memory };
+
+    fn from(_: AllocError) -> Self {
+        BlockError::Memory
+    }
+}
 
 /// The numbers that a block's bytes spell: a header of mode 0 with as many sizes as the array has, none greater than its
 /// block's, then the elements of cells of these sizes, the first index fastest, the highest byte first, and nothing else. A

@@ -2,7 +2,7 @@ use Rattle.std.proofs.Common.{◌*◌, ◌≤◌, ◌^◌, length, arith}
 use Rattle.std.proofs.Math.Nat.{mul-le-mul}
 use Rattle.cells.proofs.Laws.{cell_count-pos}
 use Rattle.chunk_elements.proofs.Laws.{cell_count-within}
-use Rattle.n5_blocks.proofs.block.write_block.Goals as goal
+use Rattle.n5_blocks.proofs.chunk.write_block.Goals as goal
 
 pub cells_of-requires : goal.cells_of-requires
 cells_of-requires c = omega (arith, cell_count-within c.args.block.now c.args.sizes.now c.requires.within, c.requires.block.volume)

@@ -2,7 +2,7 @@ use Rattle.std.proofs.Common.{subst, sym, arith}
 use Rattle.cells.proofs.Laws.{cell_count-pos}
 use Rattle.n5_blocks.specs.Block.{AreWithin}
 use Rattle.n5_blocks.proofs.FaultLaws.{sound_from_no_fault}
-use Rattle.n5_blocks.proofs.block.read_words.Goals as goal
+use Rattle.n5_blocks.proofs.chunk.read_words.Goals as goal
 
 pub words_of_block-requires-clause-within : goal.words_of_block-requires-clause-within
 words_of_block-requires-clause-within c =

@@ -4,7 +4,7 @@ use Rattle.chunk_elements.specs.Blocks.{AreStored}
 use Rattle.n5_blocks.specs.Block.{SpellsBlock, word_at}
 use Rattle.n5_blocks.specs.Faults.{block_fault, header_len, sizes_in}
 use Rattle.n5_blocks.proofs.BlockLaws.{SpellsBlock-dense, IsDense-stored}
-use Rattle.n5_blocks.proofs.block.decode.Goals as goal
+use Rattle.n5_blocks.proofs.chunk.decode.Goals as goal
 
 pub new-requires : goal.new-requires
 new-requires c =

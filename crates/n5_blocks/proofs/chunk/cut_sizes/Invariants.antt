@@ -1,6 +1,6 @@
 use Rattle.std.proofs.Common.{◌≡◌, ◌<◌, ℕ, get_or, length}
 use Rattle.n5_blocks.specs.Block.{cut_sizes}
-use Rattle.n5_blocks.proofs.block.cut_sizes.Given as goal
+use Rattle.n5_blocks.proofs.chunk.cut_sizes.Given as goal
 
 abbrev pub invariant-loop-k : goal.invariant-loop-k
 invariant-loop-k l = record {

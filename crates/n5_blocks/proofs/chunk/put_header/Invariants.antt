@@ -2,7 +2,7 @@ use Rattle.std.proofs.Common.{◌≡◌, ◌++◌, take, true, length}
 use Rattle.std.specs.List.{flat_map}
 use Rattle.cells.specs.Bytes.{word_bytes}
 use Rattle.cells.specs.declared.dtype.Dtype.TheVariants.{U16, U32}
-use Rattle.n5_blocks.proofs.block.put_header.Given as goal
+use Rattle.n5_blocks.proofs.chunk.put_header.Given as goal
 
 abbrev pub invariant-loop-size : goal.invariant-loop-size
 invariant-loop-size l = l.out.items ≡ l.fn.out.items ++ (word_bytes U16 true 0 ++ word_bytes U16 true (length l.sizes) ++ flat_map (word_bytes U32 true) (take l.size-index l.sizes))
