@@ -1,5 +1,5 @@
 // Making a commit.
-ghost use Rattle.std.specs.Prelude.{◌≡◌, ◌++◌, ◌∷◌, [], ◌≤◌, ◌<◌, ◌+◌, ℕ, List, length, Some, Ok, Err, IfOk, OnOk, OnErr, IsSome};
+ghost use Rattle.std.specs.Prelude.{◌≡◌, ◌++◌, ◌∷◌, [], ◌≤◌, ◌<◌, ◌+◌, ℕ, List, length, Some, Ok, Err, IfOk, OnOk, OnErr, IsOk, IsSome};
 ghost use Rattle.std.specs.List.{AllByRecursion};
 ghost use Rattle.kv_face.specs.Store.{Contents, OneMore, after};
 ghost use Rattle.history.specs.Arrays.{known_after};
@@ -91,7 +91,9 @@ impl<K: KvStore> State<K> {
     /// Want of memory alone.
     pub fn make_room(&mut self, count: usize, keys: &[Name]) -> Result<(), AllocError>
         ensures events { OnOk result (count ≤ self.new.spare.events) }
+        ensures more { self.old.spare.events ≤ self.new.spare.events }
         ensures prepared { OnOk result (AllByRecursion (IsPrepared self.new.spare.prepared) keys.now) }
+        ensures kept { KeepsPrepared self.old.spare.prepared self.new.spare.prepared }
         ensures same { self.new ≡ record self.old { spare = self.new.spare } }
     {
         self.records.reserve_events(count)?;
@@ -120,6 +122,7 @@ impl<K: KvStore> State<K> {
         ensures quiet { let seen = seen_of K.contents K.faults K.prefixes K.names K.standing K.change_count in OnErr result (IsQuiet (seen self.old.store) (seen self.new.store)) }
         ensures frame { let seen = seen_of K.contents K.faults K.prefixes K.names K.standing K.change_count in IsFrame (seen self.old.store) (seen self.new.store) }
         ensures kept { let seen = seen_of K.contents K.faults K.prefixes K.names K.standing K.change_count in KeepsByDeed (seen self.old.store) self.old.log owner deed changes.now (seen self.new.store) self.new.log }
+        ensures uncalled { length changes.now ≡ 0 → IsOk result × (self.new.store ≡ self.old.store) }
         ensures room { self.old.spare.events ≤ self.new.spare.events + 1 }
         ensures prepared { KeepsPrepared self.old.spare.prepared self.new.spare.prepared }
     {
@@ -141,6 +144,7 @@ impl<K: KvStore> State<K> {
         ensures memory { result ≡ Err ChangeError.Memory → self.new.log ≡ self.old.log }
         ensures quiet { let seen = seen_of K.contents K.faults K.prefixes K.names K.standing K.change_count in OnErr result (IsQuiet (seen self.old.store) (seen self.new.store)) }
         ensures frame { let seen = seen_of K.contents K.faults K.prefixes K.names K.standing K.change_count in IsFrame (seen self.old.store) (seen self.new.store) }
+        ensures uncalled { length changes.now ≡ 0 → IsOk result × (self.new.store ≡ self.old.store) }
         ensures room { self.old.spare.events ≤ self.new.spare.events + 1 }
         ensures prepared { KeepsPrepared self.old.spare.prepared self.new.spare.prepared }
     {
@@ -161,6 +165,7 @@ pub(crate) fn apply<K: KvStore>(store: &mut K, changes: &[Change]) -> Result<(),
     ensures done { OnOk result ((m : Contents) → K.contents store.old ≡ Some m → K.contents store.new ≡ Some (after m changes.now)) }
     ensures one_more { OnOk result (0 < length changes.now → OneMore (K.change_count store.old) (K.change_count store.new)) }
     ensures none { length changes.now ≡ 0 → K.change_count store.new ≡ K.change_count store.old }
+    ensures uncalled { length changes.now ≡ 0 → IsOk result × (store.new ≡ store.old) }
     ensures quiet { let seen = seen_of K.contents K.faults K.prefixes K.names K.standing K.change_count in OnErr result (IsQuiet (seen store.old) (seen store.new)) }
     ensures frame { let seen = seen_of K.contents K.faults K.prefixes K.names K.standing K.change_count in IsFrame (seen store.old) (seen store.new) }
     ensures failed { result ≡ Err KvError.Failed → K.faults store.old < K.faults store.new }

@@ -39,6 +39,7 @@ pub fn commit_planned<K: KvStore>(
     ensures failed { (event : ℕ) → result ≡ Err (ChangeError.StoreFailed event) → let seen = seen_of K.contents K.faults K.prefixes K.names K.standing K.change_count in
         HasFailed owner mount (seen state.old.store) (seen state.new.store) state.old.log state.new.log event }
     ensures memory { result ≡ Err ChangeError.Memory → state.new.log ≡ state.old.log }
+    ensures uncalled { length (changes_of plans.items) ≡ 0 → state.new.store ≡ state.old.store }
     ensures quiet { let seen = seen_of K.contents K.faults K.prefixes K.names K.standing K.change_count in OnErr result (IsQuiet (seen state.old.store) (seen state.new.store)) }
     ensures frame { let seen = seen_of K.contents K.faults K.prefixes K.names K.standing K.change_count in IsFrame (seen state.old.store) (seen state.new.store) }
     ensures kept { let seen = seen_of K.contents K.faults K.prefixes K.names K.standing K.change_count in KeepsByPlans (seen state.old.store) state.old.log owner commit plans.items (seen state.new.store) state.new.log }
@@ -65,6 +66,7 @@ fn commit_parts<K: KvStore>(
     ensures done { OnOk result ((m : Contents) → K.contents state.old.store ≡ Some m → K.contents state.new.store ≡ Some (after m parts.changes.items)) }
     ensures failed { (event : ℕ) → result ≡ Err (ChangeError.StoreFailed event) → let seen = seen_of K.contents K.faults K.prefixes K.names K.standing K.change_count in HasFailed owner mount (seen state.old.store) (seen state.new.store) state.old.log state.new.log event }
     ensures memory { result ≡ Err ChangeError.Memory → state.new.log ≡ state.old.log }
+    ensures uncalled { length parts.changes.items ≡ 0 → state.new.store ≡ state.old.store }
     ensures quiet { let seen = seen_of K.contents K.faults K.prefixes K.names K.standing K.change_count in OnErr result (IsQuiet (seen state.old.store) (seen state.new.store)) }
     ensures frame { let seen = seen_of K.contents K.faults K.prefixes K.names K.standing K.change_count in IsFrame (seen state.old.store) (seen state.new.store) }
     ensures kept { let seen = seen_of K.contents K.faults K.prefixes K.names K.standing K.change_count in KeepsByDeed (seen state.old.store) state.old.log owner (deed_of mount commit parts) parts.changes.items (seen state.new.store) state.new.log }
