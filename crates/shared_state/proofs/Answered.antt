@@ -17,13 +17,13 @@ use Rattle.history.specs.Outcomes.{Outcome, exists, mismatch, there, found, made
 use Rattle.history.specs.Own.{opened_event}
 use Rattle.history.specs.Places.{IsFree, taken, array_at}
 use Rattle.history.proofs.Known.{none_is_none}
-use Rattle.shared_state.specs.Seen.{StoreSeen}
-use Rattle.shared_state.specs.Log.{Log}
-use Rattle.shared_state.specs.Fetches.{HasFailed}
-use Rattle.shared_state.specs.Openings.{IsOutcomeOf, IsNewOf, read_there, made_here, IsOpenedBy, IsOpening, IsStoreError, IsRefusalOf, IsTakenBy, AnswersKnown}
-use Rattle.shared_state.specs.declared.opening.Opened.{Opened}
-use Rattle.shared_state.specs.declared.opening.OpenError.{OpenError}
-use Rattle.shared_state.specs.declared.opening.OpenError.TheVariants as error
+use Rattle.state_laws.specs.Seen.{StoreSeen}
+use Rattle.state_laws.specs.Log.{Log}
+use Rattle.state_laws.specs.Fetches.{HasFailed}
+use Rattle.state_laws.specs.Openings.{IsOutcomeOf, IsNewOf, read_there, made_here, IsOpenedBy, IsOpening, IsStoreError, IsRefusalOf, IsTakenBy, AnswersKnown}
+use Rattle.state_laws.specs.declared.opening.Opened.{Opened}
+use Rattle.state_laws.specs.declared.opening.OpenError.{OpenError}
+use Rattle.state_laws.specs.declared.opening.OpenError.TheVariants as error
 
 -- what is told of a new array
 abbrev pub IsToldOf : History → Leaf → Form → Opened → Type 0

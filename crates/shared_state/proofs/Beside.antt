@@ -2,14 +2,14 @@
 use Rattle.std.proofs.Common.{◌≡◌, ℕ, List, Option, Some, None, inl, inr, arith, refl, sym, subst, ◌∙◌}
 use Rattle.std.specs.Prelude.{Result, Ok, Err, OnOk, OnErr, IsSome, IfOk}
 use Rattle.history.specs.declared.array.ArrayInfo.{ArrayInfo}
-use Rattle.shared_state.specs.Seen.{StoreSeen, IsQuiet, IsRead}
-use Rattle.shared_state.specs.declared.opening.Opened.{Opened}
-use Rattle.shared_state.specs.declared.opening.OpenError.{OpenError}
-use Rattle.shared_state.specs.declared.opening.OpenError.TheVariants as error
-use Rattle.shared_state.specs.Fetches.{HasFailed}
-use Rattle.shared_state.specs.Log.{Log}
-use Rattle.shared_state.specs.Openings.{IsBeside, IsStoreError}
-use Rattle.shared_state.specs.Placed.{entered}
+use Rattle.state_laws.specs.Seen.{StoreSeen, IsQuiet, IsRead}
+use Rattle.state_laws.specs.declared.opening.Opened.{Opened}
+use Rattle.state_laws.specs.declared.opening.OpenError.{OpenError}
+use Rattle.state_laws.specs.declared.opening.OpenError.TheVariants as error
+use Rattle.state_laws.specs.Fetches.{HasFailed}
+use Rattle.state_laws.specs.Log.{Log}
+use Rattle.state_laws.specs.Openings.{IsBeside, IsStoreError}
+use Rattle.state_laws.specs.Placed.{entered}
 
 pub beside_same : (log : Log) → IsBeside log log
 beside_same log = record { generations = refl; cache = refl; locals = inl refl }

@@ -9,14 +9,14 @@ use Rattle.history.specs.Arrays.{Known, known_after, is_local}
 use Rattle.history.specs.Chunks.{Chunk}
 use Rattle.history.specs.ReadRows.{mount_of}
 use Rattle.history.proofs.Known.{none_is_none}
-use Rattle.shared_state.specs.declared.reading.Look.{Look}
-use Rattle.shared_state.specs.declared.reading.Look.TheVariants as look
-use Rattle.shared_state.specs.Seen.{StoreSeen, IsRead}
-use Rattle.shared_state.specs.Log.{Log, cells_held}
-use Rattle.shared_state.specs.Agreement.{IsState}
-use Rattle.shared_state.specs.Fetches.{IsAnswered, IsDamagedThere, kept_of}
-use Rattle.shared_state.specs.Looks.{IsLook}
-use Rattle.shared_state.proofs.Got.{agrees_read}
+use Rattle.state_laws.specs.declared.reading.Look.{Look}
+use Rattle.state_laws.specs.declared.reading.Look.TheVariants as look
+use Rattle.state_laws.specs.Seen.{StoreSeen, IsRead}
+use Rattle.state_laws.specs.Log.{Log, cells_held}
+use Rattle.state_laws.specs.Agreement.{IsState}
+use Rattle.state_laws.specs.Fetches.{IsAnswered, IsDamagedThere, kept_of}
+use Rattle.state_laws.specs.Looks.{IsLook}
+use Rattle.state_laws.proofs.Laws.{agrees_read}
 
 pub answered_back : (store next : StoreSeen) (log : Log) (c : Chunk) (snapshot : SnapshotCells) → IsRead store next → IsAnswered next log c snapshot → IsAnswered store log c snapshot
 answered_back store next log c snapshot read is = record {

@@ -1,38 +1,18 @@
 // A state behind a turn.
 ghost use Rattle.std.specs.Prelude.{◌≡◌, ◌<◌, ◌≤◌, ◌^◌, IfOk, IfErr, vec_len};
 ghost use Rattle.turn_book.specs.Passes.{AreNew};
-ghost use Rattle.shared_state.specs.Seen.{seen_of};
+ghost use Rattle.state_laws.specs.Seen.{seen_of};
 
 use crate::state::{State, StateRefused};
 use history::Event;
 use kv_face::KvStore;
+use state_laws::AtStart;
 use std::alloc::Global;
-use std::marker::Model;
 use turn_book::{Book, Pass, TurnBook};
 
-/// What contracts keep of a state as it was put behind a turn: its store, by what a store tells, and the limit of its cache. No value
-/// of this type is made.
-pub struct AtStart<K: KvStore> {
-    pub store: K,
-    pub limit: u64,
-}
-
-impl<K: KvStore> Model for AtStart<K> {
-    ghost use Rattle.std.specs.Coded.{codes};
-    ghost use Rattle.kv_face.specs.Store.{contents_code};
-    ghost use Rattle.shared_state.specs.Seen.{seen_of};
-    ghost use Rattle.shared_state.specs.Agreement.{Opening};
-
-    ghost Value = { Opening };
-
-    ghost coded = { Prim.hlevel (codes, contents_code) };
-
-    ghost view = { λ a. record { store = seen_of K.contents K.faults K.prefixes K.names K.standing K.change_count a.store; limit = a.limit } };
-}
-
 impl<K: KvStore> Book for State<K> {
-    ghost use Rattle.shared_state.specs.Seen.{seen_of};
-    ghost use Rattle.shared_state.specs.Agreement.{Agrees};
+    ghost use Rattle.state_laws.specs.Seen.{seen_of};
+    ghost use Rattle.state_laws.specs.Agreement.{Agrees};
 
     type Entry = Event;
 

@@ -1,63 +1,24 @@
 // A chunk as it is.
-ghost use Rattle.std.specs.Prelude.{◌≡◌, ◌≢◌, ◌≤◌, ℕ, List, ◌∷◌, Option, Some, None, Ok, Err, IfOk, IfErr, OnOk, OnErr, IsSome, true, false, option_map, string_bytes};
+ghost use Rattle.std.specs.Prelude.{◌≡◌, ◌≢◌, ℕ, List, Some, None, Err, IfOk, OnOk, OnErr, IsSome, false, option_map, string_bytes};
 ghost use Rattle.std.specs.FinMap as finmap;
-ghost use Rattle.cells.specs.Elements.{word_at};
-ghost use Rattle.cells.specs.Numbers.{IsWord};
-ghost use Rattle.cells.specs.Places.{IsInside};
 ghost use Rattle.chunk_cache.specs.Cache.{kept};
 ghost use Rattle.chunk_forms.specs.declared.form.Damage.{Damage as DamageOf};
-ghost use Rattle.chunk_forms.specs.declared.form.FormError.TheVariants as form_error;
-ghost use Rattle.chunk_forms.specs.Metadata as meta;
-ghost use Rattle.chunk_forms.specs.Words.{stored_word, stored_fault};
 ghost use Rattle.kv_face.specs.Store.{Contents};
-ghost use Rattle.history.specs.Arrays.{Known, known_after, form_of, is_local};
+ghost use Rattle.history.specs.Arrays.{Known, known_after, is_local};
 ghost use Rattle.history.specs.Chunks.{chunk_key};
-ghost use Rattle.shared_state.specs.Seen.{IsRead, seen_of};
-ghost use Rattle.shared_state.specs.Agreement.{IsState, KeepsAgreement};
-ghost use Rattle.shared_state.specs.Fetches.{IsAnswered, IsChunkOf, IsDamagedThere, IsNamed, kept_of, looked_at, settled};
-ghost use Rattle.shared_state.specs.Looks.{HasBounds, IsFailedLook};
+ghost use Rattle.state_laws.specs.Seen.{IsRead, seen_of};
+ghost use Rattle.state_laws.specs.Agreement.{IsState, KeepsAgreement};
+ghost use Rattle.state_laws.specs.Fetches.{IsAnswered, IsChunkOf, IsDamagedThere, IsNamed, kept_of, looked_at, settled};
+ghost use Rattle.state_laws.specs.Looks.{HasBounds, IsFailedLook};
 
-use crate::error::FetchError;
-use crate::getting::GetError;
-use crate::reading::{Bounds, Fetched};
 use crate::state::State;
 use cells::{Dense, Name};
 use chunk_cache::Snapshot;
-use chunk_forms::{Form, FormError, decode_form};
+use chunk_forms::FormError;
 use kv_face::KvStore;
-use std::alloc::Global;
+use state_laws::{Bounds, FetchError, Fetched, GetError};
+use state_parts::decode;
 use std::sync::Arc;
-
-/// The numbers of stored bytes.
-fn decode(alloc: Global, form: &Form, bytes: Option<Vec<u8>>) -> Result<Dense, FormError>
-    requires stored { meta.is_local form.now ≡ false }
-    requires fill { IsWord (meta.dtype_of form.now) (meta.fill_of form.now) }
-    ensures dtype { IfOk result (λ d. d.dtype ≡ meta.dtype_of form.now) }
-    ensures shape { IfOk result (λ d. d.shape ≡ meta.chunk_shape_of form.now) }
-    ensures words { IfOk result (λ d. (index : List ℕ) → IsInside (meta.chunk_shape_of form.now) index
-        → stored_word form.now (meta.fill_of form.now) (option_map (λ b. b.items) bytes) index ≡ Some (word_at d index)) }
-    ensures causes { IfErr result (λ e. e ≢ form_error.Memory → (cause : DamageOf) × (e ≡ form_error.Damaged cause)
-        × (stored_fault form.now (option_map (λ b. b.items) bytes) ≡ Some cause)) }
-{
-    match bytes {
-        Some(bytes) => decode_form(
-            alloc,
-            form,
-            form.dtype(),
-            form.chunk_shape(),
-            form.fill(),
-            Some(&bytes),
-        ),
-        None => decode_form(
-            alloc,
-            form,
-            form.dtype(),
-            form.chunk_shape(),
-            form.fill(),
-            None,
-        ),
-    }
-}
 
 impl<K: KvStore> State<K> {
     /// The chunk as it is, which comes first in the cache. A chunk that is kept calls no store, another one is read by one call.

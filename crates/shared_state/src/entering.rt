@@ -1,47 +1,20 @@
 // A new array enters the run.
-ghost use Rattle.std.specs.Prelude.{◌≡◌, ◌<◌, ◌+◌, ◌++◌, ◌∷◌, [], ℕ, List, length, None, Some, Ok, Err, IfOk, OnOk, OnErr, All, true, count_by};
+ghost use Rattle.std.specs.Prelude.{◌≡◌, ◌<◌, ◌+◌, ℕ, length, None, Some, Err, IfOk, OnOk, OnErr, All, true};
 ghost use Rattle.std.specs.List.{IsDistinct};
 ghost use Rattle.std.specs.Str.{bytes_eq};
-ghost use Rattle.chunk_forms.specs.Metadata.{with_shape};
 ghost use Rattle.kv_face.specs.declared.change.Change.{Change as ChangeOf};
 ghost use Rattle.kv_face.specs.Store.{Contents, OneMore, after, takes, keys_of, are_together};
-ghost use Rattle.history.specs.Arrays.{form_of};
-ghost use Rattle.history.specs.Legal.{is_opening};
-ghost use Rattle.history.specs.Own.{opened_event, fault};
 ghost use Rattle.history.specs.Places.{IsFree};
-ghost use Rattle.shared_state.specs.Seen.{IsFrame, seen_of};
-ghost use Rattle.shared_state.specs.Fetches.{HasFailed};
-ghost use Rattle.shared_state.specs.Openings.{IsStoreError};
-ghost use Rattle.shared_state.specs.Placed.{IsNext, entered};
+ghost use Rattle.state_laws.specs.Seen.{IsFrame, seen_of};
+ghost use Rattle.state_laws.specs.Fetches.{HasFailed};
+ghost use Rattle.state_laws.specs.Openings.{IsStoreError};
+ghost use Rattle.state_laws.specs.Placed.{IsNext, entered};
 
-use crate::new_array::NewArray;
-use crate::opening::{OpenError, Opened};
 use crate::state::State;
 use cells::Name;
 use kv_face::{Change, KvError, KvStore};
-use run_records::Records;
-
-/// Adds the opening of a new array where there is room.
-fn add_new(records: &mut Records, owner: u32, new: NewArray) -> Opened
-    requires room { 0 < records.old.room }
-    requires number { new.info.number ≡ count_by is_opening records.old.events }
-    requires form { new.form ≡ with_shape (form_of new.info.home) new.info.shape }
-    ensures array { result.array ≡ new.array }
-    ensures event { result.event ≡ Some (length records.old.events + 1) }
-    ensures after { records.new ≡ record records.old {
-      events = records.old.events ++ opened_event owner new.info ∷ [];
-      locals = records.old.locals ++ None ∷ [];
-      room = records.new.room;
-      event_room = records.new.event_room;
-    } }
-{
-    let NewArray { info, form, array } = new;
-    let event = records.add_opened(owner, info, form, None);
-    Opened {
-        array,
-        event: Some(event),
-    }
-}
+use state_laws::{NewArray, OpenError, Opened};
+use state_parts::add_new;
 
 impl<K: KvStore> State<K> {
     /// Enters an array whose metadata the store has.

@@ -1,25 +1,23 @@
 // Reading a chunk.
-ghost use Rattle.std.specs.Prelude.{◌≡◌, ◌≢◌, ◌≤◌, ℕ, List, ◌∷◌, Option, Some, None, Ok, Err, IfOk, IfSome, OnOk, OnErr, IsSome, true, false, option_map, string_bytes};
+ghost use Rattle.std.specs.Prelude.{◌≡◌, ◌≢◌, ℕ, List, Some, None, Err, IfOk, OnOk, OnErr, IsSome, false, option_map};
 ghost use Rattle.std.specs.FinMap as finmap;
 ghost use Rattle.chunk_forms.specs.declared.form.Damage.{Damage as DamageOf};
-ghost use Rattle.chunk_forms.specs.Metadata.{with_shape};
 ghost use Rattle.kv_face.specs.Store.{Contents};
-ghost use Rattle.history.specs.Arrays.{Known, known_after, form_of, is_local};
+ghost use Rattle.history.specs.Arrays.{Known, known_after, is_local};
 ghost use Rattle.history.specs.Chunks.{chunk_key};
 ghost use Rattle.history.specs.ReadRows.{mount_of};
-ghost use Rattle.shared_state.specs.Seen.{IsRead, seen_of};
-ghost use Rattle.shared_state.specs.Agreement.{IsState, KeepsAgreement};
-ghost use Rattle.shared_state.specs.Fetches.{IsChunkOf, IsNamed, HasFailed, kept_of, looked_at};
-ghost use Rattle.shared_state.specs.Looks.{HasBounds, IsLook, IsFailedLook};
+ghost use Rattle.state_laws.specs.Seen.{IsRead, seen_of};
+ghost use Rattle.state_laws.specs.Agreement.{IsState, KeepsAgreement};
+ghost use Rattle.state_laws.specs.Fetches.{IsChunkOf, IsNamed, HasFailed, kept_of, looked_at};
+ghost use Rattle.state_laws.specs.Looks.{HasBounds, IsLook, IsFailedLook};
 ghost use Rattle.chunk_cache.specs.Cache.{kept};
 
-use crate::error::FetchError;
-use crate::getting::{GetError, copy_name};
-use crate::reading::{Bounds, Look};
 use crate::state::State;
 use array_homes::mount_of;
-use cells::{List, Name};
+use cells::Name;
 use kv_face::KvStore;
+use state_laws::{Bounds, FetchError, GetError, Look};
+use state_parts::{copy_name, listed};
 use std::alloc::AllocError;
 
 impl<K: KvStore> State<K> {
@@ -160,14 +158,5 @@ impl<K: KvStore> State<K> {
             bytes: listed(bytes),
             bounds,
         })
-    }
-}
-
-fn listed(bytes: Option<Vec<u8>>) -> Option<List<u8>>
-    ensures { result ≡ option_map (λ b. b.items) bytes }
-{
-    match bytes {
-        Some(bytes) => Some(List::wrap(bytes)),
-        None => None,
     }
 }

@@ -1,61 +1,19 @@
 // The generation of any key.
-ghost use Rattle.std.specs.Prelude.{◌≡◌, ◌≢◌, ◌<◌, ◌^◌, ◌++◌, ◌∷◌, ℕ, List, length, None, Some, IfSome, IsSome};
+ghost use Rattle.std.specs.Prelude.{◌≡◌, ◌≢◌, ◌<◌, ◌^◌, ℕ, length, None, Some, IfSome, IsSome};
 ghost use Rattle.array_homes.specs.Names.{local_key};
 ghost use Rattle.kv_face.specs.Store.{Contents};
 ghost use Rattle.history.specs.Arrays.{Known, known_after};
 ghost use Rattle.history.specs.Chunks.{Chunk};
 ghost use Rattle.history.specs.Generations.{HasKey, IsGenerationOf};
-ghost use Rattle.history.specs.Places.{location};
-ghost use Rattle.shared_state.specs.Seen.{seen_of};
-ghost use Rattle.shared_state.specs.Agreement.{Opening, Agrees, IsState};
-ghost use Rattle.shared_state.specs.Fetches.{generation_in};
-ghost use Rattle.shared_state.specs.Keyed.{IsKeyIn, IsNobodys, local_at};
+ghost use Rattle.state_laws.specs.Seen.{seen_of};
+ghost use Rattle.state_laws.specs.Agreement.{Opening, Agrees, IsState};
+ghost use Rattle.state_laws.specs.Fetches.{generation_in};
+ghost use Rattle.state_laws.specs.Keyed.{IsKeyIn, IsNobodys};
 
 use crate::state::State;
-use array_homes::{is_chunk_name, is_local, local_number};
-use history::{Event, Home, Kind};
+use array_homes::{is_chunk_name, local_number};
 use kv_face::KvStore;
-
-/// The number of the local array that an event opened.
-fn local_at(events: &[Event], number: u64) -> Option<u64>
-    ensures { result ≡ local_at events.now number }
-{
-    let place = number.checked_sub(1)?;
-    let event = events.get(place as usize)?;
-    match &event.kind {
-        Kind::Opened { array } => {
-            if is_local(&array.home) {
-                Some(array.number)
-            } else {
-                None
-            }
-        }
-        _ => None,
-    }
-}
-
-/// What stands in a key behind `MOUNT/PATH/`.
-fn behind<'a>(mount: &str, path: &str, key: &'a [u8]) -> &'a [u8]
-    requires { (rest : List ℕ) × (key.now ≡ (mount.now ++ 47 ∷ path.now) ++ 47 ∷ rest) }
-    ensures { (rest : List ℕ) → key.now ≡ (mount.now ++ 47 ∷ path.now) ++ 47 ∷ rest → result.now ≡ rest }
-{
-    let front = mount.len() + path.len() + 2;
-    let (_, name) = key.split_at(front);
-    name
-}
-
-/// What stands in a key behind the location of an array and a "/".
-fn name_in<'a>(home: &Home, key: &'a [u8]) -> &'a [u8]
-    requires { (upper rest : List ℕ) × (location home.now ≡ Some upper) × (key.now ≡ upper ++ 47 ∷ rest) }
-    ensures { (upper rest : List ℕ) → location home.now ≡ Some upper → key.now ≡ upper ++ 47 ∷ rest → result.now ≡ rest }
-{
-    match home {
-        Home::Zarr { mount, path, .. } => behind(mount.items(), path.items(), key),
-        Home::N5 { mount, path, .. } => behind(mount.items(), path.items(), key),
-        Home::Zarr3 { mount, path, .. } => behind(mount.items(), path.items(), key),
-        Home::Local { .. } => key,
-    }
-}
+use state_parts::{local_at, name_in};
 
 impl<K: KvStore> State<K> {
     /// The stored array one of whose chunks has the key.

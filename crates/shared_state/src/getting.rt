@@ -1,38 +1,14 @@
 // A look into the store, and the event that says where it failed.
-ghost use Rattle.std.specs.Prelude.{◌≡◌, ℕ, Option, Some, Ok, Err, IfOk, OnOk, option_map, true};
+ghost use Rattle.std.specs.Prelude.{◌≡◌, ℕ, Some, Err, IfOk, OnOk, option_map, true};
 ghost use Rattle.std.specs.FinMap as finmap;
 ghost use Rattle.kv_face.specs.Store.{Contents, takes};
-ghost use Rattle.shared_state.specs.Seen.{IsRead, seen_of};
-ghost use Rattle.shared_state.specs.Fetches.{HasFailed};
+ghost use Rattle.state_laws.specs.Seen.{IsRead, seen_of};
+ghost use Rattle.state_laws.specs.Fetches.{HasFailed};
 
 use crate::state::State;
 use cells::Name;
 use kv_face::{KvError, KvStore};
-use std::alloc::{AllocError, AllocFailed, Global};
-
-/// Why the store told nothing.
-#[derive(Clone, Copy, Debug)]
-pub(crate) enum GetError {
-    /// The store failed, which event `event` says.
-    Failed { event: u64 },
-    Memory,
-}
-
-impl From<AllocError> for GetError {
-    ghost use Rattle.shared_state.specs.declared.getting.GetError.TheVariants as get;
-
-    ghost from_gives = { λ _ e. e ≡ get.Memory };
-
-    fn from(_: AllocError) -> Self {
-        GetError::Memory
-    }
-}
-
-pub(crate) fn copy_name(alloc: Global, name: &str) -> Result<Name, AllocError>
-    ensures { IfOk result (λ n. n ≡ name.now) }
-{
-    Ok(Name::wrap(String::from_str(alloc, name)?))
-}
+use state_laws::GetError;
 
 impl<K: KvStore> State<K> {
     /// The bytes under a key of an array on a mount. Room for the event is made before the store is called.

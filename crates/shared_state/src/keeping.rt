@@ -2,10 +2,10 @@
 ghost use Rattle.std.specs.Prelude.{◌≡◌, Some, None, Ok, IsSome, IfOk, IfSome, OnOk, OnErr, true, string_bytes};
 ghost use Rattle.history.specs.Arrays.{Known, known_after, is_local};
 ghost use Rattle.history.specs.Chunks.{chunk_key};
-ghost use Rattle.shared_state.specs.Seen.{seen_of};
-ghost use Rattle.shared_state.specs.Log.{cells_held};
-ghost use Rattle.shared_state.specs.Agreement.{IsState, KeepsAgreement};
-ghost use Rattle.shared_state.specs.Fetches.{IsAnswered, IsChunkOf, IsNamed, KeepsSettled, kept_of, looked_at, generation_in, settled};
+ghost use Rattle.state_laws.specs.Seen.{seen_of};
+ghost use Rattle.state_laws.specs.Log.{cells_held};
+ghost use Rattle.state_laws.specs.Agreement.{IsState, KeepsAgreement};
+ghost use Rattle.state_laws.specs.Fetches.{IsAnswered, IsChunkOf, IsNamed, KeepsSettled, kept_of, looked_at, generation_in, settled};
 
 use crate::state::State;
 use array_homes::is_local;

@@ -1,10 +1,7 @@
 // Opening an array of a store.
-ghost use Rattle.std.specs.Prelude.{◌≡◌, ◌<◌, ℕ, List, length, true, Option, Some, None, Err, IfOk, OnOk, OnErr, IsSome, option_map};
+ghost use Rattle.std.specs.Prelude.{◌≡◌, ◌<◌, ℕ, length, Some, None, Err, IfOk, OnErr, IsSome, option_map};
 ghost use Rattle.std.specs.FinMap as finmap;
-ghost use Rattle.array_homes.specs.Opening.{leaf_at, IsDecision, meta_in, IsFrom};
-ghost use Rattle.array_homes.specs.declared.deciding.OpeningRefusal.{OpeningRefusal as RefusalOf};
-ghost use Rattle.chunk_forms.specs.Metadata.{IsMetadata};
-ghost use Rattle.chunk_forms.specs.Wants.{is_asked_form};
+ghost use Rattle.array_homes.specs.Opening.{leaf_at};
 ghost use Rattle.kv_face.specs.Store.{Contents};
 ghost use Rattle.stack_driver.specs.References.{IsReference};
 ghost use Rattle.history.specs.Arrays.{Known, known_after, ref_of};
@@ -12,56 +9,18 @@ ghost use Rattle.history.specs.Leaves.{Leaf, Stored};
 ghost use Rattle.history.specs.Legal.{IsMount};
 ghost use Rattle.history.specs.Outcomes.{outcome_at};
 ghost use Rattle.history.specs.Places.{IsFree};
-ghost use Rattle.shared_state.specs.Seen.{IsFrame, IsQuiet, seen_of};
-ghost use Rattle.shared_state.specs.Agreement.{Opening, Agrees, IsState, KeepsAgreement, TakesMount};
-ghost use Rattle.shared_state.specs.Openings.{IsOpening, AnswersKnown, IsRefusalOf, IsBeside};
-ghost use Rattle.shared_state.specs.Placed.{place_at};
+ghost use Rattle.state_laws.specs.Seen.{IsFrame, IsQuiet, seen_of};
+ghost use Rattle.state_laws.specs.Agreement.{Opening, Agrees, IsState, KeepsAgreement, TakesMount};
+ghost use Rattle.state_laws.specs.Openings.{IsOpening, AnswersKnown, IsBeside};
+ghost use Rattle.state_laws.specs.Placed.{place_at};
 
-use crate::getting::{GetError, copy_name};
-use crate::opening::{OpenError, Opened};
-use crate::place::{Place, place_of};
 use crate::state::State;
-use array_homes::{Decided, OpeningRefusal, array_ref, decide};
+use array_homes::{Decided, array_ref};
 use chunk_forms::{Want, mismatch};
 use kv_face::KvStore;
 use locations::Found;
-use std::alloc::{AllocError, Global};
-
-/// What opening a leaf gives that the history doesn't have, by the bytes at its metadata's key.
-fn decided(
-    alloc: Global,
-    want: &Want,
-    may_open: bool,
-    may_create: bool,
-    bytes: Option<Vec<u8>>,
-) -> Result<Decided, OpeningRefusal>
-    ensures outcome { (mount path : List ℕ) → IsDecision (leaf_at mount path want.now may_open may_create) (option_map (λ b. b.items) bytes) result }
-    ensures source { IfOk result (λ d. IsFrom want.now (option_map (λ b. b.items) bytes) d) }
-    ensures asked { IfOk result (λ d. is_asked_form want.now (meta_in d) ≡ true) }
-    ensures valid { IfOk result (λ d. IsMetadata (meta_in d)) }
-{
-    match bytes {
-        Some(bytes) => decide(alloc, want, may_open, may_create, Some(&bytes)),
-        None => decide(alloc, want, may_open, may_create, None),
-    }
-}
-
-/// The refusal, told after so many events.
-fn refused(alloc: Global, key: &str, at: u64, refusal: OpeningRefusal) -> OpenError
-    ensures { IsRefusalOf key.now at refusal result }
-{
-    match refusal {
-        OpeningRefusal::BadMeta { cause } => match copy_name(alloc, key) {
-            Ok(key) => OpenError::BadMeta { key, cause },
-            Err(_) => OpenError::Memory,
-        },
-        OpeningRefusal::Exists => OpenError::Exists { at },
-        OpeningRefusal::Mismatch { member } => OpenError::Mismatch { member, at },
-        OpeningRefusal::NotFound => OpenError::NotFound { at },
-        OpeningRefusal::BadWant { member } => OpenError::BadWant { member },
-        OpeningRefusal::Memory => OpenError::Memory,
-    }
-}
+use state_laws::{GetError, OpenError, Opened, Place};
+use state_parts::{copy_name, decided, place_of, refused};
 
 impl<K: KvStore> State<K> {
     /// Opens an array of a store, by what is asked of it: an array of the run, one whose metadata the store has, or a new one,

@@ -8,9 +8,7 @@ mod asking;
 mod book;
 mod changing;
 mod decoding;
-mod deed;
 mod entering;
-mod error;
 mod fetching;
 mod generation;
 mod getting;
@@ -19,16 +17,11 @@ mod leaf;
 mod local;
 mod looking;
 mod making;
-mod new_array;
-mod opening;
-mod place;
-mod reading;
 mod reshaping;
 mod state;
 
-pub use book::AtStart;
-pub use deed::{ChangeError, Deed, HeldCells, NewShape};
-pub use error::FetchError;
-pub use opening::{OpenError, Opened};
-pub use reading::{Bounds, Fetched, Look};
 pub use state::{State, StateRefused};
+pub use state_laws::{
+    AtStart, Bounds, ChangeError, Deed, FetchError, Fetched, HeldCells, Look, NewShape, OpenError,
+    Opened,
+};

@@ -1,72 +1,18 @@
 // Opening an array that the run holds.
-ghost use Rattle.std.specs.Prelude.{◌≡◌, ◌≤◌, ◌<◌, ◌+◌, ◌^◌, ◌++◌, ◌∷◌, [], length, map, max, Some, IfOk, OnOk, OnErr, count_by};
-ghost use Rattle.array_homes.specs.Homes.{reference_of};
-ghost use Rattle.cells.specs.Dense.{IsDense};
+ghost use Rattle.std.specs.Prelude.{◌≡◌, ◌≤◌, ◌<◌, ◌+◌, ◌^◌, length, map, max, Some, IfOk, OnOk, OnErr};
 ghost use Rattle.cells.specs.Places.{cell_count};
-ghost use Rattle.chunk_forms.specs.Metadata.{with_shape};
-ghost use Rattle.history.specs.Arrays.{form_of};
-ghost use Rattle.history.specs.Legal.{is_opening};
 ghost use Rattle.history.specs.OpenRows.{next_array, given_info, new_ref};
-ghost use Rattle.history.specs.Own.{opened_event};
-ghost use Rattle.shared_state.specs.Seen.{seen_of};
-ghost use Rattle.shared_state.specs.Agreement.{IsState, KeepsAgreement};
-ghost use Rattle.shared_state.specs.Placed.{IsGiven, entered};
+ghost use Rattle.state_laws.specs.Seen.{seen_of};
+ghost use Rattle.state_laws.specs.Agreement.{IsState, KeepsAgreement};
+ghost use Rattle.state_laws.specs.Placed.{IsGiven, entered};
 
-use crate::new_array::{NewArray, with_ref};
-use crate::opening::Opened;
 use crate::state::State;
-use array_homes::given_info;
 use cells::Dense;
 use chunk_cache::Snapshot;
-use chunk_forms::Form;
 use kv_face::KvStore;
-use run_records::Records;
-use std::alloc::{AllocError, Global};
-use std::sync::Arc;
-
-/// The next array, with these numbers.
-fn given_array(alloc: Global, number: u64, start: Dense) -> Result<NewArray, AllocError>
-    requires { cell_count (map (max 1) start.shape) ≤ 2 ^ 22 }
-    ensures info { IfOk result (λ n. n.info ≡ given_info number start) }
-    ensures form { IfOk result (λ n. n.form ≡ Form.Local) }
-    ensures array { IfOk result (λ n. n.array ≡ reference_of n.info n.info.shape) }
-{
-    let _ = start.shape();
-    let info = given_info(alloc, number, start)?;
-    with_ref(alloc, info, Form::Local)
-}
-
-/// Numbers as the cells of a chunk of this generation.
-fn as_snapshot(alloc: Global, generation: u64, cells: Dense) -> Result<Snapshot, AllocError>
-    ensures { IfOk result (λ s. s ≡ record { generation = generation; cells = cells }) }
-{
-    match Arc::new(alloc, cells) {
-        Ok(cells) => Ok(Snapshot::new(generation, cells)),
-        Err(_) => Err(AllocError),
-    }
-}
-
-/// Adds the opening of a new array and its cells where there is room.
-fn add_given(records: &mut Records, owner: u32, new: NewArray, cells: Snapshot) -> Opened
-    requires room { 0 < records.old.room }
-    requires number { new.info.number ≡ count_by is_opening records.old.events }
-    requires form { new.form ≡ with_shape (form_of new.info.home) new.info.shape }
-    ensures array { result.array ≡ new.array }
-    ensures event { result.event ≡ Some (length records.old.events + 1) }
-    ensures after { records.new ≡ record records.old {
-      events = records.old.events ++ opened_event owner new.info ∷ [];
-      locals = records.old.locals ++ Some cells ∷ [];
-      room = records.new.room;
-      event_room = records.new.event_room;
-    } }
-{
-    let NewArray { info, form, array } = new;
-    let event = records.add_opened(owner, info, form, Some(cells));
-    Opened {
-        array,
-        event: Some(event),
-    }
-}
+use state_laws::{NewArray, Opened};
+use state_parts::{add_given, as_snapshot, given_array};
+use std::alloc::AllocError;
 
 impl<K: KvStore> State<K> {
     /// A new array that begins with these numbers. The run holds it, as one chunk; there is no call of the store.

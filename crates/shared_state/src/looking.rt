@@ -1,25 +1,18 @@
 // Chunks as they are.
-ghost use Rattle.std.specs.Prelude.{◌≡◌, ◌≢◌, ◌<◌, ℕ, List, Option, Some, None, Ok, Err, IfOk, IfSome, OnOk, OnErr, IsSome, string_bytes, option_map, true};
-ghost use Rattle.std.specs.FinMap as finmap;
-ghost use Rattle.kv_face.specs.Store.{Contents};
-ghost use Rattle.history.specs.Arrays.{Known, known_after, form_of, is_local};
+ghost use Rattle.std.specs.Prelude.{◌≡◌, Some, IfOk, IsSome, string_bytes};
+ghost use Rattle.history.specs.Arrays.{Known, known_after, form_of};
 ghost use Rattle.history.specs.Chunks.{chunk_key};
 ghost use Rattle.chunk_forms.specs.Metadata.{with_shape};
-ghost use Rattle.shared_state.specs.Fetches.{IsChunkOf, bounds_in};
+ghost use Rattle.state_laws.specs.Fetches.{IsChunkOf, bounds_in};
 
-use crate::reading::Bounds;
 use crate::state::State;
 use array_homes::chunk_key;
-use cells::{Name, Sizes};
+use cells::Name;
 use chunk_forms::Form;
 use kv_face::KvStore;
-use std::alloc::{AllocError, Global};
-
-fn copy_sizes(alloc: Global, sizes: &[u64]) -> Result<Sizes, AllocError>
-    ensures { IfOk result (λ s. s ≡ sizes.now) }
-{
-    Ok(Sizes::wrap(Vec::from_slice(alloc, sizes)?))
-}
+use state_laws::Bounds;
+use state_parts::copy_sizes;
+use std::alloc::AllocError;
 
 impl<K: KvStore> State<K> {
     /// The key of a chunk, also past the array's shape.

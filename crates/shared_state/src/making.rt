@@ -1,51 +1,23 @@
 // New arrays of a store, found or made.
-ghost use Rattle.std.specs.Prelude.{◌≡◌, ◌<◌, ◌+◌, ℕ, List, [], ◌∷◌, length, None, Some, Ok, Err, IfOk, OnOk, OnErr, true, false, count_by};
+ghost use Rattle.std.specs.Prelude.{◌≡◌, ◌+◌, ℕ, List, length, None, Some, Err, IfOk, OnOk, OnErr, true, count_by};
 ghost use Rattle.std.specs.FinMap as finmap;
 ghost use Rattle.array_homes.specs.Homes.{info_at, reference_of};
-ghost use Rattle.chunk_forms.specs.Metadata.{shape_of, is_local, metadata_text, IsMetadata};
+ghost use Rattle.chunk_forms.specs.Metadata.{shape_of, IsMetadata};
 ghost use Rattle.chunk_forms.specs.Wants.{is_asked_form};
-ghost use Rattle.kv_face.specs.declared.change.Change.{Change as ChangeOf};
 ghost use Rattle.kv_face.specs.Store.{Contents};
 ghost use Rattle.history.specs.Legal.{IsMount, is_opening};
 ghost use Rattle.history.specs.Places.{IsFree};
-ghost use Rattle.shared_state.specs.Seen.{IsFrame, IsQuiet, seen_of};
-ghost use Rattle.shared_state.specs.Agreement.{IsState, KeepsAgreement, TakesMount};
-ghost use Rattle.shared_state.specs.Fetches.{HasFailed};
-ghost use Rattle.shared_state.specs.Openings.{IsStoreError};
-ghost use Rattle.shared_state.specs.Placed.{place_at, entered};
+ghost use Rattle.state_laws.specs.Seen.{IsFrame, IsQuiet, seen_of};
+ghost use Rattle.state_laws.specs.Agreement.{IsState, KeepsAgreement, TakesMount};
+ghost use Rattle.state_laws.specs.Fetches.{HasFailed};
+ghost use Rattle.state_laws.specs.Openings.{IsStoreError};
+ghost use Rattle.state_laws.specs.Placed.{place_at, entered};
 
-use crate::getting::copy_name;
-use crate::new_array::{NewArray, new_array};
-use crate::opening::{OpenError, Opened};
-use crate::place::Place;
 use crate::state::State;
-use array_homes::written_form;
-use cells::{List, Name};
 use chunk_forms::{Form, Want};
-use kv_face::{Change, KvStore};
-use std::alloc::{AllocError, Global};
-
-/// The change that writes metadata.
-fn metadata_change(alloc: Global, key: &str, form: &Form) -> Result<Vec<Change>, AllocError>
-    requires { is_local form.now ≡ false }
-    ensures { IfOk result (λ v. v.items ≡ record { key = key.now; bytes = Some (metadata_text form.now) } ∷ []) }
-{
-    let bytes = written_form(alloc, form)?;
-    one_change(alloc, key, bytes)
-}
-
-fn one_change(alloc: Global, key: &str, bytes: Vec<u8>) -> Result<Vec<Change>, AllocError>
-    ensures { IfOk result (λ v. v.items ≡ record { key = key.now; bytes = Some bytes.items } ∷ []) }
-{
-    let key = copy_name(alloc, key)?;
-    let change = Change {
-        key,
-        bytes: Some(List::wrap(bytes)),
-    };
-    let mut changes = Vec::new(alloc);
-    changes.push(change)?;
-    Ok(changes)
-}
+use kv_face::KvStore;
+use state_laws::{OpenError, Opened, Place};
+use state_parts::{copy_name, metadata_change, new_array};
 
 impl<K: KvStore> State<K> {
     /// Enters an array whose metadata the store has.

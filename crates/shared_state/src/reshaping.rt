@@ -1,49 +1,19 @@
 // Giving an array a new shape.
-ghost use Rattle.std.specs.Prelude.{◌≡◌, ◌++◌, ◌∷◌, [], ◌≤◌, ◌<◌, ◌+◌, ℕ, List, length, Some, Ok, Err, IfOk, OnOk, OnErr, false};
+ghost use Rattle.std.specs.Prelude.{◌≡◌, ◌≤◌, ◌<◌, ◌+◌, ℕ, length, Some, Err, IfOk, OnOk, OnErr, false};
 ghost use Rattle.std.specs.List.{AllByRecursion};
 ghost use Rattle.chunk_forms.specs.Metadata.{with_shape};
 ghost use Rattle.kv_face.specs.Store.{Contents, OneMore, after};
 ghost use Rattle.history.specs.Arrays.{Known, known_after, form_of, is_local};
-ghost use Rattle.history.specs.Own.{resized_event};
 ghost use Rattle.run_records.specs.Numbers.{IsPrepared, KeepsPrepared};
-ghost use Rattle.run_records.specs.Recorded.{with_numbers, without_all};
-ghost use Rattle.shared_state.specs.Seen.{IsFrame, IsQuiet, seen_of};
-ghost use Rattle.shared_state.specs.Agreement.{IsState};
-ghost use Rattle.shared_state.specs.Changing.{AreMade, IsNewShape, KeepsByShape, resized};
-ghost use Rattle.shared_state.specs.Fetches.{HasFailed};
+ghost use Rattle.state_laws.specs.Seen.{IsFrame, IsQuiet, seen_of};
+ghost use Rattle.state_laws.specs.Agreement.{IsState};
+ghost use Rattle.state_laws.specs.Changing.{AreMade, IsNewShape, KeepsByShape, resized};
+ghost use Rattle.state_laws.specs.Fetches.{HasFailed};
 
-use crate::changing::apply;
-use crate::deed::{ChangeError, NewShape};
 use crate::state::State;
 use kv_face::{Change, KvError, KvStore};
-use run_records::Records;
-
-/// Adds the event of a new shape that was made.
-fn enter_shape(records: &mut Records, owner: u32, new: NewShape) -> u64
-    requires array { (k : Known) × (known_after records.old.events new.array ≡ Some k) × (is_local k.info.home ≡ false) × (new.form ≡ with_shape (form_of k.info.home) new.shape) }
-    requires room { 0 < records.old.event_room }
-    requires prepared { AllByRecursion (IsPrepared records.old.prepared) new.keys.items }
-    ensures number { result ≡ length records.old.events + 1 }
-    ensures after { records.new ≡ record records.old {
-      events = records.old.events ++ resized_event owner new.array new.shape ∷ [];
-      generations = with_numbers (length records.old.events + 1) records.old.generations new.keys.items;
-      cache = record records.old.cache { entries = without_all new.keys.items records.old.cache.entries };
-      room = records.new.room;
-      event_room = records.new.event_room;
-      prepared = records.new.prepared;
-    } }
-    ensures room { records.new.event_room + 1 ≡ records.old.event_room }
-    ensures prepared { KeepsPrepared records.old.prepared records.new.prepared }
-{
-    let NewShape {
-        mount: _,
-        array,
-        shape,
-        form,
-        keys,
-    } = new;
-    records.add_resized(owner, array, shape, form, keys)
-}
+use state_laws::{ChangeError, NewShape};
+use state_parts::{apply, enter_shape};
 
 impl<K: KvStore> State<K> {
     /// Gives a stored array a new shape, by changes that the store makes together, and adds its event, whose number it gives. Room

@@ -1,7 +1,7 @@
 ghost use Rattle.std.specs.Prelude.{◌≡◌, ◌≤◌, ◌^◌, [], IfOk, IfErr};
 ghost use Rattle.std.specs.FinMap as finmap;
-ghost use Rattle.shared_state.specs.Seen.{seen_of};
-ghost use Rattle.shared_state.specs.Agreement.{Agrees};
+ghost use Rattle.state_laws.specs.Seen.{seen_of};
+ghost use Rattle.state_laws.specs.Agreement.{Agrees};
 
 use history::Event;
 use kv_face::KvStore;
@@ -24,7 +24,7 @@ impl<K: KvStore> Model for State<K> {
     ghost use Rattle.stack_driver.specs.contracts.view.View as view_type;
     ghost use Rattle.run_records.specs.Numbers.{generations_code};
     ghost use Rattle.history.specs.Places.{IsTable};
-    ghost use Rattle.shared_state.specs.Log.{StateOf, log_of, spare_of};
+    ghost use Rattle.state_laws.specs.Log.{StateOf, log_of, spare_of};
 
     ghost Value = { StateOf K };
 

@@ -3,9 +3,9 @@ use Rattle.std.proofs.Common.{◌≡◌, ◌≢◌, ℕ, List, ◌∷◌, ◌++�
 use Rattle.std.specs.Prelude.{◌==◌}
 use Rattle.kv_face.specs.Store.{takes}
 use Rattle.history.specs.Legal.{IsMount}
-use Rattle.shared_state.specs.Seen.{StoreSeen}
-use Rattle.shared_state.specs.Log.{Log}
-use Rattle.shared_state.specs.Agreement.{IsState, KeepsAgreement, TakesMount}
+use Rattle.state_laws.specs.Seen.{StoreSeen}
+use Rattle.state_laws.specs.Log.{Log}
+use Rattle.state_laws.specs.Agreement.{IsState, KeepsAgreement, TakesMount}
 use Rattle.state_cases.specs.Ready.{IsReady}
 
 pub ready_state : (store : StoreSeen) (log : Log) → IsReady store log → IsState store log

@@ -2,13 +2,13 @@
 use Rattle.std.proofs.Common.{◌≡◌, [], sym, ◌∙◌}
 use Rattle.std.proofs.lemmas.List.{append-nil}
 use Rattle.history.specs.Chunks.{Chunk}
-use Rattle.shared_state.specs.declared.reading.Look.{Look}
-use Rattle.shared_state.specs.declared.reading.Look.TheVariants as look
-use Rattle.shared_state.specs.Seen.{StoreSeen}
-use Rattle.shared_state.specs.Log.{Log}
-use Rattle.shared_state.specs.Agreement.{Agrees, IsState}
-use Rattle.shared_state.specs.Looks.{IsLook}
-use Rattle.shared_state.proofs.Laws.{look_answered, answered_later, form_stored, form_fill}
+use Rattle.state_laws.specs.declared.reading.Look.{Look}
+use Rattle.state_laws.specs.declared.reading.Look.TheVariants as look
+use Rattle.state_laws.specs.Seen.{StoreSeen}
+use Rattle.state_laws.specs.Log.{Log}
+use Rattle.state_laws.specs.Agreement.{Agrees, IsState}
+use Rattle.state_laws.specs.Looks.{IsLook}
+use Rattle.state_laws.proofs.Laws.{look_answered, answered_later, form_stored, form_fill}
 use Rattle.state_cases.specs.Ready.{IsReady}
 use Rattle.state_cases.specs.Usable.{IsUsable}
 

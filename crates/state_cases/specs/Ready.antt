@@ -1,8 +1,8 @@
 -- A state on which calls may be made.
 use Rattle.std.specs.Prelude.{◌≡◌, None}
-use Rattle.shared_state.specs.Seen.{StoreSeen}
-use Rattle.shared_state.specs.Log.{Log}
-use Rattle.shared_state.specs.Agreement.{Opening, Agrees}
+use Rattle.state_laws.specs.Seen.{StoreSeen}
+use Rattle.state_laws.specs.Log.{Log}
+use Rattle.state_laws.specs.Agreement.{Opening, Agrees}
 
 -- it agrees with an opening, and its store takes every key
 pub record IsReady (store : StoreSeen) (log : Log) : Type 0 where

@@ -8,12 +8,12 @@ use Rattle.chunk_forms.specs.declared.form.Form.{Form}
 use Rattle.chunk_forms.specs.Metadata.{chunk_shape_of, dtype_of, fill_of, is_local}
 use Rattle.chunk_forms.specs.Words.{stored_word}
 use Rattle.history.specs.Chunks.{Chunk}
-use Rattle.shared_state.specs.declared.reading.Look.{Look}
-use Rattle.shared_state.specs.declared.reading.Look.TheVariants as look
-use Rattle.shared_state.specs.Agreement.{Opening}
-use Rattle.shared_state.specs.Fetches.{MaySettle}
-use Rattle.shared_state.specs.Log.{Log}
-use Rattle.shared_state.specs.Seen.{StoreSeen}
+use Rattle.state_laws.specs.declared.reading.Look.{Look}
+use Rattle.state_laws.specs.declared.reading.Look.TheVariants as look
+use Rattle.state_laws.specs.Agreement.{Opening}
+use Rattle.state_laws.specs.Fetches.{MaySettle}
+use Rattle.state_laws.specs.Log.{Log}
+use Rattle.state_laws.specs.Seen.{StoreSeen}
 use Rattle.state_cases.specs.Ready.{IsReady}
 
 -- the cells are what the bytes of a chunk of this form spell, at this generation

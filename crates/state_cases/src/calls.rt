@@ -1,5 +1,5 @@
 // One call on a state: `{"call":NAME, arguments}`.
-ghost use Rattle.shared_state.specs.Seen.{seen_of};
+ghost use Rattle.state_laws.specs.Seen.{seen_of};
 ghost use Rattle.state_cases.specs.Ready.{IsReady};
 
 use crate::chunks::chunk;

@@ -1,7 +1,7 @@
 // Calls for a chunk: `{"call":NAME,"array":N,"chunk":[..]}`.
 ghost use Rattle.std.specs.Prelude.{◌≡◌};
-ghost use Rattle.shared_state.specs.Seen.{seen_of};
-ghost use Rattle.shared_state.specs.Fetches.{IsChunkOf};
+ghost use Rattle.state_laws.specs.Seen.{seen_of};
+ghost use Rattle.state_laws.specs.Fetches.{IsChunkOf};
 ghost use Rattle.state_cases.specs.Ready.{IsReady};
 
 use crate::fault::Fault;

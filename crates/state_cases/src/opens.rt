@@ -2,7 +2,7 @@
 // `{"call":"local","dtype":D,"shape":[..],"numbers":[..]}`.
 ghost use Rattle.std.specs.Prelude.{◌≡◌, ◌≤◌, ◌^◌, IfOk, IsTrue, length, map, max};
 ghost use Rattle.cells.specs.Places.{cell_count};
-ghost use Rattle.shared_state.specs.Seen.{seen_of};
+ghost use Rattle.state_laws.specs.Seen.{seen_of};
 ghost use Rattle.state_cases.specs.Ready.{IsReady};
 ghost use Rattle.state_cases.specs.Shapes.{IsLocalShape};
 

@@ -2,7 +2,7 @@
 // begins with these, with a cache of so many cells; then the number of calls of `get`, and what stands under the keys.
 // `{"files":FOLDER,"cache":N,"calls":[..]}`: the same calls over the files of a folder.
 ghost use Rattle.std.specs.Prelude.{◌≡◌, ◌≤◌, ◌^◌, None};
-ghost use Rattle.shared_state.specs.Seen.{seen_of};
+ghost use Rattle.state_laws.specs.Seen.{seen_of};
 ghost use Rattle.state_cases.specs.Ready.{IsReady};
 
 use crate::calls::answer;

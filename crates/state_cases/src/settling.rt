@@ -5,8 +5,8 @@ ghost use Rattle.cells.specs.Numbers.{IsWord};
 ghost use Rattle.cells.specs.Places.{IsInside};
 ghost use Rattle.chunk_forms.specs.Metadata as meta;
 ghost use Rattle.chunk_forms.specs.Words.{stored_word};
-ghost use Rattle.shared_state.specs.Seen.{seen_of};
-ghost use Rattle.shared_state.specs.Fetches.{IsChunkOf};
+ghost use Rattle.state_laws.specs.Seen.{seen_of};
+ghost use Rattle.state_laws.specs.Fetches.{IsChunkOf};
 ghost use Rattle.state_cases.specs.Ready.{IsReady};
 ghost use Rattle.state_cases.specs.Usable.{IsReadyWith, IsReadyFor, IsReadyBy};
 

@@ -17,16 +17,16 @@ use Rattle.history.specs.Chunks.{Chunk, IsIndexOf, AreStarts, IsWholeIfLocal, ch
 use Rattle.history.specs.Touch.{touches}
 use Rattle.history.proofs.Known.{some_inj}
 use Rattle.run_records.specs.Recorded.{done_event}
-use Rattle.shared_state.specs.declared.deed.Deed.{Deed}
-use Rattle.shared_state.specs.declared.deed.HeldCells.{HeldCells}
-use Rattle.shared_state.specs.Seen.{StoreSeen}
-use Rattle.shared_state.specs.Agreement.{Opening, Agrees}
+use Rattle.state_laws.specs.declared.deed.Deed.{Deed}
+use Rattle.state_laws.specs.declared.deed.HeldCells.{HeldCells}
+use Rattle.state_laws.specs.Seen.{StoreSeen}
+use Rattle.state_laws.specs.Agreement.{Opening, Agrees}
 use Rattle.history.specs.Counting.{is_change}
 use Rattle.history.specs.Legal.{IsLegalDone}
 use Rattle.history.specs.declared.event.Kind.TheVariants.{Done}
-use Rattle.shared_state.specs.Changing.{AreTouched, IsDeed, IsRightBy, IsHeldAnew, IsHeldStill, committed, with_cells}
-use Rattle.shared_state.specs.Kept.{AreCellsOf, IsCurrent}
-use Rattle.shared_state.specs.Log.{Log, cells_held}
+use Rattle.state_laws.specs.Changing.{AreTouched, IsDeed, IsRightBy, IsHeldAnew, IsHeldStill, committed, with_cells}
+use Rattle.state_laws.specs.Kept.{AreCellsOf, IsCurrent}
+use Rattle.state_laws.specs.Log.{Log, cells_held}
 use Rattle.state_commits.specs.declared.plan.Left.{Left}
 use Rattle.state_commits.specs.declared.plan.Left.TheVariants.{Stored, Held}
 use Rattle.state_commits.specs.declared.plan.Planned.{Planned}

@@ -18,8 +18,8 @@ use Rattle.history.proofs.Known.{some_inj, opened_le, length-more}
 use Rattle.history.proofs.Untouched.{generation_touched}
 use Rattle.run_records.specs.declared.commit.Commit.{Commit}
 use Rattle.run_records.specs.Recorded.{done_event}
-use Rattle.shared_state.specs.Changing.{IsOneOf, AreTouched}
-use Rattle.shared_state.specs.Log.{Log}
+use Rattle.state_laws.specs.Changing.{IsOneOf, AreTouched}
+use Rattle.state_laws.specs.Log.{Log}
 use Rattle.state_commits.specs.declared.plan.Left.{Left}
 use Rattle.state_commits.specs.declared.plan.Left.TheVariants.{Stored, Held}
 use Rattle.state_commits.specs.declared.plan.Planned.{Planned}

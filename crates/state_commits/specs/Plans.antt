@@ -15,17 +15,17 @@ use Rattle.history.specs.Stored.{with_event}
 use Rattle.history.specs.Touch.{touches}
 use Rattle.run_records.specs.declared.commit.Commit.{Commit}
 use Rattle.run_records.specs.Recorded.{with_numbers, without_all, done_event}
-use Rattle.shared_state.specs.declared.deed.HeldCells.{HeldCells}
-use Rattle.shared_state.specs.Agreement.{Opening, Agrees}
-use Rattle.shared_state.specs.Changing.{with_cells}
-use Rattle.shared_state.specs.Seen.{StoreSeen}
-use Rattle.shared_state.specs.Kept.{AreCellsOf, IsCurrent}
-use Rattle.shared_state.specs.Log.{Log}
+use Rattle.state_laws.specs.declared.deed.HeldCells.{HeldCells}
+use Rattle.state_laws.specs.Agreement.{Opening, Agrees}
+use Rattle.state_laws.specs.Changing.{with_cells}
+use Rattle.state_laws.specs.Seen.{StoreSeen}
+use Rattle.state_laws.specs.Kept.{AreCellsOf, IsCurrent}
+use Rattle.state_laws.specs.Log.{Log}
 use Rattle.state_commits.specs.declared.plan.Left.{Left}
 use Rattle.state_commits.specs.declared.plan.Left.TheVariants.{Stored, Held}
 use Rattle.state_commits.specs.declared.plan.Planned.{Planned}
 use Rattle.state_commits.specs.declared.parts.Parts.{Parts}
-use Rattle.shared_state.specs.declared.deed.Deed.{Deed}
+use Rattle.state_laws.specs.declared.deed.Deed.{Deed}
 
 -- bytes are left of a stored chunk, and of a local one cells of its dtype and shape
 abbrev pub IsLeftOf : Known → Chunk → Left → Type 0

@@ -2,10 +2,10 @@
 ghost use Rattle.std.specs.Prelude.{◌≡◌, ◌<◌, ◌+◌, ℕ, List, length, Some, Ok, Err, IfOk, OnOk, OnErr};
 ghost use Rattle.kv_face.specs.Store.{Contents, after};
 ghost use Rattle.run_records.specs.Recorded.{done_event};
-ghost use Rattle.shared_state.specs.Seen.{IsFrame, IsQuiet, seen_of};
-ghost use Rattle.shared_state.specs.Agreement.{IsState};
-ghost use Rattle.shared_state.specs.Changing.{AreMade, KeepsByDeed, committed};
-ghost use Rattle.shared_state.specs.Fetches.{HasFailed};
+ghost use Rattle.state_laws.specs.Seen.{IsFrame, IsQuiet, seen_of};
+ghost use Rattle.state_laws.specs.Agreement.{IsState};
+ghost use Rattle.state_laws.specs.Changing.{AreMade, KeepsByDeed, committed};
+ghost use Rattle.state_laws.specs.Fetches.{HasFailed};
 ghost use Rattle.state_commits.specs.Plans.{ArePlans, ArePartsOf, KeepsByPlans, changes_of, committed_by, deed_of};
 ghost use Rattle.state_commits.specs.declared.plan.Planned.{Planned as PlannedOf};
 

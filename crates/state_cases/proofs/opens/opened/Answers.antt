@@ -1,6 +1,6 @@
 use Rattle.std.proofs.Common.{codes}
 use Rattle.state_cases.proofs.Ready.{ready_kept, ready_names, memory_mount, takes_all}
-use Rattle.shared_state.specs.Seen.{seen_of}
+use Rattle.state_laws.specs.Seen.{seen_of}
 use Rattle.state_cases.proofs.opens.opened.Goals as goal
 
 pub open-answer-requires-clause-agrees : goal.open-answer-requires-clause-agrees

@@ -1,4 +1,4 @@
-use Rattle.shared_state.specs.Seen.{seen_of}
+use Rattle.state_laws.specs.Seen.{seen_of}
 use Rattle.state_cases.specs.Ready.{IsReady}
 use Rattle.state_cases.proofs.runs.answers.Given as goal
 

@@ -1,10 +1,10 @@
 use Rattle.std.proofs.Common.{sym, ap, subst, ◌∙◌}
 use Rattle.history.specs.History.{History}
 use Rattle.history.specs.Chunks.{Chunk, chunk_key}
-use Rattle.shared_state.specs.Fetches.{IsChunkOf}
-use Rattle.shared_state.specs.Log.{Log}
-use Rattle.shared_state.specs.Seen.{seen_of}
-use Rattle.shared_state.proofs.Laws.{looked_events}
+use Rattle.state_laws.specs.Fetches.{IsChunkOf}
+use Rattle.state_laws.specs.Log.{Log}
+use Rattle.state_laws.specs.Seen.{seen_of}
+use Rattle.state_laws.proofs.Laws.{looked_events}
 use Rattle.state_cases.proofs.Ready.{ready_kept}
 use Rattle.state_cases.proofs.Usable.{usable_of}
 use Rattle.state_cases.proofs.settling.settle.Goals as goal

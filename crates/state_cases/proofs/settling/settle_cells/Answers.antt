@@ -3,7 +3,7 @@ use Rattle.std.specs.Arc.{arc_value}
 use Rattle.cells.specs.Dense.{DenseCells}
 use Rattle.chunk_cache.specs.Snapshot.{SnapshotCells}
 use Rattle.history.specs.Chunks.{Chunk}
-use Rattle.shared_state.specs.Fetches.{MaySettle}
+use Rattle.state_laws.specs.Fetches.{MaySettle}
 use Rattle.state_cases.proofs.settling.settle_cells.Goals as goal
 
 pub settle-answer-requires-clause-agrees : goal.settle-answer-requires-clause-agrees

@@ -1,6 +1,6 @@
 use Rattle.std.proofs.Common.{subst}
 use Rattle.history.specs.Chunks.{Chunk}
-use Rattle.shared_state.specs.declared.reading.Look.{Look}
+use Rattle.state_laws.specs.declared.reading.Look.{Look}
 use Rattle.state_cases.specs.Usable.{IsUsable}
 use Rattle.state_cases.proofs.settling.settle_look.Goals as goal
 

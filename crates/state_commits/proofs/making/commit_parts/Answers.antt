@@ -4,10 +4,10 @@ use Rattle.std.specs.List.{AllByRecursion}
 use Rattle.kv_face.specs.declared.change.Change.{Change}
 use Rattle.history.specs.Arrays.{known_after}
 use Rattle.run_records.specs.Recorded.{done_event}
-use Rattle.shared_state.specs.declared.deed.HeldCells.{HeldCells}
-use Rattle.shared_state.specs.Changing.{IsDeed, KeepsByDeed}
-use Rattle.shared_state.specs.Log.{Log, StateOf}
-use Rattle.shared_state.specs.Seen.{seen_of}
+use Rattle.state_laws.specs.declared.deed.HeldCells.{HeldCells}
+use Rattle.state_laws.specs.Changing.{IsDeed, KeepsByDeed}
+use Rattle.state_laws.specs.Log.{Log, StateOf}
+use Rattle.state_laws.specs.Seen.{seen_of}
 use Rattle.state_commits.specs.Plans.{deed_of}
 use Rattle.state_commits.proofs.HeldLaws.{plans_deed, cells_known}
 use Rattle.state_commits.proofs.making.commit_parts.Goals as goal

@@ -1,6 +1,6 @@
 use Rattle.std.proofs.Common.{sym, subst}
-use Rattle.shared_state.specs.Changing.{IsRightBy}
-use Rattle.shared_state.specs.Seen.{seen_of}
+use Rattle.state_laws.specs.Changing.{IsRightBy}
+use Rattle.state_laws.specs.Seen.{seen_of}
 use Rattle.state_commits.specs.Plans.{deed_of}
 use Rattle.state_commits.proofs.HeldLaws.{plans_right}
 use Rattle.state_commits.proofs.making.commit_planned.Goals as goal

@@ -2,9 +2,9 @@ use Rattle.std.proofs.Common.{sym, ap, subst, ◌∙◌}
 use Rattle.std.specs.Prelude.{IfSome}
 use Rattle.history.specs.Places.{IsTable}
 use Rattle.history.proofs.Known.{some_inj}
-use Rattle.shared_state.specs.Keyed.{IsKeyIn, local_at}
-use Rattle.shared_state.specs.Log.{StateOf}
-use Rattle.shared_state.proofs.Keyed.{local_some, local_none}
+use Rattle.state_laws.specs.Keyed.{IsKeyIn, local_at}
+use Rattle.state_laws.specs.Log.{StateOf}
+use Rattle.state_laws.proofs.Laws.{local_some, local_none}
 use Rattle.shared_state.proofs.state.State.array_of.Goals as goal
 
 pub returns-in-Some-clause-some : goal.returns-in-Some-clause-some

@@ -1,6 +1,6 @@
 use Rattle.std.proofs.Common.{◌≡◌, Some}
 use Rattle.history.specs.ReadRows.{mount_of}
-use Rattle.shared_state.proofs.Got.{agrees_got, takes_chunk}
+use Rattle.state_laws.proofs.Laws.{agrees_got, takes_chunk}
 use Rattle.shared_state.proofs.state.State.bytes_at.Goals as goal
 
 pub get-requires : goal.get-requires

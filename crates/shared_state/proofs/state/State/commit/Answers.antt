@@ -1,5 +1,5 @@
-use Rattle.shared_state.specs.Seen.{seen_of}
-use Rattle.shared_state.proofs.Committed.{agrees_deed}
+use Rattle.state_laws.specs.Seen.{seen_of}
+use Rattle.state_laws.proofs.Laws.{agrees_deed}
 use Rattle.shared_state.proofs.state.State.commit.Goals as goal
 
 pub returns-clause-kept : goal.returns-clause-kept

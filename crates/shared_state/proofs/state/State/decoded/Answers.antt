@@ -1,9 +1,9 @@
 use Rattle.std.proofs.Common.{◌≡◌, refl, ap, subst, ◌∙◌}
 use Rattle.std.specs.Prelude.{option_map, string_bytes}
 use Rattle.history.specs.Chunks.{Chunk}
-use Rattle.shared_state.specs.Seen.{seen_of}
-use Rattle.shared_state.specs.Fetches.{IsDamagedThere, generation_in}
-use Rattle.shared_state.proofs.Filled.{form_stored, form_fill, decoded_answered, decoded_damaged}
+use Rattle.state_laws.specs.Seen.{seen_of}
+use Rattle.state_laws.specs.Fetches.{IsDamagedThere, generation_in}
+use Rattle.state_laws.proofs.Laws.{form_stored, form_fill, decoded_answered, decoded_damaged}
 use Rattle.shared_state.proofs.state.State.decoded.Goals as goal
 
 pub decode-requires-clause-stored : goal.decode-requires-clause-stored

@@ -1,7 +1,7 @@
 use Rattle.std.proofs.Common.{sym, ap, ◌∙◌}
 use Rattle.std.specs.FinMap as finmap
 use Rattle.chunk_cache.specs.Cache.{kept}
-use Rattle.shared_state.specs.Fetches.{generation_in}
+use Rattle.state_laws.specs.Fetches.{generation_in}
 use Rattle.shared_state.proofs.state.State.described.Goals as goal
 
 pub returns-clause-looked : goal.returns-clause-looked

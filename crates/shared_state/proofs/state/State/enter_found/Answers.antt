@@ -7,13 +7,13 @@ use Rattle.array_homes.specs.Opening.{leaf_at}
 use Rattle.history.specs.Legal.{is_opening}
 use Rattle.history.specs.declared.array.ArrayInfo.{ArrayInfo}
 use Rattle.history.specs.Places.{IsFree}
-use Rattle.shared_state.specs.declared.place.Place.{Place}
-use Rattle.shared_state.specs.Agreement.{Agrees}
-use Rattle.shared_state.specs.Seen.{seen_of}
-use Rattle.shared_state.specs.Log.{StateOf}
-use Rattle.shared_state.specs.Placed.{entered}
-use Rattle.shared_state.proofs.Cached.{either_way}
-use Rattle.shared_state.proofs.Leafs.{agrees_found, frame_same}
+use Rattle.state_laws.specs.declared.place.Place.{Place}
+use Rattle.state_laws.specs.Agreement.{Agrees}
+use Rattle.state_laws.specs.Seen.{seen_of}
+use Rattle.state_laws.specs.Log.{StateOf}
+use Rattle.state_laws.specs.Placed.{entered}
+use Rattle.shared_state.proofs.Cases.{either_way}
+use Rattle.state_laws.proofs.Laws.{agrees_found, frame_same}
 use Rattle.shared_state.proofs.state.State.enter_found.Goals as goal
 
 pub returns-clause-kept : goal.returns-clause-kept

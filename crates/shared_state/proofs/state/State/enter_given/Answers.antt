@@ -1,11 +1,11 @@
 use Rattle.std.proofs.Common.{◌≡◌, ◌+◌, length, Some, sym, ap, subst, ◌∙◌, rules}
 use Rattle.chunk_cache.specs.Snapshot.{SnapshotCells}
 use Rattle.history.specs.OpenRows.{next_array, given_info}
-use Rattle.shared_state.specs.Agreement.{Agrees}
-use Rattle.shared_state.specs.Log.{StateOf, log_of}
-use Rattle.shared_state.specs.Placed.{entered}
-use Rattle.shared_state.specs.Seen.{seen_of}
-use Rattle.shared_state.proofs.Given.{agrees_given}
+use Rattle.state_laws.specs.Agreement.{Agrees}
+use Rattle.state_laws.specs.Log.{StateOf, log_of}
+use Rattle.state_laws.specs.Placed.{entered}
+use Rattle.state_laws.specs.Seen.{seen_of}
+use Rattle.state_laws.proofs.Laws.{agrees_given}
 use Rattle.shared_state.proofs.state.State.enter_given.Goals as goal
 
 pub returns-clause-kept : goal.returns-clause-kept

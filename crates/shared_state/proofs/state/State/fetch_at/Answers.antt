@@ -3,10 +3,10 @@ use Rattle.std.specs.Prelude.{string_bytes}
 use Rattle.chunk_cache.specs.Cache.{kept}
 use Rattle.history.specs.Arrays.{Known, known_after, is_local}
 use Rattle.history.specs.Chunks.{Chunk}
-use Rattle.shared_state.specs.Agreement.{Agrees}
-use Rattle.shared_state.specs.Seen.{seen_of}
-use Rattle.shared_state.specs.Log.{StateOf}
-use Rattle.shared_state.specs.Fetches.{IsDamagedThere, kept_of}
+use Rattle.state_laws.specs.Agreement.{Agrees}
+use Rattle.state_laws.specs.Seen.{seen_of}
+use Rattle.state_laws.specs.Log.{StateOf}
+use Rattle.state_laws.specs.Fetches.{IsDamagedThere, kept_of}
 use Rattle.shared_state.proofs.Looked.{unkept_by}
 use Rattle.shared_state.proofs.state.State.fetch_at.Goals as goal
 

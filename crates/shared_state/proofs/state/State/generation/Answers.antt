@@ -2,8 +2,8 @@ use Rattle.std.proofs.Common.{refl, sym, ap, subst, ◌∙◌}
 use Rattle.std.specs.Prelude.{IsSome}
 use Rattle.history.specs.Arrays.{known_after}
 use Rattle.history.proofs.GenerationTables.{generation_by_table}
-use Rattle.shared_state.specs.Keyed.{IsKeyIn, IsNobodys}
-use Rattle.shared_state.proofs.Keyed.{key_known}
+use Rattle.state_laws.specs.Keyed.{IsKeyIn, IsNobodys}
+use Rattle.state_laws.proofs.Laws.{key_known}
 use Rattle.shared_state.proofs.state.State.generation.Goals as goal
 
 pub number_of-requires : goal.number_of-requires

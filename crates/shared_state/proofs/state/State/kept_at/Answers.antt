@@ -3,11 +3,12 @@ use Rattle.std.proofs.lemmas.Result.{IfOk-weaker}
 use Rattle.chunk_cache.specs.Cache.{kept, after_hit}
 use Rattle.history.specs.Arrays.{is_local}
 use Rattle.history.specs.Chunks.{Chunk}
-use Rattle.shared_state.specs.Agreement.{Agrees}
-use Rattle.shared_state.specs.Log.{Log, StateOf, log_of, cells_held}
-use Rattle.shared_state.specs.Seen.{seen_of}
-use Rattle.shared_state.specs.Fetches.{looked_at}
-use Rattle.shared_state.proofs.Cached.{agrees_looked, answered_some, either_way}
+use Rattle.state_laws.specs.Agreement.{Agrees}
+use Rattle.state_laws.specs.Log.{Log, StateOf, log_of, cells_held}
+use Rattle.state_laws.specs.Seen.{seen_of}
+use Rattle.state_laws.specs.Fetches.{looked_at}
+use Rattle.state_laws.proofs.Laws.{agrees_looked, answered_some}
+use Rattle.shared_state.proofs.Cases.{either_way}
 use Rattle.shared_state.proofs.state.State.kept_at.Goals as goal
 
 pub returns-then-is_local-clause-answered : goal.returns-then-is_local-clause-answered

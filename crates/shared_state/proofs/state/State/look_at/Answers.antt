@@ -2,11 +2,11 @@ use Rattle.std.proofs.Common.{◌≡◌, None, Some, Ok, false, sym, ap, subst, 
 use Rattle.chunk_cache.specs.Cache.{kept}
 use Rattle.history.specs.Arrays.{Known, known_after, is_local}
 use Rattle.history.specs.Chunks.{Chunk}
-use Rattle.shared_state.specs.Agreement.{Agrees, IsState}
-use Rattle.shared_state.specs.Seen.{seen_of}
-use Rattle.shared_state.specs.Log.{StateOf}
-use Rattle.shared_state.specs.Looks.{HasBounds, IsFailedLook}
-use Rattle.shared_state.specs.Fetches.{IsNamed}
+use Rattle.state_laws.specs.Agreement.{Agrees, IsState}
+use Rattle.state_laws.specs.Seen.{seen_of}
+use Rattle.state_laws.specs.Log.{StateOf}
+use Rattle.state_laws.specs.Looks.{HasBounds, IsFailedLook}
+use Rattle.state_laws.specs.Fetches.{IsNamed}
 use Rattle.shared_state.proofs.Looked.{unkept_by}
 use Rattle.shared_state.proofs.state.State.look_at.Goals as goal
 

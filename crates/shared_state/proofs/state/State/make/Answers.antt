@@ -11,12 +11,14 @@ use Rattle.array_homes.specs.Opening.{leaf_at}
 use Rattle.history.specs.declared.array.ArrayInfo.{ArrayInfo}
 use Rattle.history.specs.Legal.{is_opening}
 use Rattle.history.specs.Places.{IsFree}
-use Rattle.shared_state.specs.declared.place.Place.{Place}
-use Rattle.shared_state.specs.Agreement.{Agrees}
-use Rattle.shared_state.specs.Seen.{seen_of}
-use Rattle.shared_state.specs.Log.{StateOf}
-use Rattle.shared_state.specs.Placed.{entered}
-use Rattle.shared_state.proofs.Leafs.{agrees_made, agrees_stored, one_distinct, one_taken, either_ok, both_err}
+use Rattle.state_laws.specs.declared.place.Place.{Place}
+use Rattle.state_laws.specs.Agreement.{Agrees}
+use Rattle.state_laws.specs.Seen.{seen_of}
+use Rattle.state_laws.specs.Log.{StateOf}
+use Rattle.state_laws.specs.Placed.{entered}
+use Rattle.state_laws.proofs.Laws.{agrees_made}
+use Rattle.shared_state.proofs.Cases.{either_ok, both_err}
+use Rattle.shared_state.proofs.Written.{agrees_stored, one_distinct, one_taken}
 use Rattle.shared_state.proofs.state.State.make.Goals as goal
 
 pub write_new-requires-clause-keys : goal.write_new-requires-clause-keys

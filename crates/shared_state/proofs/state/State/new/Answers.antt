@@ -1,10 +1,10 @@
 use Rattle.std.proofs.Common.{◌≡◌, [], sym, subst}
 use Rattle.history.specs.Places.{IsTable}
 use Rattle.history.proofs.Tabled.{table_none}
-use Rattle.shared_state.specs.Agreement.{Agrees}
-use Rattle.shared_state.specs.Seen.{seen_of}
-use Rattle.shared_state.specs.Log.{log_of}
-use Rattle.shared_state.proofs.Begun.{agrees_begun, log_begun}
+use Rattle.state_laws.specs.Agreement.{Agrees}
+use Rattle.state_laws.specs.Seen.{seen_of}
+use Rattle.state_laws.specs.Log.{log_of}
+use Rattle.state_laws.proofs.Laws.{agrees_begun, log_begun}
 use Rattle.shared_state.proofs.state.State.new.Goals as goal
 
 pub invariant_of-result : goal.invariant_of-result

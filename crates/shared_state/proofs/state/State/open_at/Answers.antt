@@ -8,9 +8,9 @@ use Rattle.history.specs.Places.{IsTable, IsFree, array_at, taken}
 use Rattle.history.proofs.Known.{some_inj}
 use Rattle.history.proofs.Tabled.{taken_by_table, not_taken_by_table}
 use Rattle.stack_driver.specs.References.{IsReference}
-use Rattle.shared_state.specs.declared.place.Place.{Place}
-use Rattle.shared_state.specs.Log.{StateOf}
-use Rattle.shared_state.proofs.Located.{there_of, free_of}
+use Rattle.state_laws.specs.declared.place.Place.{Place}
+use Rattle.state_laws.specs.Log.{StateOf}
+use Rattle.state_laws.proofs.Laws.{there_of, free_of}
 use Rattle.shared_state.proofs.Beside.{never_there}
 use Rattle.shared_state.proofs.Answered.{known_answer, taken_answer, never_failed}
 use Rattle.shared_state.proofs.state.State.open_at.Goals as goal

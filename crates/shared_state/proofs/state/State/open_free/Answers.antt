@@ -1,8 +1,8 @@
 use Rattle.std.proofs.Common.{subst}
 use Rattle.array_homes.specs.Opening.{leaf_at}
-use Rattle.shared_state.specs.Log.{Log}
-use Rattle.shared_state.specs.Openings.{IsOpening}
-use Rattle.shared_state.proofs.Got.{agrees_got}
+use Rattle.state_laws.specs.Log.{Log}
+use Rattle.state_laws.specs.Openings.{IsOpening}
+use Rattle.state_laws.proofs.Laws.{agrees_got}
 use Rattle.shared_state.proofs.state.State.open_free.Goals as goal
 
 pub open_stored-requires-clause-agrees : goal.open_stored-requires-clause-agrees

@@ -2,9 +2,9 @@ use Rattle.std.proofs.Common.{◌≡◌, sym, ap, subst, ◌∙◌}
 use Rattle.std.specs.Arc.{arc_value}
 use Rattle.cells.specs.Dense.{DenseCells}
 use Rattle.history.specs.Chunks.{Chunk}
-use Rattle.shared_state.specs.Seen.{seen_of}
-use Rattle.shared_state.specs.Fetches.{IsAnswered}
-use Rattle.shared_state.proofs.Filled.{answered_may}
+use Rattle.state_laws.specs.Seen.{seen_of}
+use Rattle.state_laws.specs.Fetches.{IsAnswered}
+use Rattle.state_laws.proofs.Laws.{answered_may}
 use Rattle.shared_state.proofs.state.State.put.Goals as goal
 
 pub returns-clause-kept : goal.returns-clause-kept

@@ -1,5 +1,5 @@
-use Rattle.shared_state.specs.Seen.{seen_of}
-use Rattle.shared_state.proofs.Reshaped.{agrees_shape}
+use Rattle.state_laws.specs.Seen.{seen_of}
+use Rattle.state_laws.proofs.Laws.{agrees_shape}
 use Rattle.shared_state.proofs.state.State.reshape.Goals as goal
 
 pub make_shape-requires-clause-array : goal.make_shape-requires-clause-array

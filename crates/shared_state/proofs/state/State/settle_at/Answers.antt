@@ -3,11 +3,12 @@ use Rattle.std.specs.Prelude.{◌==◌, string_bytes}
 use Rattle.chunk_cache.specs.Cache.{after_keep}
 use Rattle.history.specs.Arrays.{is_local}
 use Rattle.history.specs.Chunks.{Chunk}
-use Rattle.shared_state.specs.Agreement.{Agrees}
-use Rattle.shared_state.specs.Log.{Log, StateOf, log_of}
-use Rattle.shared_state.specs.Seen.{seen_of}
-use Rattle.shared_state.specs.Fetches.{settled, generation_in}
-use Rattle.shared_state.proofs.Cached.{agrees_settled, either_way}
+use Rattle.state_laws.specs.Agreement.{Agrees}
+use Rattle.state_laws.specs.Log.{Log, StateOf, log_of}
+use Rattle.state_laws.specs.Seen.{seen_of}
+use Rattle.state_laws.specs.Fetches.{settled, generation_in}
+use Rattle.state_laws.proofs.Laws.{agrees_settled}
+use Rattle.shared_state.proofs.Cases.{either_way}
 use Rattle.shared_state.proofs.state.State.settle_at.Goals as goal
 
 pub returns-clause-kept : goal.returns-clause-kept

@@ -1,7 +1,7 @@
 use Rattle.std.proofs.Common.{sym, ap, ◌∙◌}
 use Rattle.std.specs.Option.{option_copied}
 use Rattle.history.proofs.Known.{none_is_none}
-use Rattle.shared_state.specs.Log.{StateOf, cells_held}
+use Rattle.state_laws.specs.Log.{StateOf, cells_held}
 use Rattle.shared_state.proofs.state.State.share_held.Goals as goal
 
 pub unreachable-requires : goal.unreachable-requires

@@ -3,10 +3,10 @@ use Rattle.std.proofs.lemmas.Result.{IfOk-weaker}
 use Rattle.chunk_cache.specs.Cache.{kept}
 use Rattle.history.specs.Arrays.{Known, known_after, is_local}
 use Rattle.history.specs.Chunks.{Chunk}
-use Rattle.shared_state.specs.Seen.{seen_of}
-use Rattle.shared_state.specs.Log.{Log}
-use Rattle.shared_state.specs.Looks.{IsLook}
-use Rattle.shared_state.specs.Fetches.{HasFailed}
+use Rattle.state_laws.specs.Seen.{seen_of}
+use Rattle.state_laws.specs.Log.{Log}
+use Rattle.state_laws.specs.Looks.{IsLook}
+use Rattle.state_laws.specs.Fetches.{HasFailed}
 use Rattle.shared_state.proofs.Looked.{look_back, stored_mount, kept_none}
 use Rattle.shared_state.proofs.state.State.stored_look.Goals as goal
 

@@ -6,8 +6,8 @@ use Rattle.history.specs.declared.array.ArrayInfo.{ArrayInfo}
 use Rattle.history.specs.Arrays.{Known, known_after}
 use Rattle.history.specs.Places.{IsTable, location}
 use Rattle.history.proofs.Known.{some_inj}
-use Rattle.shared_state.specs.Log.{StateOf}
-use Rattle.shared_state.proofs.Keyed.{of_table, places_apart, stored_some, nothing_above, not_named}
+use Rattle.state_laws.specs.Log.{StateOf}
+use Rattle.state_laws.proofs.Laws.{of_table, places_apart, stored_some, nothing_above, not_named}
 use Rattle.shared_state.proofs.state.State.stored_of.Goals as goal
 
 pub returns-in_err-number-clause-none : goal.returns-in_err-number-clause-none

@@ -4,7 +4,7 @@ use Rattle.history.specs.Own.{opened_event, fault}
 use Rattle.history.specs.Places.{IsTable, IsFree}
 use Rattle.history.proofs.Tabled.{table_opened, table_same}
 use Rattle.run_records.specs.Recorded.{RecordsOf}
-use Rattle.shared_state.specs.Log.{StateOf}
+use Rattle.state_laws.specs.Log.{StateOf}
 use Rattle.shared_state.proofs.Tables.{table_back}
 use Rattle.shared_state.proofs.state.State.write_new.Goals as goal
 
