@@ -1,6 +1,5 @@
 pub mod Cases
 pub mod Looked
-pub mod Tables
 pub mod Answered
 pub mod Beside
 pub mod Written

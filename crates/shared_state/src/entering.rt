@@ -12,9 +12,9 @@ ghost use Rattle.state_laws.specs.Placed.{IsNext, entered};
 
 use crate::state::State;
 use cells::Name;
-use kv_face::{Change, KvError, KvStore};
+use kv_face::{Change, KvStore};
 use state_laws::{NewArray, OpenError, Opened};
-use state_parts::add_new;
+use state_parts::{add_new, make_place, write_array};
 
 impl<K: KvStore> State<K> {
     /// Enters an array whose metadata the store has.
@@ -61,19 +61,22 @@ impl<K: KvStore> State<K> {
         ensures memory { result ≡ Err OpenError.Memory → self.new.log ≡ self.old.log }
         ensures errors { OnErr result (IsStoreError result) }
     {
-        self.records.reserve()?;
-        self.places.put(self.alloc, location, new.info.number)?;
-        match self.store.apply(changes) {
-            Ok(()) => Ok(add_new(&mut self.records, owner, new)),
-            Err(KvError::Failed) => {
-                self.places.remove(location);
-                let event = self.records.add_fault(owner, mount);
-                Err(OpenError::StoreFailed { event })
-            }
-            Err(KvError::Memory) => {
-                self.places.remove(location);
-                Err(OpenError::Memory)
-            }
-        }
+        make_place(
+            self.alloc,
+            &mut self.records,
+            &mut self.places,
+            location,
+            new.info.number,
+        )?;
+        write_array(
+            &mut self.records,
+            &mut self.places,
+            &mut self.store,
+            owner,
+            location,
+            mount,
+            new,
+            changes,
+        )
     }
 }

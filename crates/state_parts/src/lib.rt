@@ -13,6 +13,7 @@ mod index;
 mod metadata;
 mod names;
 mod place;
+mod writing;
 
 pub use applying::apply;
 pub use arrays::{given_array, new_array};
@@ -23,3 +24,4 @@ pub use index::is_index_of;
 pub use metadata::metadata_change;
 pub use names::{local_at, name_in};
 pub use place::{copy_name, copy_sizes, place_of};
+pub use writing::{make_place, write_array};
