@@ -9,7 +9,9 @@ ghost use Rattle.chunk_laying.specs.Laid.{IsChunkOf};
 use crate::fault::Fault;
 use crate::read::{member, sizes, told, word_of};
 use cells::{Dense, Dtype, MOST_CHUNK_CELLS, Sizes, count_cells, is_chunk_shape};
-use chunk_laying::{count_cut, covers, cut, cut_chunks, is_chunk_of, is_cut_in_part, is_gone, lay};
+use chunk_laying::{
+    count_cut, covers, cut, cut_chunks, is_chunk_of, is_cut_in_part, is_gone, lay, stays_within,
+};
 use rebase_writes::Staged;
 use serde_json::Value;
 use std::alloc::Global;
@@ -90,6 +92,7 @@ fn of_chunk(
         "part" => part(alloc, chunks, &sizes(alloc, v, "old")?, shape, chunk),
         "cut" => cut_one(alloc, v, shape, chunk, &base(alloc, v, chunks)?),
         "covers" => covered(shape, chunks, chunk, alloc, &staged(alloc, v, chunks)?),
+        "within" => within(shape, chunks, chunk, alloc, &staged(alloc, v, chunks)?),
         "lay" => over_nothing(alloc, v, shape, chunks, chunk, &staged(alloc, v, chunks)?),
         "lay_over" => { over_base(alloc, v, shape, chunks, chunk, &staged(alloc, v, chunks)?) }
         _ => Err(Fault::Line),
@@ -137,6 +140,19 @@ fn covered(
     requires staged { length staged.now ≡ cell_count chunks.now }
 {
     told(alloc, &covers(shape, chunks, chunk, staged))
+}
+
+fn within(
+    shape: &[u64],
+    chunks: &[u64],
+    chunk: &[u64],
+    alloc: Global,
+    staged: &Staged,
+) -> Result<String, Fault>
+    requires chunk { IsChunkOf shape.now chunks.now chunk.now }
+    requires staged { length staged.now ≡ cell_count chunks.now }
+{
+    told(alloc, &stays_within(shape, chunks, chunk, staged))
 }
 
 fn over_nothing(

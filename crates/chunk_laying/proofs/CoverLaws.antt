@@ -30,17 +30,17 @@ row-fits row count len cells lt all =
     let same : (row + 1) * len ≡ row * len + 1 * len = add-mul row 1 len in
     omega arith
 
-to_less : (a b : ℕ) → a < b → nat_lt a b ≡ true
+pub to_less : (a b : ℕ) → a < b → nat_lt a b ≡ true
 to_less a b h = grind (arith, nat_tests, h)
 
-to_not_less : (a b : ℕ) → b ≤ a → nat_lt a b ≡ false
+pub to_not_less : (a b : ℕ) → b ≤ a → nat_lt a b ≡ false
 to_not_less a b h = grind (arith, nat_tests, h)
 
 less : (a b : ℕ) → nat_lt a b ≡ true → a < b
 less a b h = grind (arith, nat_tests, h)
 
 -- the test of a place in a row
-in_row : (test : ℕ → Bool) (row len inside p : ℕ) → ((i : ℕ) → i < len → test (row * len + i) ≡ nat_lt i inside) → row * len ≤ p → p < row * len + len → test p ≡ nat_lt (p - row * len) inside
+pub in_row : (test : ℕ → Bool) (row len inside p : ℕ) → ((i : ℕ) → i < len → test (row * len + i) ≡ nat_lt i inside) → row * len ≤ p → p < row * len + len → test p ≡ nat_lt (p - row * len) inside
 in_row test row len inside p is low high =
     let split : p ≡ row * len + (p - row * len) = omega arith in
     ap test split ∙ is (p - row * len) (omega arith)

@@ -3,6 +3,7 @@ pub mod PassLaws
 pub mod NthLaws
 pub mod RowLaws
 pub mod CoverLaws
+pub mod BareLaws
 pub mod SnapshotLaws
 pub mod LayLaws
 pub mod StartLaws

@@ -1,5 +1,5 @@
 -- A chunk's words once staged words are laid over it, and once its array has another shape.
-use Rattle.std.specs.Prelude.{◌≡◌, ℕ, true, List, length, Option, Some, None, IsSome, unwrap_or, if◌then◌else◌}
+use Rattle.std.specs.Prelude.{false, ◌≡◌, ℕ, true, List, length, Option, Some, None, IsSome, unwrap_or, if◌then◌else◌}
 use Rattle.cells.specs.Dense.{DenseCells}
 use Rattle.cells.specs.Elements.{word_at}
 use Rattle.cells.specs.Places.{IsInside, c_place}
@@ -18,6 +18,11 @@ pub record IsChunkOf (shape chunk_shape chunk : List ℕ) : Type 0 where
 abbrev pub IsCovered : List ℕ → List ℕ → List ℕ → List (Option ℕ) → Type 0
 IsCovered shape chunk_shape chunk staged = (index : List ℕ) → IsInside chunk_shape index → is_inside shape (in_array chunk_shape chunk index) ≡ true
     → IsSome (staged_at staged (c_place chunk_shape index))
+
+-- each staged word is of a cell that lies in the array's shape
+abbrev pub IsStagedWithin : List ℕ → List ℕ → List ℕ → List (Option ℕ) → Type 0
+IsStagedWithin shape chunk_shape chunk staged = (index : List ℕ) → IsInside chunk_shape index → is_inside shape (in_array chunk_shape chunk index) ≡ false
+    → staged_at staged (c_place chunk_shape index) ≡ None
 
 -- the word that a chunk has where none is staged; without a chunk it is the fill
 abbrev pub word_under : Option DenseCells → ℕ → List ℕ → ℕ

@@ -1,8 +1,8 @@
 //! What a commit or a new shape does to the cells of one chunk, and which chunks a new shape cuts.
 //!
 //! Crates above rest on three things: `lay` and `cut` give a chunk's words cell by cell, with the fill past the array's
-//! shape, `covers` tells whether a commit needs the chunk that there is, and cut chunks are counted and listed without a walk
-//! over the others.
+//! shape, `covers` tells whether a commit needs the chunk that there is, `stays_within` whether it puts a word past the shape, and cut
+//! chunks are counted and listed without a walk over the others.
 #![tactic(auto)]
 
 mod asking;
@@ -12,6 +12,7 @@ mod laying;
 mod listing;
 mod remaining;
 mod rows;
+mod within;
 
 pub use asking::is_chunk_of;
 pub use counting::{MOST_CUT_CHUNKS, count_cut};
@@ -19,3 +20,4 @@ pub use covering::covers;
 pub use laying::{cut, lay};
 pub use listing::cut_chunks;
 pub use remaining::{is_cut_in_part, is_gone};
+pub use within::stays_within;

@@ -5,6 +5,7 @@ ghost use Rattle.state_laws.specs.Fetches.{IsChunkOf};
 ghost use Rattle.state_cases.specs.Ready.{IsReady};
 
 use crate::fault::Fault;
+use crate::planning::plan;
 use crate::read::{number, owner, sizes, told};
 use crate::settling::settle;
 use kv_face::KvStore;
@@ -22,12 +23,21 @@ pub(crate) fn chunk<K: KvStore>(
     ensures { IsReady (seen_of K.contents K.faults K.prefixes K.names K.standing K.change_count state.new.store) state.new.log }
 {
     let chunk = sizes(alloc, v, "chunk")?;
-    of_chunk(alloc, call, owner(v)?, number(v, "array")?, &chunk, state)
+    of_chunk(
+        alloc,
+        call,
+        v,
+        owner(v)?,
+        number(v, "array")?,
+        &chunk,
+        state,
+    )
 }
 
 fn of_chunk<K: KvStore>(
     alloc: Global,
     call: &str,
+    v: &Value,
     owner: u32,
     array: u64,
     chunk: &[u64],
@@ -45,6 +55,7 @@ fn of_chunk<K: KvStore>(
         "kept" => kept(alloc, array, chunk, state),
         "settle" => settle(alloc, owner, array, chunk, state),
         "key" => key(alloc, array, chunk, state),
+        "plan" => plan(alloc, owner, array, chunk, v, state),
         _ => Err(Fault::Line),
     }
 }

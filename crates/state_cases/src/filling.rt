@@ -45,7 +45,7 @@ fn content(alloc: Global, v: &Value) -> Result<Vec<u8>, Fault> {
     }
 }
 
-fn bytes(alloc: Global, items: &[Value]) -> Result<Vec<u8>, Fault> {
+pub(crate) fn bytes(alloc: Global, items: &[Value]) -> Result<Vec<u8>, Fault> {
     let mut bytes = Vec::with_capacity(alloc, items.len())?;
     for item in items {
         bytes.push(byte(item)?)?;

@@ -9,6 +9,7 @@ mod chunks;
 mod fault;
 mod filling;
 mod opens;
+mod planning;
 mod read;
 mod runs;
 mod settling;

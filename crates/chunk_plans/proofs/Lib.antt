@@ -1,0 +1,9 @@
+pub mod Reached
+pub mod LeftLaws
+pub mod Kept
+pub mod Forms
+pub mod Same
+pub mod Laws
+pub mod Plans
+pub mod Holding
+pub mod Usable

@@ -1,0 +1,47 @@
+// What is left of a stored chunk.
+ghost use Rattle.std.specs.Prelude.{◌≡◌, IfOk, length, option_map, true, false};
+ghost use Rattle.std.specs.Option.{ForSome};
+ghost use Rattle.cells.specs.Numbers.{IsWord};
+ghost use Rattle.cells.specs.Places.{cell_count};
+ghost use Rattle.chunk_forms.specs.Metadata.{is_local, shape_of, chunk_shape_of, dtype_of, fill_of};
+ghost use Rattle.history.specs.Resizes.{reaches_into};
+ghost use Rattle.rebase_writes.specs.Staged.{AreWords};
+ghost use Rattle.chunk_laying.specs.Laid.{IsChunkOf, laid_word};
+ghost use Rattle.chunk_plans.specs.Left.{IsLeft};
+
+use cells::{Dense, List};
+use chunk_forms::{Form, encode_form};
+use chunk_laying::lay;
+use rebase_writes::Staged;
+use std::alloc::{AllocError, Global};
+
+/// The bytes of a chunk with the staged words over a base's, or none where every cell has the fill.
+pub(crate) fn left_over(
+    alloc: Global,
+    form: &Form,
+    chunk: &[u64],
+    staged: &Staged,
+    base: Option<&Dense>,
+) -> Result<Option<List<u8>>, AllocError>
+    requires stored { is_local form.now ≡ false }
+    requires fill { IsWord (dtype_of form.now) (fill_of form.now) }
+    requires chunk { IsChunkOf (shape_of form.now) (chunk_shape_of form.now) chunk.now }
+    requires reached { reaches_into (chunk_shape_of form.now) (shape_of form.now) chunk.now ≡ true }
+    requires size { length staged.now ≡ cell_count (chunk_shape_of form.now) }
+    requires words { AreWords (dtype_of form.now) staged.now }
+    requires base_dtype { ForSome base (λ b. b.now.dtype ≡ dtype_of form.now) }
+    requires base_shape { ForSome base (λ b. b.now.shape ≡ chunk_shape_of form.now) }
+    ensures { IfOk result (λ bytes. IsLeft form.now chunk.now staged.now (option_map (λ b. b.now) base.entry) bytes) }
+{
+    let cells = lay(
+        alloc,
+        form.shape(),
+        chunk,
+        form.fill(),
+        staged,
+        base,
+        form.dtype(),
+        form.chunk_shape(),
+    )?;
+    encode_form(alloc, form, chunk, form.fill(), &cells)
+}

@@ -1,0 +1,24 @@
+use cells::{List, Name, Sizes};
+use rebase_writes::Staged;
+
+/// Bytes of a chunk that were prepared before its commit.
+#[derive(Drop)]
+pub struct Ready {
+    /// The chunk's generation then. `None` where every cell of the chunk in the array's shape is staged, so that it doesn't matter.
+    pub generation: Option<u64>,
+    /// The number of the event that had given the array its shape, 0 where that was its opening.
+    pub resized: u64,
+    /// The bytes, or none where every cell has the fill.
+    pub bytes: Option<List<u8>>,
+}
+
+/// What a transaction has staged for a chunk.
+#[derive(Drop)]
+pub struct ChunkWrite {
+    pub array: u64,
+    pub chunk: Sizes,
+    pub key: Name,
+    /// A word or none for each cell of the chunk, in C order.
+    pub staged: Staged,
+    pub ready: Option<Ready>,
+}
