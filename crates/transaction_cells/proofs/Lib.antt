@@ -1,0 +1,9 @@
+pub mod RunLaws
+pub mod ToldLaws
+pub mod PlaceLaws
+pub mod TableLaws
+pub mod CutLaws
+pub mod PieceLaws
+pub mod StagingLaws
+pub mod WrittenLaws
+pub mod OperationLaws

@@ -1,0 +1,9 @@
+pub mod Sites
+pub mod Lanes
+pub mod Found
+pub mod Cuts
+pub mod Casting
+pub mod Pieces
+pub mod Staging
+pub mod Tables
+pub mod Operations

@@ -1,0 +1,17 @@
+//! The cells of a transaction: where those of a view lie by chunks, and what is staged of each chunk.
+//!
+//! Crates above rest on two things: `locate` has each cell of a view once, in its chunk at its place, and `Staging` has at
+//! each cell the word that the transaction's operations put there last.
+#![tactic(auto)]
+
+mod cuts;
+mod lane;
+mod lanes;
+mod locating;
+mod staging;
+mod view_cells;
+
+pub use lane::Lane;
+pub use locating::locate;
+pub use staging::Staging;
+pub use view_cells::{Piece, ViewCells};

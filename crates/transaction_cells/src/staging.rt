@@ -1,0 +1,130 @@
+ghost use Rattle.std.specs.Prelude.{◌≡◌, ◌∷◌, ◌++◌, [], ℕ, List, length, OnOk, OnErr};
+ghost use Rattle.std.specs.List.{AllByRecursion};
+ghost use Rattle.cells.specs.Runs.{IsRunInside};
+ghost use Rattle.history.specs.History.{History};
+ghost use Rattle.history.specs.declared.event.Op.{Op};
+ghost use Rattle.history.specs.declared.event.Op.TheVariants as op;
+ghost use Rattle.stack_driver.specs.declared.view.View.{View};
+ghost use Rattle.stack_targets.specs.Landings.{leaves_of};
+ghost use Rattle.transaction_cells.specs.Operations.{AreStaged, HasSites, IsLeafIn};
+ghost use Rattle.transaction_cells.specs.Found.{found};
+ghost use Rattle.transaction_cells.specs.Pieces.{AreCells};
+ghost use Rattle.transaction_cells.specs.Sites.{Site, sites_of};
+ghost use Rattle.transaction_cells.specs.Staging.{staged_of, word_in, written_at, CanStage};
+ghost use Rattle.transaction_cells.specs.Tables.{prepared, HasSameWords, MayWrite, pieces_written, runs_written};
+
+use crate::view_cells::{Piece, ViewCells};
+use cells::Run;
+use rebase_writes::Staged;
+use std::alloc::{AllocError, Global};
+use std::collections::BTreeMap;
+use std::marker::Model;
+
+/// Staged cells by the ids of their chunks.
+type Table = BTreeMap<Vec<u64>, Staged>;
+
+/// What a transaction has written and not yet committed, by chunks. A contract sees the chunks in the order of their ids.
+#[derive(Drop)]
+pub struct Staging {
+    table: Table,
+}
+
+impl Model for Staging {
+    ghost use Rattle.std.specs.Prelude.{List};
+    ghost use Rattle.transaction_cells.specs.Staging.{StagedChunk, chunks_of};
+
+    ghost Value = { List StagedChunk };
+
+    ghost view = { λ s. chunks_of s.table.entries };
+}
+
+impl Staging {
+    /// Nothing staged.
+    pub fn new(alloc: Global) -> Self
+        ensures { result ≡ [] }
+    {
+        Staging {
+            table: BTreeMap::new(alloc),
+        }
+    }
+
+    /// Stages the words of a view, cell by cell: each, taken back through the casts of its cell, at the place where the cell lies. The
+    /// last word of a cell counts.
+    ///
+    /// # Errors
+    /// Want of memory alone. No word is staged then that wasn't before.
+    pub fn stage(
+        &mut self,
+        alloc: Global,
+        cells: &ViewCells,
+        words: &[u64],
+    ) -> Result<(), AllocError>
+        requires { CanStage self.old cells.now (length words.now) }
+        ensures ok { OnOk result ((sites : List Site) → AreCells sites cells.now → (id : List ℕ)
+            → staged_of self.new id ≡ written_at id sites words.now (staged_of self.old id)) }
+        ensures history { OnOk result ((events : History) (v : View) (ops : List Op) → AllByRecursion (IsLeafIn events) (leaves_of v) → HasSites v → AreCells (sites_of v) cells.now
+            → AreStaged events ops self.old → AreStaged events (ops ++ op.Write v words.now ∷ []) self.new) }
+        ensures err { OnErr result ((id : List ℕ) (place : ℕ) → word_in self.new id place ≡ word_in self.old id place) }
+    {
+        let kept = cells.back(alloc, words)?;
+        let pieces = cells.pieces.items();
+        prepare(alloc, &mut self.table, pieces)?;
+        write(&mut self.table, pieces, &kept);
+        Ok(())
+    }
+}
+
+// Makes an entry for each piece that has none.
+fn prepare(alloc: Global, table: &mut Table, pieces: &[Piece]) -> Result<(), AllocError>
+    ensures ok { OnOk result ((id : List ℕ) → found table.new.entries id ≡ prepared pieces.now id (found table.old.entries id)) }
+    ensures words { (id : List ℕ) → HasSameWords (found table.old.entries id) (found table.new.entries id) }
+{
+    for piece in pieces {
+        add(alloc, table, piece)?;
+    }
+    Ok(())
+}
+
+fn add(alloc: Global, table: &mut Table, piece: &Piece) -> Result<(), AllocError>
+    ensures ok { OnOk result ((id : List ℕ) → found table.new.entries id ≡ prepared (piece.now ∷ []) id (found table.old.entries id)) }
+    ensures err { OnErr result (table.new.entries ≡ table.old.entries) }
+{
+    if table.contains_key(piece.id.items()) {
+        return Ok(());
+    }
+    let staged = Staged::new(alloc, piece.size as usize)?;
+    let id = Vec::from_slice(alloc, piece.id.items())?;
+    match table.insert(id, staged) {
+        Ok(_) => Ok(()),
+        Err(_) => Err(AllocError),
+    }
+}
+
+// Writes the words of each piece along its runs.
+fn write(table: &mut Table, pieces: &[Piece], words: &[u64])
+    requires { (id : List ℕ) → MayWrite pieces.now id (length words.now) (found table.old.entries id) }
+    ensures { (id : List ℕ) → found table.new.entries id ≡ pieces_written pieces.now id words.now (found table.old.entries id) }
+{
+    for piece in pieces {
+        write_piece(table, piece, words);
+    }
+}
+
+fn write_piece(table: &mut Table, piece: &Piece, words: &[u64])
+    requires { (id : List ℕ) → MayWrite (piece.now ∷ []) id (length words.now) (found table.old.entries id) }
+    ensures { (id : List ℕ) → found table.new.entries id ≡ pieces_written (piece.now ∷ []) id words.now (found table.old.entries id) }
+{
+    let Some(staged) = table.get_mut(piece.id.items()) else {
+        unreachable!();
+    };
+    write_runs(staged, piece.runs.items(), words);
+}
+
+fn write_runs(staged: &mut Staged, runs: &[Run], words: &[u64])
+    requires { AllByRecursion (λ run. IsRunInside run (length words.now) (length staged.old)) runs.now }
+    ensures { staged.new ≡ runs_written runs.now words.now staged.old }
+{
+    for run in runs {
+        staged.write_run(run, words);
+    }
+}

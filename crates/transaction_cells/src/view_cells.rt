@@ -1,0 +1,61 @@
+ghost use Rattle.std.specs.Prelude.{◌≡◌, length, IfOk};
+ghost use Rattle.std.specs.List.{AllByRecursion};
+ghost use Rattle.transaction_cells.specs.Casting.{HasLane, taken_back};
+
+use crate::lane::Lane;
+use cells::{List, Run, Sizes};
+use std::alloc::{AllocError, Global};
+
+/// A chunk that a view touches, and the view's cells in it.
+#[derive(Debug, Drop)]
+pub struct Piece {
+    /// The number of the chunk's array, and behind it the chunk's index.
+    pub id: Sizes,
+    /// How many cells the chunk has.
+    pub size: u64,
+    /// Places in the view beside places in the chunk, in C order.
+    pub runs: List<Run>,
+}
+
+/// Where the cells of a view lie.
+#[derive(Debug, Drop)]
+pub struct ViewCells {
+    /// For each cell in C order the number of its leaf.
+    pub leaves: List<u32>,
+    /// What each leaf tells.
+    pub lanes: List<Lane>,
+    /// The chunks that the view touches: arrays in the order of their numbers, and the chunks of one in lexical order.
+    pub pieces: List<Piece>,
+}
+
+impl ViewCells {
+    /// The words that are kept for those that a view shows, cell by cell: each taken back through the casts of its leaf.
+    ///
+    /// # Errors
+    /// Want of memory alone.
+    pub fn back(&self, alloc: Global, words: &[u64]) -> Result<Vec<u64>, AllocError>
+        requires count { length words.now ≡ length self.now.leaves }
+        requires lanes { AllByRecursion (HasLane self.now.lanes) self.now.leaves }
+        ensures { IfOk result (λ kept. kept.items ≡ taken_back self.now.lanes self.now.leaves words.now) }
+    {
+        back(alloc, self.lanes.items(), self.leaves.items(), words)
+    }
+}
+
+fn back(
+    alloc: Global,
+    lanes: &[Lane],
+    leaves: &[u32],
+    words: &[u64],
+) -> Result<Vec<u64>, AllocError>
+    requires count { length words.now ≡ length leaves.now }
+    requires lanes { AllByRecursion (HasLane lanes.now) leaves.now }
+    ensures { IfOk result (λ kept. kept.items ≡ taken_back lanes.now leaves.now words.now) }
+{
+    let mut kept = Vec::with_capacity(alloc, words.len())?;
+    for (cell, leaf) in leaves.iter().enumerate() {
+        let lane = &lanes[*leaf as usize];
+        kept.push(lane.casts.back(words[cell]))?;
+    }
+    Ok(kept)
+}
