@@ -7,3 +7,5 @@ pub mod PieceLaws
 pub mod StagingLaws
 pub mod WrittenLaws
 pub mod OperationLaws
+pub mod NeedLaws
+pub mod Laws

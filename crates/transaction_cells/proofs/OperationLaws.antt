@@ -1,6 +1,10 @@
 -- What is staged after a write is what the operations with it write.
-use Rattle.std.proofs.Common.{◌≡◌, ◌∙◌, ℕ, zero, suc, ◌<◌, ◌==◌, ◌||◌, Bool, true, false, cond, List, [], ◌∷◌, ◌++◌, length, map, set, get_or, replicate, Option, Some, None, Result, Ok, Err, refl, sym, ap, subst, arith, unwrap_or, eqb-true, append_assoc, get_or-set_other, get_or-set_same}
-use Rattle.std.specs.Prelude.{is_some, filter_map}
+use Rattle.std.proofs.Common.{◌≡◌, ◌∙◌, ℕ, zero, suc, ◌<◌, ◌≤◌, ◌^◌, ◌+◌, ◌==◌, ◌&&◌, ◌||◌, not, Bool, true, false, cond, List, [], ◌∷◌, ◌++◌, length, map, set, get_or, replicate, Option, Some, None, Result, Ok, Err, refl, sym, ap, subst, arith, unwrap_or, eqb-true, append_assoc, get_or-set_other, get_or-set_same}
+use Rattle.std.specs.Prelude.{is_some, is_none, filter, filter_map}
+use Rattle.history.specs.Reads.{is_put, target_cell, unwritten}
+use Rattle.transaction_cells.specs.Needs.{is_bare, needs}
+use Rattle.transaction_cells.specs.declared.view_cells.Piece.{Piece}
+use Rattle.transaction_cells.proofs.NeedLaws.{piece_pairs}
 use Rattle.std.specs.List.{AllByRecursion, list_any, fold, zip}
 use Rattle.std.specs.Str.{bytes_eq}
 use Rattle.std.proofs.lemmas.Bool.Decides.{nat_tests}
@@ -31,8 +35,15 @@ use Rattle.stack_targets.specs.declared.error.TargetsError.{TargetsError}
 use Rattle.cells.proofs.Laws.{both, both_true}
 use Rattle.transaction_cells.proofs.ToldLaws.{all_landed}
 use Rattle.transaction_cells.specs.Lanes.{HasGrid}
-use Rattle.transaction_cells.specs.Sites.{Site, sites_of, sites_in, site_of, id_of, IsLanded}
-use Rattle.transaction_cells.specs.Staging.{StagedChunk, staged_of, with_word, written_at}
+use Rattle.transaction_cells.specs.Sites.{Site, sites_of, sites_in, site_of, id_of, IsLanded, pairs_at}
+use Rattle.transaction_cells.specs.Pieces.{AreCells, IsPiece}
+use Rattle.transaction_cells.specs.declared.view_cells.ViewCells.{ViewCells}
+use Rattle.history.proofs.Shrinks.{known_still}
+use Rattle.history.specs.Legal.{IsLegal}
+use Rattle.history.specs.Refs.{IsKnownRef}
+use Rattle.kv_face.specs.Store.{Contents}
+use Rattle.stack_driver.specs.References.{Reference}
+use Rattle.transaction_cells.specs.Staging.{word_in, StagedChunk, IsSized, CanStage, staged_of, with_word, written_at}
 use Rattle.transaction_cells.proofs.PlaceLaws.{inside_within, place-lt}
 
 -- what words put at the cells of sites
@@ -329,3 +340,129 @@ staged_more events v ops words old new leaves has is h =
           sized_after (array ∷ index) (cell_count (chunk_shape k.info)) sites words (staged_of old (array ∷ index)) (all_fit events sites array index k there known)
           (λ c f. h.sizes array index k c there f) cells (sym (is (array ∷ index)) ∙ e);
     }
+
+-- what is staged by operations has the sizes of the chunks of a view, and their cells lie in them
+staged_sites : (events : History) (ops : List Op) (chunks : List StagedChunk) (sites : List Site) → AllByRecursion (IsSiteIn events) sites → AreStaged events ops chunks
+    → AllByRecursion (IsSized chunks) sites × AllByRecursion (λ (s : Site). s.place < s.size) sites × AllByRecursion (λ (s : Site). s.size ≤ 2 ^ 24) sites
+staged_sites events ops chunks [] all h = (tt, tt, tt)
+staged_sites events ops chunks (s ∷ sites) all h =
+    let rest = staged_sites events ops chunks sites all.1 h in
+    let is = all.0 in
+    let ns = chunk_shape is.array.info in
+    let below = place-lt ns s.target.cell.index is.shape is.rank in
+    let volume = is.shape.volume in
+    let size = is.size in
+    let place = is.place in (
+      (λ cells there. h.sizes s.target.cell.array (chunk_index ns s.target.cell.index) is.array cells is.known (ap (staged_of chunks) (sym is.id) ∙ there) ∙ sym is.size, rest.0),
+      (omega (arith, below, size, place), rest.1),
+      (omega (arith, volume, size), rest.2),
+    )
+
+-- so words may be staged through a view of arrays of the history
+pub can_stage : (events : History) (v : View) (ops : List Op) (chunks : List StagedChunk) (cells : ViewCells) → AllByRecursion (IsLeafIn events) (leaves_of v) → HasSites v → AreCells (sites_of v) cells → AreStaged events ops chunks
+    → CanStage chunks cells (length (sites_of v))
+can_stage events v ops chunks cells leaves has are h =
+    let parts = staged_sites events ops chunks (sites_of v) (known_sites events v leaves has.grids) h in
+    record { sites = sites_of v; are = are; counted = refl; sized = parts.0; inside = parts.1; small = parts.2 }
+
+-- nothing is staged by no operations
+pub none_staged : (events : History) → AreStaged events [] []
+none_staged events = record {
+  words = λ x k there rank. refl;
+  there = λ id. refl;
+  sizes = λ array index k cells there e. absurd (let no_such : ⊥ = cc in no_such);
+}
+
+-- a leaf with a known reference is of its array
+pub leaf_in : (start : Contents) (events : History) (seen : Seen) → IsLegal start events → IsKnownRef events seen.array → IsLeafIn events seen
+leaf_in start events seen legal ref =
+    let still = known_still start events seen.array.number ref.seen ref.array legal ref.known in
+    record {
+      array = still.0;
+      known = still.1;
+      chunk = ap (λ (r : Reference). r.chunk) ref.same ∙ ap chunk_shape (sym still.2);
+    }
+
+-- a word is there where one was, or where one is put
+some_put : (ps : List Put) (content : Content) (x : Cell) → is_some (fold put content ps x) ≡ (is_some (content x) || is_put ps x)
+some_put [] content x = sym (or_no (is_some (content x)))
+  where
+    or_no : (b : Bool) → (b || false) ≡ b
+    or_no true = refl
+    or_no false = refl
+some_put (p ∷ ps) content x = some_put ps (put content p) x ∙ told (is_cell p.0 x)
+  where
+    told : (b : Bool) → (is_some (cond b (Some p.1) (content x)) || is_put ps x) ≡ (is_some (content x) || (b || is_put ps x))
+    told true = sym (or_true (is_some (content x)))
+    told false = refl
+
+none_or_some : (o : Option ℕ) → is_none o ≡ not (is_some o)
+none_or_some None = refl
+none_or_some (Some w) = refl
+
+-- of a chunk's pairs one is bare where one of its sites is
+bare_sites : (id : List ℕ) (cells : List (Option ℕ)) (k : ℕ) (sites : List Site) → list_any (is_bare cells) (pairs_at id k sites) ≡ list_any (λ (s : Site). bytes_eq s.id id && is_none (staged_at cells s.place)) sites
+bare_sites id cells k [] = refl
+bare_sites id cells k (s ∷ sites) = told (bytes_eq s.id id) (bare_sites id cells (k + 1) sites)
+  where
+    told : (b : Bool) → list_any (is_bare cells) (pairs_at id (k + 1) sites) ≡ list_any (λ (t : Site). bytes_eq t.id id && is_none (staged_at cells t.place)) sites
+        → list_any (is_bare cells) (cond b (record { view = k; chunk = s.place } ∷ pairs_at id (k + 1) sites) (pairs_at id (k + 1) sites))
+        ≡ ((b && is_none (staged_at cells s.place)) || list_any (λ (t : Site). bytes_eq t.id id && is_none (staged_at cells t.place)) sites)
+    told true e = ap (λ c. is_none (staged_at cells s.place) || c) e
+    told false e = e
+
+any_kept : (keep test : Cell → Bool) (sites : List Site) → list_any test (filter keep (map (λ (s : Site). s.target.cell) sites)) ≡ list_any (λ (s : Site). keep s.target.cell && test s.target.cell) sites
+any_kept keep test [] = refl
+any_kept keep test (s ∷ sites) = told (keep s.target.cell) (any_kept keep test sites)
+  where
+    told : (b : Bool) → list_any test (filter keep (map (λ (t : Site). t.target.cell) sites)) ≡ list_any (λ (t : Site). keep t.target.cell && test t.target.cell) sites
+        → list_any test (cond b (s.target.cell ∷ filter keep (map (λ (t : Site). t.target.cell) sites)) (filter keep (map (λ (t : Site). t.target.cell) sites)))
+        ≡ ((b && test s.target.cell) || list_any (λ (t : Site). keep t.target.cell && test t.target.cell) sites)
+    told true e = ap (λ c. test s.target.cell || c) e
+    told false e = e
+
+named_cells : (sites : List Site) → filter_map target_cell (map (λ (s : Site). Ok s.target) sites) ≡ map (λ (s : Site). s.target.cell) sites
+named_cells [] = refl
+named_cells (s ∷ sites) = ap (λ xs. s.target.cell ∷ xs) (named_cells sites)
+
+-- a site is bare where no operation wrote its cell
+module _ (events : History) (ops : List Op) (chunks : List StagedChunk) (h : AreStaged events ops chunks) (id : List ℕ) where
+  bare_site : (s : Site) → IsSiteIn events s → (bytes_eq s.id id && is_none (staged_at (unwrap_or (staged_of chunks id) []) s.place)) ≡ (not (is_put (puts_of ops) s.target.cell) && bytes_eq (id_of (chunk_of events s.target.cell)) id)
+  bare_site s is =
+      let x = s.target.cell in
+      let named : s.id ≡ id_of (chunk_of events x) = is.id ∙ sym (ap (λ o. id_of (chunk_in o x)) is.known) in
+      told (bytes_eq s.id id) refl ∙ ap (λ xs. not (is_put (puts_of ops) s.target.cell) && bytes_eq xs id) named
+    where
+      and_no : (b : Bool) → (b && false) ≡ false
+      and_no true = refl
+      and_no false = refl
+
+      and_yes : (b : Bool) → (b && true) ≡ b
+      and_yes true = refl
+      and_yes false = refl
+
+      word : word_in chunks s.id s.place ≡ written ops no_content s.target.cell
+      word = (λ i. word_in chunks (is.id i) (is.place i)) ∙ h.words s.target.cell is.array is.known is.rank
+
+      told : (b : Bool) → bytes_eq s.id id ≡ b → (b && is_none (staged_at (unwrap_or (staged_of chunks id) []) s.place)) ≡ (not (is_put (puts_of ops) s.target.cell) && b)
+      told false e = sym (and_no (not (is_put (puts_of ops) s.target.cell)))
+      told true e =
+          let same : s.id ≡ id = (bytes_eq-Decides s.id id).0 e in
+          ap (λ xs. is_none (word_in chunks xs s.place)) (sym same) ∙ ap is_none word ∙ none_or_some (written ops no_content s.target.cell) ∙ ap not (some_put (puts_of ops) no_content s.target.cell)
+          ∙ sym (and_yes (not (is_put (puts_of ops) s.target.cell)))
+
+  bare_all : (sites : List Site) → AllByRecursion (IsSiteIn events) sites → list_any (λ (s : Site). bytes_eq s.id id && is_none (staged_at (unwrap_or (staged_of chunks id) []) s.place)) sites
+      ≡ list_any (λ (s : Site). not (is_put (puts_of ops) s.target.cell) && bytes_eq (id_of (chunk_of events s.target.cell)) id) sites
+  bare_all [] all = refl
+  bare_all (s ∷ sites) all = (λ i. bare_site s all.0 i || bare_all sites all.1 i)
+
+-- a read needs the chunk of a piece where the view names a cell of it that no operation wrote
+pub needs_unwritten : (events : History) (v : View) (ops : List Op) (chunks : List StagedChunk) (p : Piece) → AllByRecursion (IsLeafIn events) (leaves_of v) → HasSites v → IsPiece (sites_of v) p → AreStaged events ops chunks
+    → needs chunks p ≡ list_any (λ x. bytes_eq (id_of (chunk_of events x)) p.id) (unwritten ops v)
+needs_unwritten events v ops chunks p leaves has piece h =
+    let cells = unwrap_or (staged_of chunks p.id) [] in
+    ap (list_any (is_bare cells)) (piece_pairs (sites_of v) p piece)
+    ∙ bare_sites p.id cells 0 (sites_of v)
+    ∙ bare_all events ops chunks h p.id (sites_of v) (known_sites events v leaves has.grids)
+    ∙ sym (any_kept (λ x. not (is_put (puts_of ops) x)) (λ x. bytes_eq (id_of (chunk_of events x)) p.id) (sites_of v))
+    ∙ ap (λ xs. list_any (λ x. bytes_eq (id_of (chunk_of events x)) p.id) (filter (λ x. not (is_put (puts_of ops) x)) xs)) (sym (ap (filter_map target_cell) has.targets ∙ named_cells (sites_of v)))

@@ -109,7 +109,7 @@ rise_from id (s ∷ sites) n least le = told (bytes_eq s.id id) (rise_from id si
     told true h = (le, h)
     told false h = h
 
-rising_from : (id : List ℕ) (sites : List Site) (n : ℕ) → AreRising (pairs_at id n sites)
+pub rising_from : (id : List ℕ) (sites : List Site) (n : ℕ) → AreRising (pairs_at id n sites)
 rising_from id [] n = tt
 rising_from id (s ∷ sites) n = told (bytes_eq s.id id) (rising_from id sites (n + 1))
   where
@@ -215,7 +215,7 @@ piece_with (p ∷ pieces) id (zero, lt, is) = (p, Contains-here p pieces, is)
 piece_with (p ∷ pieces) id (suc k, lt, is) = let rest = piece_with pieces id (k, omega (arith, lt), is) in (rest.0, Contains-there p pieces rest.0 rest.1, rest.2)
 
 -- pairs of a chunk are of a site in it
-site_with : (id : List ℕ) (k : ℕ) (sites : List Site) (P : Site → Type 0) → pairs_at id k sites ≢ [] → AllByRecursion P sites → (s : Site) × P s × (s.id ≡ id)
+pub site_with : (id : List ℕ) (k : ℕ) (sites : List Site) (P : Site → Type 0) → pairs_at id k sites ≢ [] → AllByRecursion P sites → (s : Site) × P s × (s.id ≡ id)
 site_with id k [] P some all = absurd (some refl)
 site_with id k (s ∷ sites) P some all = told (bytes_eq s.id id) refl some (λ h. site_with id (k + 1) sites P h all.1)
   where
@@ -266,7 +266,7 @@ staged_is sites pieces words kept id cells are count is = told (pairs_at id 0 si
         ∙ sym (from_none p.id 0 p.size sites words cells h.some h.size count))
 
 -- there is room for the runs of each piece
-room_of : (sites : List Site) (p : Piece) (n : ℕ) (cells : Option (List (Option ℕ))) → IsPiece sites p → length sites ≤ n → AllByRecursion (λ (s : Site). s.place < s.size) sites
+pub room_of : (sites : List Site) (p : Piece) (n : ℕ) (cells : Option (List (Option ℕ))) → IsPiece sites p → length sites ≤ n → AllByRecursion (λ (s : Site). s.place < s.size) sites
     → ((c : List (Option ℕ)) → cells ≡ Some c → length c ≡ p.size) → HasRoom p.runs n (Some (unwrap_or cells (replicate p.size None)))
 room_of sites p n cells h few places sized =
     let size : length (unwrap_or cells (replicate p.size None)) ≡ p.size = by cells sized in
@@ -278,7 +278,7 @@ room_of sites p n cells h few places sized =
     by None h = length-replicate p.size None
     by (Some c) h = h c refl
 
-both_of : (P Q : Site → Type 0) (ss : List Site) → AllByRecursion P ss → AllByRecursion Q ss → AllByRecursion (λ (s : Site). P s × Q s) ss
+pub both_of : (P Q : Site → Type 0) (ss : List Site) → AllByRecursion P ss → AllByRecursion Q ss → AllByRecursion (λ (s : Site). P s × Q s) ss
 both_of P Q [] a b = tt
 both_of P Q (s ∷ ss) a b = ((a.0, b.0), both_of P Q ss a.1 b.1)
 
@@ -325,3 +325,9 @@ same_words old new chunks id place is same =
 pub on_err_of : {T E P : Type 0} (r : Result T E) → P → OnErr r P
 on_err_of (Ok x) p = tt
 on_err_of (Err e) p = p
+
+-- the piece at a place
+pub piece_in : (sites : List Site) (pieces : List Piece) (k : ℕ) (d : Piece) → AllByRecursion (IsPiece sites) pieces → k < length pieces → IsPiece sites (get_or pieces k d)
+piece_in sites [] k d all lt = absurd (omega (arith, lt))
+piece_in sites (p ∷ pieces) zero d all lt = all.0
+piece_in sites (p ∷ pieces) (suc k) d all lt = piece_in sites pieces k d all.1 (omega (arith, lt))

@@ -7,3 +7,4 @@ pub mod Pieces
 pub mod Staging
 pub mod Tables
 pub mod Operations
+pub mod Needs

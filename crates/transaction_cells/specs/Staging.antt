@@ -1,5 +1,5 @@
 -- What is staged of each chunk.
-use Rattle.std.specs.Prelude.{◌≡◌, ◌<◌, ℕ, List, [], ◌∷◌, length, map, replicate, slice_set, Option, Some, None, unwrap_or, if◌then◌else◌}
+use Rattle.std.specs.Prelude.{◌≡◌, ◌<◌, ◌≤◌, ◌^◌, ℕ, List, [], ◌∷◌, length, map, replicate, slice_set, Option, Some, None, unwrap_or, if◌then◌else◌}
 use Rattle.std.specs.List.{AllByRecursion}
 use Rattle.std.specs.Str.{bytes_eq}
 use Rattle.rebase_writes.specs.Staged.{staged_at}
@@ -41,10 +41,12 @@ written_at id (s ∷ sites) (word ∷ words) cells = written_at id sites words (
 abbrev pub IsSized : List StagedChunk → Site → Type 0
 IsSized chunks s = (cells : List (Option ℕ)) → staged_of chunks s.id ≡ Some cells → length cells ≡ s.size
 
--- the words of a view may be staged: these are its cells, there is a word for each, and each lies in its chunk
+-- the words of a view may be staged: these are its cells, there is a word for each, and each lies in its chunk, which is one of at
+-- most 2 ^ 24 cells
 pub record CanStage (chunks : List StagedChunk) (cells : ViewCells) (count : ℕ) : Type 0 where
   pub sites : List Site
   pub are : AreCells sites cells
   pub counted : count ≡ length sites
   pub sized : AllByRecursion (IsSized chunks) sites
   pub inside : AllByRecursion (λ (s : Site). s.place < s.size) sites
+  pub small : AllByRecursion (λ (s : Site). s.size ≤ 2 ^ 24) sites

@@ -1,15 +1,20 @@
-ghost use Rattle.std.specs.Prelude.{◌≡◌, ◌∷◌, ◌++◌, [], ℕ, List, length, OnOk, OnErr};
-ghost use Rattle.std.specs.List.{AllByRecursion};
-ghost use Rattle.cells.specs.Runs.{IsRunInside};
+ghost use Rattle.std.specs.Prelude.{◌≡◌, ◌∷◌, ◌++◌, [], ℕ, List, length, slice_index_or, ◌<◌, ◌≤◌, ◌^◌, pos, ◌≤ℤ◌, ◌<ℤ◌, OnOk, OnErr};
+ghost use Rattle.std.specs.List.{AllByRecursion, list_any};
+ghost use Rattle.std.specs.Str.{bytes_eq};
+ghost use Rattle.cells.specs.Runs.{IsRunInside, pairs_of, chunk_number, chunk_place};
+ghost use Rattle.history.specs.Chunks.{chunk_of};
 ghost use Rattle.history.specs.History.{History};
+ghost use Rattle.history.specs.Reads.{unwritten};
 ghost use Rattle.history.specs.declared.event.Op.{Op};
 ghost use Rattle.history.specs.declared.event.Op.TheVariants as op;
 ghost use Rattle.stack_driver.specs.declared.view.View.{View};
 ghost use Rattle.stack_targets.specs.Landings.{leaves_of};
 ghost use Rattle.transaction_cells.specs.Operations.{AreStaged, HasSites, IsLeafIn};
 ghost use Rattle.transaction_cells.specs.Found.{found};
+ghost use Rattle.transaction_cells.specs.Needs.{IsRunIn, is_bare, are_bare, needs};
+ghost use Rattle.transaction_cells.specs.declared.view_cells.Piece.{Piece};
 ghost use Rattle.transaction_cells.specs.Pieces.{AreCells};
-ghost use Rattle.transaction_cells.specs.Sites.{Site, sites_of};
+ghost use Rattle.transaction_cells.specs.Sites.{Site, sites_of, id_of};
 ghost use Rattle.transaction_cells.specs.Staging.{staged_of, word_in, written_at, CanStage};
 ghost use Rattle.transaction_cells.specs.Tables.{prepared, HasSameWords, MayWrite, pieces_written, runs_written};
 
@@ -72,6 +77,58 @@ impl Staging {
         write(&mut self.table, pieces, &kept);
         Ok(())
     }
+
+    /// Whether a read of a view needs the chunk of one of its pieces: at a cell of it no word is staged. It takes no memory.
+    pub fn needs(&self, cells: &ViewCells, piece: usize) -> bool
+        requires cells { CanStage self.now cells.now (length cells.now.leaves) }
+        requires piece { piece < length cells.now.pieces }
+        ensures value { (d : Piece) → result ≡ needs self.now (slice_index_or cells.now.pieces piece d) }
+        ensures history { (d : Piece) (events : History) (v : View) (ops : List Op) → AllByRecursion (IsLeafIn events) (leaves_of v) → HasSites v → AreCells (sites_of v) cells.now → AreStaged events ops self.now
+            → result ≡ list_any (λ x. bytes_eq (id_of (chunk_of events x)) (slice_index_or cells.now.pieces piece d).id) (unwritten ops v) }
+    {
+        let piece = &cells.pieces.items()[piece];
+        match self.table.get(piece.id.items()) {
+            Some(staged) => are_bare(staged, piece.runs.items()),
+            None => true,
+        }
+    }
+}
+
+// Whether at one of the pairs of runs no word is staged.
+fn are_bare(staged: &Staged, runs: &[Run]) -> bool
+    requires runs { AllByRecursion (IsRunIn (length staged.now)) runs.now }
+    requires small { length staged.now ≤ 2 ^ 24 }
+    ensures { result ≡ are_bare staged.now runs.now }
+{
+    for run in runs {
+        if is_bare(staged, run) {
+            return true;
+        }
+    }
+    false
+}
+
+fn is_bare(staged: &Staged, run: &Run) -> bool
+    requires run { IsRunIn (length staged.now) run.now }
+    requires small { length staged.now ≤ 2 ^ 24 }
+    ensures { result ≡ list_any (is_bare staged.now) (pairs_of run.now) }
+{
+    for k in 0..run.len {
+        if !staged.covers(place_at(run, k)) {
+            return true;
+        }
+    }
+    false
+}
+
+// The place in the chunk of pair `k`.
+fn place_at(run: &Run, k: u32) -> usize
+    requires from_first { pos 0 ≤ℤ chunk_number run.now k }
+    requires to_last { chunk_number run.now k <ℤ pos (2 ^ 63) }
+    ensures { result ≡ chunk_place run.now k }
+{
+    let place = i64::from(run.chunk) + run.chunk_step * i64::from(k);
+    place as usize
 }
 
 // Makes an entry for each piece that has none.
