@@ -1,2 +1,3 @@
 -- The laws of what is staged that other crates rest on.
-pub use Rattle.transaction_cells.proofs.OperationLaws.{can_stage, leaf_in, none_staged}
+pub use Rattle.transaction_cells.proofs.LeafLaws.{alike_in, leaves_in}
+pub use Rattle.transaction_cells.proofs.OperationLaws.{can_stage, none_staged}

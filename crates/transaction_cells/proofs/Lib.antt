@@ -8,4 +8,5 @@ pub mod StagingLaws
 pub mod WrittenLaws
 pub mod OperationLaws
 pub mod NeedLaws
+pub mod LeafLaws
 pub mod Laws

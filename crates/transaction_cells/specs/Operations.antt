@@ -33,12 +33,17 @@ no_content = λ x. None
 
 -- the word that is staged at a cell of an array, also past the array's shape
 abbrev pub word_at : List StagedChunk → Known → Cell → Option ℕ
-word_at chunks k x = word_in chunks (x.array ∷ chunk_index (chunk_shape k.info) x.index) (c_place (chunk_shape k.info) (within_chunk (chunk_shape k.info) x.index))
+word_at chunks k x =
+    let ns = chunk_shape k.info in
+    word_in chunks (x.array ∷ chunk_index ns x.index) (c_place ns (within_chunk ns x.index))
 
--- at each cell is staged the word that the operations put there last, a chunk is there exactly where they put a word into it, and it
--- has the size of its array's chunks
+-- at each cell is staged the word that the operations put there last, a chunk is there exactly where they put a word
+-- into it, and it has the size of its array's chunks
 pub record AreStaged (events : History) (ops : List Op) (chunks : List StagedChunk) : Type 0 where
-  pub words : (x : Cell) (k : Known) → known_after events x.array ≡ Some k → length x.index ≡ length (chunk_shape k.info) → word_at chunks k x ≡ written ops no_content x
-  pub there : (id : List ℕ) → is_some (staged_of chunks id) ≡ list_any (λ p. bytes_eq (id_of (chunk_of events p.0)) id) (puts_of ops)
-  pub sizes : (array : ℕ) (index : List ℕ) (k : Known) (cells : List (Option ℕ)) → known_after events array ≡ Some k → staged_of chunks (array ∷ index) ≡ Some cells
+  pub words : (x : Cell) (k : Known) → known_after events x.array ≡ Some k → length x.index ≡ length (chunk_shape k.info)
+      → word_at chunks k x ≡ written ops no_content x
+  pub there : (id : List ℕ) → is_some (staged_of chunks id)
+      ≡ list_any (λ p. bytes_eq (id_of (chunk_of events p.0)) id) (puts_of ops)
+  pub sizes : (array : ℕ) (index : List ℕ) (k : Known) (cells : List (Option ℕ))
+      → known_after events array ≡ Some k → staged_of chunks (array ∷ index) ≡ Some cells
       → length cells ≡ cell_count (chunk_shape k.info)

@@ -48,7 +48,8 @@ sites_of v = sites_in (leaves_of v) (all_landings v)
 abbrev pub pairs_at : List ℕ → ℕ → List Site → List Pair
 pairs_at id k [] = []
 pairs_at id k (s ∷ sites) =
-    if bytes_eq s.id id then record { view = k; chunk = s.place } ∷ pairs_at id (k + 1) sites else pairs_at id (k + 1) sites
+    if bytes_eq s.id id then record { view = k; chunk = s.place } ∷ pairs_at id (k + 1) sites
+    else pairs_at id (k + 1) sites
 
 -- the lane of no leaf
 abbrev pub no_lane : LaneSeen
@@ -71,4 +72,5 @@ AreTold lanes (leaf ∷ more) numbers =
 
 -- a landing in one of the leaves, at an index vector of its array's rank
 abbrev pub IsLanded : List Seen → Landing → Type 0
-IsLanded leaves l = (l.leaf < length leaves) × (length l.index ≡ length (slice_index_or leaves l.leaf no_leaf).array.shape)
+IsLanded leaves l =
+    (l.leaf < length leaves) × (length l.index ≡ length (slice_index_or leaves l.leaf no_leaf).array.shape)

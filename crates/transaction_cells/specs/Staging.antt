@@ -29,20 +29,22 @@ word_in chunks id place = staged_at (unwrap_or (staged_of chunks id) []) place
 
 -- a chunk's cells with a word at a site
 abbrev pub with_word : Site → ℕ → Option (List (Option ℕ)) → Option (List (Option ℕ))
-with_word s word cells = Some (slice_set (unwrap_or cells (replicate s.size None)) s.place (Some (inwards s.target.casts word)))
+with_word s word cells =
+    Some (slice_set (unwrap_or cells (replicate s.size None)) s.place (Some (inwards s.target.casts word)))
 
 -- a chunk's cells once the words of a view are put at those of its sites that lie in the chunk, one after another
 abbrev pub written_at : List ℕ → List Site → List ℕ → Option (List (Option ℕ)) → Option (List (Option ℕ))
 written_at id [] words cells = cells
 written_at id (s ∷ sites) [] cells = cells
-written_at id (s ∷ sites) (word ∷ words) cells = written_at id sites words (if bytes_eq s.id id then with_word s word cells else cells)
+written_at id (s ∷ sites) (word ∷ words) cells =
+    written_at id sites words (if bytes_eq s.id id then with_word s word cells else cells)
 
 -- what is staged of a chunk has the size that the chunk has at a site
 abbrev pub IsSized : List StagedChunk → Site → Type 0
 IsSized chunks s = (cells : List (Option ℕ)) → staged_of chunks s.id ≡ Some cells → length cells ≡ s.size
 
--- the words of a view may be staged: these are its cells, there is a word for each, and each lies in its chunk, which is one of at
--- most 2 ^ 24 cells
+-- the words of a view may be staged: these are its cells, there is a word for each, and each lies in its chunk, which
+-- has at most 2 ^ 24 cells
 pub record CanStage (chunks : List StagedChunk) (cells : ViewCells) (count : ℕ) : Type 0 where
   pub sites : List Site
   pub are : AreCells sites cells

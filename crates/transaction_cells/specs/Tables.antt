@@ -12,7 +12,8 @@ use Rattle.transaction_cells.specs.declared.view_cells.Piece.{Piece}
 -- the cells of a chunk once each piece has an entry; a new one has no word
 abbrev pub prepared : List Piece → List ℕ → Option (List (Option ℕ)) → Option (List (Option ℕ))
 prepared [] id cells = cells
-prepared (p ∷ pieces) id cells = prepared pieces id (if bytes_eq p.id id then Some (unwrap_or cells (replicate p.size None)) else cells)
+prepared (p ∷ pieces) id cells =
+    prepared pieces id (if bytes_eq p.id id then Some (unwrap_or cells (replicate p.size None)) else cells)
 
 -- the same words are staged at all places
 abbrev pub HasSameWords : Option (List (Option ℕ)) → Option (List (Option ℕ)) → Type 0
@@ -25,7 +26,8 @@ runs_written runs words cells = fold (λ staged run. pairs_written (pairs_of run
 -- the same along the runs of those pieces that are of the chunk
 abbrev pub pieces_written : List Piece → List ℕ → List ℕ → Option (List (Option ℕ)) → Option (List (Option ℕ))
 pieces_written [] id words cells = cells
-pieces_written (p ∷ pieces) id words cells = pieces_written pieces id words (if bytes_eq p.id id then option_map (runs_written p.runs words) cells else cells)
+pieces_written (p ∷ pieces) id words cells =
+    pieces_written pieces id words (if bytes_eq p.id id then option_map (runs_written p.runs words) cells else cells)
 
 -- what there is of the chunk has room for the runs of a piece
 abbrev pub HasRoom : List Run → ℕ → Option (List (Option ℕ)) → Type 0
