@@ -1,5 +1,5 @@
 -- Numbers that are given keep the rules of dense cells.
-use Rattle.std.proofs.Common.{◌≡◌, ◌≤◌, ℕ, zero, suc, ◌+◌, ◌*◌, Bool, true, ℤ, List, [], ◌∷◌, ◌++◌, map, length, max, Option, Some, None, Result, Ok, Err, refl, sym, ap, subst, ◌∙◌, arith, length-append, leb, eqb, cond, inl, inr}
+use Rattle.std.proofs.Common.{◌≡◌, ◌≤◌, ℕ, zero, suc, ◌+◌, ◌*◌, Bool, true, ℤ, List, [], ◌∷◌, length, max, Option, Some, None, Result, Ok, Err, refl, ap, subst, ◌∙◌, arith, length-append, leb, eqb, cond, inl, inr}
 use Rattle.std.specs.Prelude.{All, option_and_then, option_map, nat_le, ◌==◌, ◌^◌}
 use Rattle.std.specs.List.{flat_map}
 use Rattle.std.proofs.Math.Nat.{mul-le-mul_left}
@@ -14,7 +14,6 @@ use Rattle.cells.proofs.Laws.{some_from_then}
 use Rattle.chunk_forms.specs.Made.{default_chunks}
 use Rattle.json_forms.specs.Lists.{list_items, all_of}
 use Rattle.json_forms.specs.Numbers.{whole_number}
-use Rattle.meta_forms.specs.Judged.{judged_word}
 use Rattle.meta_forms.specs.declared.error.Fault.{Fault}
 use Rattle.meta_forms.proofs.Laws.{word_judged}
 use Rattle.want_forms.specs.Asking.{if_right, word_asked}
@@ -146,3 +145,18 @@ pub given_dense_at : (r : Result (Option Dtype) Fault) (o : Option Data) (dtype 
 given_dense_at r o dtype numbers named e =
     let p = step-of (numbers_in (right_dtype r)) o numbers e in
     given_dense (right_dtype r) dtype p.0 numbers (required-named r dtype named) p.1.1
+
+-- there are at most 2^22 cells where each size 0 counts as 1
+given_small : (own : Option Dtype) (d : Data) (numbers : Nested) → numbers_in own d ≡ Some numbers → cell_count (default_chunks numbers.sizes) ≤ 2 ^ 22
+unfolding numbers_in
+given_small own d numbers e =
+    let sizes = step-of (λ sizes. if_so (nat_le (cell_count (default_chunks sizes)) 4194304) (with_words sizes (nested_words own sizes d))) (sizes_in d) numbers e in
+    let good = some_from_then (nat_le (cell_count (default_chunks sizes.0)) 4194304) (with_words sizes.0 (nested_words own sizes.0 d)) numbers sizes.1.1 in
+    let words = mapped-of (nested_of sizes.0) (nested_words own sizes.0 d) numbers good.1 in
+    let small = leb-of (cell_count (default_chunks sizes.0)) 4194304 good.0 in
+    subst (λ (n : Nested). cell_count (default_chunks n.sizes) ≤ 2 ^ 22) words.1.1 (omega (arith, small))
+
+-- so many numbers may a member have
+pub given_small_at : (r : Result (Option Dtype) Fault) (o : Option Data) (numbers : Nested) → option_and_then (numbers_in (right_dtype r)) o ≡ Some numbers
+    → cell_count (default_chunks numbers.sizes) ≤ 2 ^ 22
+given_small_at r o numbers e = let p = step-of (numbers_in (right_dtype r)) o numbers e in given_small (right_dtype r) p.0 numbers p.1.1

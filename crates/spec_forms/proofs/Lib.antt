@@ -1,3 +1,4 @@
 mod Slashes
 mod Rows
 mod GivenLaws
+pub mod Laws

@@ -4,3 +4,4 @@ pub mod Members
 pub mod Kvstores
 pub mod Stored
 pub mod Numbers
+pub mod Leaves

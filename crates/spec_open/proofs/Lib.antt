@@ -1,5 +1,6 @@
-mod Told
 mod Trees
+mod Nesting
 mod Fits
 mod Rooms
 mod BuiltLaws
+pub mod Laws

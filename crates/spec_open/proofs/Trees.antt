@@ -1,11 +1,11 @@
 -- What the nodes of a tree keep, taken apart and put together.
-use Rattle.std.proofs.Common.{◌≡◌, ◌<◌, ◌≤◌, ◌∙◌, ℕ, zero, suc, List, [], ◌∷◌, length, map, get_or, Option, refl, sym, ap, subst, arith}
+use Rattle.std.proofs.Common.{◌≡◌, ◌<◌, ◌≤◌, ◌∙◌, ℕ, zero, suc, List, [], ◌∷◌, length, map, get_or, Option, refl, ap, subst, arith}
 use Rattle.std.specs.List.{AllByRecursion}
 use denote.Param.Weighed.{at_most, most}
 use Rattle.cells.specs.declared.dtype.Dtype.{Dtype}
 use Rattle.index_transform.specs.Transforms.{DomainAndMaps}
 use Rattle.spec_open.specs.Conditions.{IsNode, IsTree}
-use Rattle.spec_open.specs.declared.tree.Tree.{Tree, size_is-Tree, size-Tree, map-Tree, every-Tree, every_here-Tree, every_held-Tree, every_made-Tree}
+use Rattle.spec_open.specs.declared.tree.Tree.{Tree, size_is-Tree, size-Tree, map-Tree, every_here-Tree, every_held-Tree, every_made-Tree}
 use Rattle.spec_open.specs.declared.tree.Tree.TheOpen.{Tree-F}
 use Rattle.spec_open.specs.declared.tree.Tree.TheVariants as tree
 

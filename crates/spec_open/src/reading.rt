@@ -1,6 +1,6 @@
-ghost use Rattle.std.specs.Prelude.{◌≡◌, ◌≢◌, Ok, Err, IfOk, IfErr, length};
+ghost use Rattle.std.specs.Prelude.{◌≡◌, ◌≢◌, Ok, Err, IfOk, IfErr};
 ghost use Rattle.serde_json.specs.View.{view};
-ghost use Rattle.spec_open.specs.Conditions.{IsTree};
+ghost use Rattle.spec_open.specs.Conditions.{IsSoundPlan};
 ghost use Rattle.spec_open.specs.Specs.{plan_of_spec};
 ghost use Rattle.spec_forms.specs.declared.error.SpecError.{SpecError};
 
@@ -24,7 +24,7 @@ const MOST_NESTED: u32 = 16;
 /// `Memory` where an allocation failed.
 pub fn read_spec(alloc: Global, v: &Value, names: &[Name]) -> Result<OpenPlan, SpecError>
     ensures value { IfOk result (λ plan. plan_of_spec names.now (view v.now) ≡ Ok plan) }
-    ensures tree { IfOk result (λ plan. IsTree (length plan.leaves) plan.tree) }
+    ensures sound { IfOk result (IsSoundPlan names.now) }
     ensures causes { IfErr result (λ e. e ≢ SpecError.Memory → plan_of_spec names.now (view v.now) ≡ Err e) }
 {
     let mut leaves = Vec::new(alloc);
