@@ -1,1 +1,2 @@
 mod Factors
+mod Sound

@@ -7,7 +7,7 @@ use Rattle.cells.specs.Shapes.{IsShape}
 use Rattle.index_transform.specs.Transforms.{DomainAndMaps}
 use Rattle.step_forms.specs.Given.{IsGiven}
 use Rattle.step_forms.specs.declared.act.Step.{Step}
-use Rattle.spec_open.specs.Conditions.{IsTree}
+use Rattle.spec_open.specs.Conditions.{IsSoundPlan}
 use Rattle.spec_open.specs.declared.plan.OpenPlan.{OpenPlan}
 use Rattle.downsample_view.specs.Groups.{IsFactor}
 use Rattle.line_forms.specs.declared.command.Command.{Command}
@@ -54,15 +54,20 @@ abbrev pub MayHaveFactors : Option DownWant → Type 0
 MayHaveFactors None = Unit {0}
 MayHaveFactors (Some down) = HasFactors down
 
--- what is done with a command may rest on this
-abbrev pub IsSound : Command → Type 0
-IsSound (Open name plan) = IsTree (length plan.leaves) plan.tree
-IsSound (View name of transform steps) = All IsGiven steps
-IsSound (Join name form layers transform steps) = All IsGiven steps × AreLayers layers
-IsSound (Read name steps down) = All IsGiven steps × MayHaveFactors down
-IsSound (Write name steps values) = All IsGiven steps
-IsSound (Begin atomic repeatable_read) = Unit {0}
-IsSound Commit = Unit {0}
-IsSound Abort = Unit {0}
-IsSound (Resize name shape) = IsShape shape
-IsSound (Resolve name) = Unit {0}
+-- of a command that opens nothing: what is done with it may rest on this
+abbrev pub IsSoundOther : Command → Type 0
+IsSoundOther (Open name plan) = ⊥
+IsSoundOther (View name of transform steps) = All IsGiven steps
+IsSoundOther (Join name form layers transform steps) = All IsGiven steps × AreLayers layers
+IsSoundOther (Read name steps down) = All IsGiven steps × MayHaveFactors down
+IsSoundOther (Write name steps values) = All IsGiven steps
+IsSoundOther (Begin atomic repeatable_read) = Unit {0}
+IsSoundOther Commit = Unit {0}
+IsSoundOther Abort = Unit {0}
+IsSoundOther (Resize name shape) = IsShape shape
+IsSoundOther (Resolve name) = Unit {0}
+
+-- what is done with a command may rest on this, where these are the names of mounts
+abbrev pub IsSound : List (List ℕ) → Command → Type 0
+IsSound names (Open name plan) = IsSoundPlan names plan
+IsSound names other = IsSoundOther other

@@ -3,12 +3,12 @@ use Rattle.std.specs.Prelude.{ℕ, List, [], ◌∷◌, codes, Option, Some, Non
 use Rattle.serde_json.specs.Data.{Data}
 use Rattle.json_forms.specs.Bytes.{data_of}
 use Rattle.line_forms.specs.Form.{Form, committing, aborting}
-use Rattle.line_forms.specs.Parts.{has}
+use Rattle.line_parts.specs.Parts.{has}
 use Rattle.line_forms.specs.Small.{open_form, begin_form, word_form, resize_form, resolve_form}
 use Rattle.line_forms.specs.Reads.{read_form, write_form}
 use Rattle.line_forms.specs.Views.{view_form}
-use Rattle.line_forms.specs.declared.error.LineError.{LineError}
-use Rattle.line_forms.specs.declared.error.LineError.TheVariants.{NotJson, NotCommand}
+use Rattle.line_parts.specs.declared.error.LineError.{LineError}
+use Rattle.line_parts.specs.declared.error.LineError.TheVariants.{NotJson, NotCommand}
 
 -- the members that name a command
 abbrev pub command_names : List (List ℕ)
@@ -29,14 +29,17 @@ small_form d =
     else (if has (codes "resize") d then resize_form d
     else resolve_form d)))
 
--- the command of an object that has one of these members
-unfoldable pub command_in : List (List ℕ) → Data → Result Form LineError
-command_in names d =
-    if has (codes "open") d then open_form names d
-    else (if has (codes "view") d then view_form d
+-- one of those that open nothing
+unfoldable pub other_form : Data → Result Form LineError
+other_form d =
+    if has (codes "view") d then view_form d
     else (if has (codes "read") d then read_form d
     else (if has (codes "write") d then write_form d
-    else small_form d)))
+    else small_form d))
+
+-- the command of an object that has one of these members
+unfoldable pub command_in : List (List ℕ) → Data → Result Form LineError
+command_in names d = if has (codes "open") d then open_form names d else other_form d
 
 -- the command that a value is
 abbrev pub command_of_data : List (List ℕ) → Data → Result Form LineError

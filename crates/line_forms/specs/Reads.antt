@@ -1,5 +1,5 @@
 -- Reads and writes.
-use Rattle.std.specs.Prelude.{ℕ, List, [], ◌∷◌, Bool, true, ◌&&◌, nat_le, Option, Some, None, option_and_then, is_some, Result, Ok, codes, if◌then◌else◌}
+use Rattle.std.specs.Prelude.{ℕ, List, [], ◌∷◌, Bool, true, ◌&&◌, Option, Some, None, option_and_then, is_some, Result, Ok, codes, if◌then◌else◌}
 use Rattle.std.specs.List.{list_all}
 use Rattle.std.specs.Str.{bytes_eq}
 use Rattle.serde_json.specs.Data.{Data}
@@ -11,9 +11,9 @@ use Rattle.downsample_view.specs.declared.method.Method.{Method}
 use Rattle.downsample_view.specs.declared.method.Method.TheVariants as method
 use Rattle.step_forms.specs.declared.act.Step.{Step}
 use Rattle.line_forms.specs.Form.{Form, reading, writing}
-use Rattle.line_forms.specs.Parts.{◌>>=◌, has, earlier, unless_so, missing, no_name, name_in, needed, where_sound, steps_in}
+use Rattle.line_parts.specs.Parts.{◌>>=◌, has, earlier, unless_so, missing, no_name, name_in, needed, where_sound, steps_in}
 use Rattle.line_forms.specs.declared.command.DownWant.{DownWant}
-use Rattle.line_forms.specs.declared.error.LineError.{LineError}
+use Rattle.line_parts.specs.declared.error.LineError.{LineError}
 
 -- the three methods
 abbrev pub method_named : List ℕ → Option Method

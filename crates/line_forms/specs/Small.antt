@@ -9,10 +9,10 @@ use Rattle.spec_open.specs.Specs.{plan_of_spec}
 use Rattle.spec_open.specs.declared.plan.OpenPlan.{OpenPlan}
 use Rattle.spec_forms.specs.declared.error.SpecError.{SpecError}
 use Rattle.line_forms.specs.Form.{Form, opening, beginning, resizing, resolving}
-use Rattle.line_forms.specs.Parts.{◌>>=◌, has, earlier, unless_so, missing, no_name, name_in, needed, where_sound}
-use Rattle.line_forms.specs.Within.{within}
-use Rattle.line_forms.specs.declared.error.LineError.{LineError}
-use Rattle.line_forms.specs.declared.error.LineError.TheVariants.{Spec}
+use Rattle.line_parts.specs.Parts.{◌>>=◌, has, earlier, unless_so, missing, no_name, name_in, needed, where_sound}
+use Rattle.line_parts.specs.Within.{within}
+use Rattle.line_parts.specs.declared.error.LineError.{LineError}
+use Rattle.line_parts.specs.declared.error.LineError.TheVariants.{Spec}
 
 -- the plan, or its fault
 abbrev pub plan_read : Result OpenPlan SpecError → Result OpenPlan LineError

@@ -6,12 +6,12 @@ use Rattle.json_forms.specs.Lists.{list_items, all_of}
 use Rattle.json_forms.specs.Members.{least_unknown}
 use Rattle.index_transform.specs.Transforms.{DomainAndMaps}
 use Rattle.line_forms.specs.Form.{Form, viewing, joining}
-use Rattle.line_forms.specs.Names.{name_of}
-use Rattle.line_forms.specs.Parts.{◌>>=◌, has, earlier, unless_so, no_name, name_in, needed, steps_in}
-use Rattle.line_forms.specs.Within.{within, transform_in}
+use Rattle.line_parts.specs.Names.{name_of}
+use Rattle.line_parts.specs.Parts.{◌>>=◌, has, earlier, unless_so, no_name, name_in, needed, steps_in}
+use Rattle.line_parts.specs.Within.{within, transform_in}
 use Rattle.line_forms.specs.declared.command.JoinForm.{JoinForm}
 use Rattle.line_forms.specs.declared.command.JoinForm.TheVariants.{Overlay, Concat, Stack}
-use Rattle.line_forms.specs.declared.error.LineError.{LineError}
+use Rattle.line_parts.specs.declared.error.LineError.{LineError}
 
 -- the least faulty member of `{"view":NAME,"of":NAME,"transform":TRANSFORM,"steps":STEPS}` but for `transform`
 abbrev pub view_fault : Data → Option (List ℕ)

@@ -2,16 +2,14 @@
 ghost use Rattle.std.specs.Prelude.{◌≡◌, ◌≢◌, Ok, Err, IfOk, IfErr, ◌∷◌, [], ◌++◌, codes, option_map, string_bytes};
 ghost use Rattle.serde_json.specs.View.{view};
 ghost use Rattle.json_forms.specs.Members.{least_unknown};
-ghost use Rattle.line_forms.specs.Form.{form_of, beginning, committing, aborting, IsSound};
-ghost use Rattle.line_forms.specs.Parts.{earlier, where_sound};
-ghost use Rattle.line_forms.specs.Within.{within, first_fault};
+ghost use Rattle.line_forms.specs.Form.{form_of, beginning, committing, aborting, IsSoundOther};
+ghost use Rattle.line_parts.specs.Parts.{earlier, where_sound};
+ghost use Rattle.line_parts.specs.Within.{within, first_fault};
 ghost use Rattle.line_forms.specs.Small.{flag_at, no_flag, flag_members, flags_fault, flags_unless, flags_of, flags_given, begin_form, not_true, word_form};
 
 use crate::command::Command;
-use crate::error::LineError;
-use crate::faults::{earlier, first_fault, unless_so};
-use crate::parts::at_fault;
 use json_forms::least_unknown;
+use line_parts::{LineError, at_fault, earlier, first_fault, unless_so};
 use serde_json::Value;
 use std::alloc::{AllocError, Global};
 
@@ -20,7 +18,7 @@ use std::alloc::{AllocError, Global};
 pub(crate) fn begin_line(alloc: Global, value: &Value) -> Result<Command, LineError>
     ensures ok { IfOk result (λ command. begin_form (view value.now) ≡ Ok (form_of command)) }
     ensures err { IfErr result (λ e. e ≢ LineError.Memory → begin_form (view value.now) ≡ Err e) }
-    ensures sound { IfOk result IsSound }
+    ensures sound { IfOk result IsSoundOther }
 {
     let others = least_unknown(value, &["begin"]);
     match value.get("begin") {
@@ -36,7 +34,7 @@ fn begun(alloc: Global, others: Option<&str>, flags: &Value) -> Result<Command, 
     ensures err { IfErr result (λ e. e ≢ LineError.Memory →
         within (codes "begin") (option_map (λ s. s.now) others.entry) (flags_of (view flags.now)) (λ f. Ok (beginning f.0 f.1))
         ≡ Err e) }
-    ensures sound { IfOk result IsSound }
+    ensures sound { IfOk result IsSoundOther }
 {
     if !flags.is_object() {
         return Err(at_fault(alloc, first_fault("begin", others, "begin")));
@@ -72,7 +70,7 @@ fn flagged(alloc: Global, others: Option<&str>, flags: &Value) -> Result<Command
     ensures err { IfErr result (λ e. e ≢ LineError.Memory → where_sound (option_map (λ s. s.now) others.entry)
         (Ok (beginning (flag_at (codes "atomic") (view flags.now)) (flag_at (codes "repeatable_read") (view flags.now))))
         ≡ Err e) }
-    ensures sound { IfOk result IsSound }
+    ensures sound { IfOk result IsSoundOther }
 {
     match others {
         Some(fault) => Err(at_fault(alloc, fault)),
@@ -126,7 +124,7 @@ fn flag_at(flags: &Value, key: &str) -> bool
 pub(crate) fn commit_line(alloc: Global, value: &Value) -> Result<Command, LineError>
     ensures ok { IfOk result (λ command. word_form (codes "commit") committing (view value.now) ≡ Ok (form_of command)) }
     ensures err { IfErr result (λ e. e ≢ LineError.Memory → word_form (codes "commit") committing (view value.now) ≡ Err e) }
-    ensures sound { IfOk result IsSound }
+    ensures sound { IfOk result IsSoundOther }
 {
     match word_fault(value, "commit") {
         Some(fault) => Err(at_fault(alloc, fault)),
@@ -139,7 +137,7 @@ pub(crate) fn commit_line(alloc: Global, value: &Value) -> Result<Command, LineE
 pub(crate) fn abort_line(alloc: Global, value: &Value) -> Result<Command, LineError>
     ensures ok { IfOk result (λ command. word_form (codes "abort") aborting (view value.now) ≡ Ok (form_of command)) }
     ensures err { IfErr result (λ e. e ≢ LineError.Memory → word_form (codes "abort") aborting (view value.now) ≡ Err e) }
-    ensures sound { IfOk result IsSound }
+    ensures sound { IfOk result IsSoundOther }
 {
     match word_fault(value, "abort") {
         Some(fault) => Err(at_fault(alloc, fault)),

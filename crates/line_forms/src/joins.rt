@@ -3,20 +3,19 @@ ghost use Rattle.std.specs.Prelude.{◌≡◌, ◌≢◌, ◌∷◌, ◌++◌, [
 ghost use Rattle.serde_json.specs.View.{view};
 ghost use Rattle.json_forms.specs.Lists.{list_items, all_of};
 ghost use Rattle.json_forms.specs.Members.{least_unknown};
-ghost use Rattle.line_forms.specs.Form.{form_of, AreLayers, IsSound};
-ghost use Rattle.line_forms.specs.Names.{name_of};
-ghost use Rattle.line_forms.specs.Parts.{earlier, unless_so, no_name, where_sound};
+ghost use Rattle.line_forms.specs.Form.{form_of, AreLayers, IsSoundOther};
+ghost use Rattle.line_parts.specs.Names.{name_of};
+ghost use Rattle.line_parts.specs.Parts.{earlier, unless_so, no_name, where_sound};
 ghost use Rattle.line_forms.specs.Views.{as_layers, layers_at, as_axis, axis_at, overlay_members, axis_members, overlay_fault, axis_fault, join_of, join_by, join_as, join_in, joined, overlay_form, concat_form, stack_form};
 
 use crate::command::{Command, JoinForm};
-use crate::error::LineError;
-use crate::faults::{earlier, no_name, unless_so};
-use crate::names::{name_of, owned};
-use crate::parts::{at_fault, name_in, steps_in};
-use crate::transforms::{faulty_transform, transform_in};
 use cells::{List, Name};
 use index_transform::Transform;
 use json_forms::{least_unknown, list_items};
+use line_parts::{
+    LineError, at_fault, earlier, faulty_transform, name_in, name_of, no_name, owned, steps_in,
+    transform_in, unless_so,
+};
 use serde_json::Value;
 use std::alloc::{AllocError, Global};
 
@@ -25,7 +24,7 @@ use std::alloc::{AllocError, Global};
 pub(crate) fn overlay_line(alloc: Global, value: &Value) -> Result<Command, LineError>
     ensures ok { IfOk result (λ command. overlay_form (view value.now) ≡ Ok (form_of command)) }
     ensures err { IfErr result (λ e. e ≢ LineError.Memory → overlay_form (view value.now) ≡ Err e) }
-    ensures sound { IfOk result IsSound }
+    ensures sound { IfOk result IsSoundOther }
 {
     let layers = layers_at(alloc, value, "overlay")?;
     let fault = overlay_fault(value, layers.is_some());
@@ -44,7 +43,7 @@ pub(crate) fn overlay_line(alloc: Global, value: &Value) -> Result<Command, Line
 pub(crate) fn concat_line(alloc: Global, value: &Value) -> Result<Command, LineError>
     ensures ok { IfOk result (λ command. concat_form (view value.now) ≡ Ok (form_of command)) }
     ensures err { IfErr result (λ e. e ≢ LineError.Memory → concat_form (view value.now) ≡ Err e) }
-    ensures sound { IfOk result IsSound }
+    ensures sound { IfOk result IsSoundOther }
 {
     let layers = layers_at(alloc, value, "concat")?;
     let axis = axis_at(value);
@@ -57,7 +56,7 @@ pub(crate) fn concat_line(alloc: Global, value: &Value) -> Result<Command, LineE
 pub(crate) fn stack_line(alloc: Global, value: &Value) -> Result<Command, LineError>
     ensures ok { IfOk result (λ command. stack_form (view value.now) ≡ Ok (form_of command)) }
     ensures err { IfErr result (λ e. e ≢ LineError.Memory → stack_form (view value.now) ≡ Err e) }
-    ensures sound { IfOk result IsSound }
+    ensures sound { IfOk result IsSoundOther }
 {
     let layers = layers_at(alloc, value, "stack")?;
     let axis = axis_at(value);
@@ -238,7 +237,7 @@ fn joined(
         ≡ Ok (form_of command)) }
     ensures err { IfErr result (λ e. e ≢ LineError.Memory
         → joined key.now (option_map (λ s. s.now) fault.entry) form layers (view value.now) ≡ Err e) }
-    ensures sound { IfOk result IsSound }
+    ensures sound { IfOk result IsSoundOther }
 {
     match transform_in(alloc, value) {
         Ok(transform) => where_sound(alloc, value, key, fault, form, layers, transform),
@@ -258,7 +257,7 @@ fn where_sound(
     requires { IfSome layers AreLayers }
     ensures ok { IfOk result (λ command. where_sound (option_map (λ s. s.now) fault.entry) (join_in key.now form layers (view value.now) transform) ≡ Ok (form_of command)) }
     ensures err { IfErr result (λ e. e ≢ LineError.Memory → where_sound (option_map (λ s. s.now) fault.entry) (join_in key.now form layers (view value.now) transform) ≡ Err e) }
-    ensures sound { IfOk result IsSound }
+    ensures sound { IfOk result IsSoundOther }
 {
     match fault {
         Some(fault) => Err(at_fault(alloc, fault)),
@@ -277,7 +276,7 @@ fn named(
     requires { IfSome layers AreLayers }
     ensures ok { IfOk result (λ command. join_in key.now form layers (view value.now) transform ≡ Ok (form_of command)) }
     ensures err { IfErr result (λ e. e ≢ LineError.Memory → join_in key.now form layers (view value.now) transform ≡ Err e) }
-    ensures sound { IfOk result IsSound }
+    ensures sound { IfOk result IsSoundOther }
 {
     match name_in(alloc, value, "view") {
         Ok(name) => formed(alloc, value, key, form, layers, transform, name),
@@ -297,7 +296,7 @@ fn formed(
     requires { IfSome layers AreLayers }
     ensures ok { IfOk result (λ command. join_as key.now form layers (view value.now) transform name ≡ Ok (form_of command)) }
     ensures err { IfErr result (λ e. e ≢ LineError.Memory → join_as key.now form layers (view value.now) transform name ≡ Err e) }
-    ensures sound { IfOk result IsSound }
+    ensures sound { IfOk result IsSoundOther }
 {
     match form {
         Some(kind) => layered(alloc, value, key, kind, layers, transform, name),
@@ -317,7 +316,7 @@ fn layered(
     requires { IfSome layers AreLayers }
     ensures ok { IfOk result (λ command. join_by key.now layers (view value.now) transform name kind ≡ Ok (form_of command)) }
     ensures err { IfErr result (λ e. e ≢ LineError.Memory → join_by key.now layers (view value.now) transform name kind ≡ Err e) }
-    ensures sound { IfOk result IsSound }
+    ensures sound { IfOk result IsSoundOther }
 {
     match layers {
         Some(layers) => stepped(alloc, value, kind, layers, transform, name),
@@ -336,7 +335,7 @@ fn stepped(
     requires { AreLayers names }
     ensures ok { IfOk result (λ command. join_of (view value.now) transform name kind names ≡ Ok (form_of command)) }
     ensures err { IfErr result (λ e. e ≢ LineError.Memory → join_of (view value.now) transform name kind names ≡ Err e) }
-    ensures sound { IfOk result IsSound }
+    ensures sound { IfOk result IsSoundOther }
 {
     match steps_in(alloc, value) {
         Ok(steps) => Ok(Command::Join {

@@ -6,19 +6,14 @@
 
 mod begin;
 mod command;
-mod error;
-mod faults;
 mod joins;
 mod lines;
-mod names;
 mod open;
-mod parts;
 mod read;
 mod shapes;
-mod transforms;
 mod view;
 mod write;
 
 pub use command::{Command, DownWant, JoinForm};
-pub use error::LineError;
+pub use line_parts::LineError;
 pub use lines::read_command;

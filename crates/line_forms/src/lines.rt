@@ -1,14 +1,13 @@
 // The command that a line is.
 ghost use Rattle.std.specs.Prelude.{◌≡◌, ◌≢◌, Ok, Err, IfOk, IfErr, count_by};
 ghost use Rattle.serde_json.specs.View.{view};
-ghost use Rattle.line_forms.specs.Form.{form_of, IsSound};
-ghost use Rattle.line_forms.specs.Parts.{has};
+ghost use Rattle.line_forms.specs.Form.{form_of, IsSoundOther, IsSound};
+ghost use Rattle.line_parts.specs.Parts.{has};
 ghost use Rattle.line_forms.specs.Views.{view_form};
-ghost use Rattle.line_forms.specs.Lines.{command_count, command_in, small_form, command_of_data, command_of_line};
+ghost use Rattle.line_forms.specs.Lines.{command_count, command_in, other_form, small_form, command_of_data, command_of_line};
 
 use crate::begin::{abort_line, begin_line, commit_line};
 use crate::command::Command;
-use crate::error::LineError;
 use crate::joins::{concat_line, overlay_line, stack_line};
 use crate::open::open_line;
 use crate::read::read_line;
@@ -17,6 +16,7 @@ use crate::view::of_line;
 use crate::write::write_line;
 use cells::Name;
 use json_forms::{ParseError, parse};
+use line_parts::LineError;
 use serde_json::Value;
 use std::alloc::Global;
 
@@ -29,7 +29,7 @@ use std::alloc::Global;
 pub fn read_command(alloc: Global, bytes: &[u8], names: &[Name]) -> Result<Command, LineError>
     ensures ok { IfOk result (λ command. command_of_line names.now bytes.now ≡ Ok (form_of command)) }
     ensures err { IfErr result (λ e. e ≢ LineError.Memory → command_of_line names.now bytes.now ≡ Err e) }
-    ensures sound { IfOk result IsSound }
+    ensures sound { IfOk result (IsSound names.now) }
 {
     match parse(alloc, bytes) {
         Ok(mut value) => command_of(alloc, &mut value, names),
@@ -41,7 +41,7 @@ pub fn read_command(alloc: Global, bytes: &[u8], names: &[Name]) -> Result<Comma
 fn command_of(alloc: Global, value: &mut Value, names: &[Name]) -> Result<Command, LineError>
     ensures ok { IfOk result (λ command. command_of_data names.now (view value.old) ≡ Ok (form_of command)) }
     ensures err { IfErr result (λ e. e ≢ LineError.Memory → command_of_data names.now (view value.old) ≡ Err e) }
-    ensures sound { IfOk result IsSound }
+    ensures sound { IfOk result (IsSound names.now) }
 {
     if command_count(value) != 1 {
         return Err(LineError::NotCommand);
@@ -67,15 +67,24 @@ fn count_members(value: &Value, names: &[&str]) -> usize
         .count()
 }
 
-#[tactic(auto, unfolding(crate::specs::Lines::command_in))]
+#[tactic(auto, unfolding(crate::specs::Lines::command_in), using(crate::proofs::Sound::sound_if))]
 fn command_in(alloc: Global, value: &mut Value, names: &[Name]) -> Result<Command, LineError>
     ensures ok { IfOk result (λ command. command_in names.now (view value.old) ≡ Ok (form_of command)) }
     ensures err { IfErr result (λ e. e ≢ LineError.Memory → command_in names.now (view value.old) ≡ Err e) }
-    ensures sound { IfOk result IsSound }
+    ensures sound { IfOk result (IsSound names.now) }
 {
     if value.get("open").is_some() {
         return open_line(alloc, value, names);
     }
+    other_line(alloc, value)
+}
+
+#[tactic(auto, unfolding(crate::specs::Lines::other_form))]
+fn other_line(alloc: Global, value: &mut Value) -> Result<Command, LineError>
+    ensures ok { IfOk result (λ command. other_form (view value.old) ≡ Ok (form_of command)) }
+    ensures err { IfErr result (λ e. e ≢ LineError.Memory → other_form (view value.old) ≡ Err e) }
+    ensures sound { IfOk result IsSoundOther }
+{
     if value.get("view").is_some() {
         return view_line(alloc, value);
     }
@@ -92,7 +101,7 @@ fn command_in(alloc: Global, value: &mut Value, names: &[Name]) -> Result<Comman
 fn small_line(alloc: Global, value: &Value) -> Result<Command, LineError>
     ensures ok { IfOk result (λ command. small_form (view value.now) ≡ Ok (form_of command)) }
     ensures err { IfErr result (λ e. e ≢ LineError.Memory → small_form (view value.now) ≡ Err e) }
-    ensures sound { IfOk result IsSound }
+    ensures sound { IfOk result IsSoundOther }
 {
     if value.get("begin").is_some() {
         return begin_line(alloc, value);
@@ -113,7 +122,7 @@ fn small_line(alloc: Global, value: &Value) -> Result<Command, LineError>
 fn view_line(alloc: Global, value: &Value) -> Result<Command, LineError>
     ensures ok { IfOk result (λ command. view_form (view value.now) ≡ Ok (form_of command)) }
     ensures err { IfErr result (λ e. e ≢ LineError.Memory → view_form (view value.now) ≡ Err e) }
-    ensures sound { IfOk result IsSound }
+    ensures sound { IfOk result IsSoundOther }
 {
     if value.get("concat").is_some() {
         return concat_line(alloc, value);

@@ -5,17 +5,15 @@ ghost use Rattle.downsample_view.specs.Groups.{IsFactor, is_factor};
 ghost use Rattle.serde_json.specs.View.{view};
 ghost use Rattle.json_forms.specs.Lists.{u64_list};
 ghost use Rattle.json_forms.specs.Members.{least_unknown};
-ghost use Rattle.line_forms.specs.Form.{form_of, MayHaveFactors, IsSound};
-ghost use Rattle.line_forms.specs.Parts.{earlier, no_name};
+ghost use Rattle.line_forms.specs.Form.{form_of, MayHaveFactors, IsSoundOther};
+ghost use Rattle.line_parts.specs.Parts.{earlier, no_name};
 ghost use Rattle.line_forms.specs.Reads.{method_named, method_at, as_factors, factors_at, half_fault, read_members, down_of, read_as, read_so, read_form};
 
 use crate::command::{Command, DownWant};
-use crate::error::LineError;
-use crate::faults::{earlier, no_name, unless_so};
-use crate::parts::{at_fault, name_in, steps_in};
 use cells::{MOST_CELLS, Name, Sizes};
 use downsample_view::Method;
 use json_forms::{least_unknown, u64_list};
+use line_parts::{LineError, at_fault, earlier, name_in, no_name, steps_in, unless_so};
 use serde_json::Value;
 use std::alloc::{AllocError, Global};
 
@@ -24,7 +22,7 @@ use std::alloc::{AllocError, Global};
 pub(crate) fn read_line(alloc: Global, value: &Value) -> Result<Command, LineError>
     ensures ok { IfOk result (λ command. read_form (view value.now) ≡ Ok (form_of command)) }
     ensures err { IfErr result (λ e. e ≢ LineError.Memory → read_form (view value.now) ≡ Err e) }
-    ensures sound { IfOk result IsSound }
+    ensures sound { IfOk result IsSoundOther }
 {
     let factors = factors_at(alloc, value)?;
     match read_fault(value, factors.is_some()) {
@@ -177,7 +175,7 @@ fn named(alloc: Global, value: &Value, down: Option<DownWant>) -> Result<Command
     requires { MayHaveFactors down }
     ensures ok { IfOk result (λ command. read_so down (view value.now) ≡ Ok (form_of command)) }
     ensures err { IfErr result (λ e. e ≢ LineError.Memory → read_so down (view value.now) ≡ Err e) }
-    ensures sound { IfOk result IsSound }
+    ensures sound { IfOk result IsSoundOther }
 {
     match name_in(alloc, value, "read") {
         Ok(name) => stepped(alloc, value, name, down),
@@ -194,7 +192,7 @@ fn stepped(
     requires { MayHaveFactors down }
     ensures ok { IfOk result (λ command. read_as down (view value.now) name ≡ Ok (form_of command)) }
     ensures err { IfErr result (λ e. e ≢ LineError.Memory → read_as down (view value.now) name ≡ Err e) }
-    ensures sound { IfOk result IsSound }
+    ensures sound { IfOk result IsSoundOther }
 {
     match steps_in(alloc, value) {
         Ok(steps) => Ok(Command::Read { name, steps, down }),

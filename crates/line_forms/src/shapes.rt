@@ -4,16 +4,14 @@ ghost use Rattle.serde_json.specs.View.{view};
 ghost use Rattle.cells.specs.Shapes.{IsShape};
 ghost use Rattle.json_forms.specs.Lists.{u64_list};
 ghost use Rattle.json_forms.specs.Members.{least_unknown};
-ghost use Rattle.line_forms.specs.Form.{form_of, IsSound};
-ghost use Rattle.line_forms.specs.Parts.{earlier, unless_so, no_name};
+ghost use Rattle.line_forms.specs.Form.{form_of, IsSoundOther};
+ghost use Rattle.line_parts.specs.Parts.{earlier, unless_so, no_name};
 ghost use Rattle.line_forms.specs.Small.{as_shape, shape_at, resized_as, resized, resize_form, resolved, resolve_form};
 
 use crate::command::Command;
-use crate::error::LineError;
-use crate::faults::{earlier, no_name, unless_so};
-use crate::parts::{at_fault, name_in};
 use cells::{Name, Sizes, is_shape};
 use json_forms::{least_unknown, u64_list};
+use line_parts::{LineError, at_fault, earlier, name_in, no_name, unless_so};
 use serde_json::Value;
 use std::alloc::{AllocError, Global};
 
@@ -22,7 +20,7 @@ use std::alloc::{AllocError, Global};
 pub(crate) fn resize_line(alloc: Global, value: &Value) -> Result<Command, LineError>
     ensures ok { IfOk result (λ command. resize_form (view value.now) ≡ Ok (form_of command)) }
     ensures err { IfErr result (λ e. e ≢ LineError.Memory → resize_form (view value.now) ≡ Err e) }
-    ensures sound { IfOk result IsSound }
+    ensures sound { IfOk result IsSoundOther }
 {
     let shape = shape_at(alloc, value)?;
     match resize_fault(value, shape.is_some()) {
@@ -77,7 +75,7 @@ fn resized(alloc: Global, value: &Value, shape: Option<Sizes>) -> Result<Command
     requires { IfSome shape IsShape }
     ensures ok { IfOk result (λ command. resized shape (view value.now) ≡ Ok (form_of command)) }
     ensures err { IfErr result (λ e. e ≢ LineError.Memory → resized shape (view value.now) ≡ Err e) }
-    ensures sound { IfOk result IsSound }
+    ensures sound { IfOk result IsSoundOther }
 {
     match name_in(alloc, value, "resize") {
         Ok(name) => with_shape(alloc, name, shape),
@@ -89,7 +87,7 @@ fn with_shape(alloc: Global, name: Name, shape: Option<Sizes>) -> Result<Command
     requires { IfSome shape IsShape }
     ensures ok { IfOk result (λ command. resized_as shape name ≡ Ok (form_of command)) }
     ensures err { IfErr result (λ e. e ≢ LineError.Memory → resized_as shape name ≡ Err e) }
-    ensures sound { IfOk result IsSound }
+    ensures sound { IfOk result IsSoundOther }
 {
     match shape {
         Some(shape) => Ok(Command::Resize { name, shape }),
@@ -102,7 +100,7 @@ fn with_shape(alloc: Global, name: Name, shape: Option<Sizes>) -> Result<Command
 pub(crate) fn resolve_line(alloc: Global, value: &Value) -> Result<Command, LineError>
     ensures ok { IfOk result (λ command. resolve_form (view value.now) ≡ Ok (form_of command)) }
     ensures err { IfErr result (λ e. e ≢ LineError.Memory → resolve_form (view value.now) ≡ Err e) }
-    ensures sound { IfOk result IsSound }
+    ensures sound { IfOk result IsSoundOther }
 {
     match resolve_fault(value) {
         Some(fault) => Err(at_fault(alloc, fault)),
@@ -123,7 +121,7 @@ fn resolve_fault(value: &Value) -> Option<&str>
 fn resolved(alloc: Global, value: &Value) -> Result<Command, LineError>
     ensures ok { IfOk result (λ command. resolved (view value.now) ≡ Ok (form_of command)) }
     ensures err { IfErr result (λ e. e ≢ LineError.Memory → resolved (view value.now) ≡ Err e) }
-    ensures sound { IfOk result IsSound }
+    ensures sound { IfOk result IsSoundOther }
 {
     match name_in(alloc, value, "resolve") {
         Ok(name) => Ok(Command::Resolve { name }),

@@ -3,15 +3,13 @@ ghost use Rattle.std.specs.Prelude.{◌≡◌, ◌≢◌, Ok, Err, IfOk, IfErr, 
 ghost use Rattle.std.specs.List.{All};
 ghost use Rattle.serde_json.specs.View.{view};
 ghost use Rattle.step_forms.specs.Given.{IsGiven};
-ghost use Rattle.line_forms.specs.Form.{form_of, IsSound};
+ghost use Rattle.line_forms.specs.Form.{form_of, IsSoundOther};
 ghost use Rattle.line_forms.specs.Reads.{write_fault, written_by, written_as, written, write_form};
 
 use crate::command::Command;
-use crate::error::LineError;
-use crate::faults::{earlier, missing, no_name};
-use crate::parts::{at_fault, name_in, steps_in};
 use cells::{List, Name};
 use json_forms::least_unknown;
+use line_parts::{LineError, at_fault, earlier, missing, name_in, no_name, steps_in};
 use serde_json::Value;
 use std::alloc::Global;
 use step_forms::Step;
@@ -21,7 +19,7 @@ use step_forms::Step;
 pub(crate) fn write_line(alloc: Global, value: &mut Value) -> Result<Command, LineError>
     ensures ok { IfOk result (λ command. write_form (view value.old) ≡ Ok (form_of command)) }
     ensures err { IfErr result (λ e. e ≢ LineError.Memory → write_form (view value.old) ≡ Err e) }
-    ensures sound { IfOk result IsSound }
+    ensures sound { IfOk result IsSoundOther }
 {
     match write_fault(value) {
         Some(fault) => Err(at_fault(alloc, fault)),
@@ -40,7 +38,7 @@ fn write_fault(value: &Value) -> Option<&str>
 fn named(alloc: Global, value: &mut Value) -> Result<Command, LineError>
     ensures ok { IfOk result (λ command. written (view value.old) ≡ Ok (form_of command)) }
     ensures err { IfErr result (λ e. e ≢ LineError.Memory → written (view value.old) ≡ Err e) }
-    ensures sound { IfOk result IsSound }
+    ensures sound { IfOk result IsSoundOther }
 {
     match name_in(alloc, value, "write") {
         Ok(name) => stepped(alloc, value, name),
@@ -51,7 +49,7 @@ fn named(alloc: Global, value: &mut Value) -> Result<Command, LineError>
 fn stepped(alloc: Global, value: &mut Value, name: Name) -> Result<Command, LineError>
     ensures ok { IfOk result (λ command. written_as (view value.old) name ≡ Ok (form_of command)) }
     ensures err { IfErr result (λ e. e ≢ LineError.Memory → written_as (view value.old) name ≡ Err e) }
-    ensures sound { IfOk result IsSound }
+    ensures sound { IfOk result IsSoundOther }
 {
     match steps_in(alloc, value) {
         Ok(steps) => valued(alloc, value, name, steps),
@@ -68,7 +66,7 @@ fn valued(
     requires { All IsGiven steps }
     ensures ok { IfOk result (λ command. written_by (view value.old) name steps ≡ Ok (form_of command)) }
     ensures err { IfErr result (λ e. e ≢ LineError.Memory → written_by (view value.old) name steps ≡ Err e) }
-    ensures sound { IfOk result IsSound }
+    ensures sound { IfOk result IsSoundOther }
 {
     match value.get_mut("values") {
         Some(values) => Ok(Command::Write {

@@ -2,7 +2,7 @@
 ghost use Rattle.std.specs.Prelude.{◌≡◌, ◌≢◌, ◌++◌, Ok, Err, IfOk, IfErr, codes, option_map, string_bytes};
 ghost use Rattle.serde_json.specs.View.{view};
 ghost use Rattle.transform_json.specs.Transforms.{transform_of};
-ghost use Rattle.line_forms.specs.Within.{first_fault, behind, transform_path, transform_read, transform_in};
+ghost use Rattle.line_parts.specs.Within.{first_fault, behind, transform_path, transform_read, transform_in};
 
 use crate::error::LineError;
 use crate::faults::first_fault;
@@ -13,8 +13,11 @@ use std::alloc::{AllocError, Global};
 use transform_json::{JsonError, read_transform};
 
 /// The transform of a line, if there is one.
+///
+/// # Errors
+/// `BadMember` at the path within it that is at fault, and `Memory` where an allocation failed.
 #[tactic(auto, unfolding(crate::specs::Within::transform_in))]
-pub(crate) fn transform_in(alloc: Global, value: &Value) -> Result<Option<Transform>, JsonError>
+pub fn transform_in(alloc: Global, value: &Value) -> Result<Option<Transform>, JsonError>
     ensures ok { IfOk result (λ transform. transform_in (view value.now) ≡ Ok transform) }
     ensures err { IfErr result (λ e. e ≢ JsonError.Memory → transform_in (view value.now) ≡ Err (transform_path e)) }
 {
@@ -35,8 +38,8 @@ fn transform_of(alloc: Global, value: &Value) -> Result<Option<Transform>, JsonE
     }
 }
 
-/// The fault of a transform, or that of another member that comes before it.
-pub(crate) fn faulty_transform(alloc: Global, others: Option<&str>, error: &JsonError) -> LineError
+/// The fault of a transform, or that of another member that comes before it; `Memory` where an allocation failed.
+pub fn faulty_transform(alloc: Global, others: Option<&str>, error: &JsonError) -> LineError
     ensures { result ≢ LineError.Memory → (error.now ≢ JsonError.Memory)
         × (result ≡ LineError.Member (first_fault (codes "transform") (option_map (λ s. s.now) others.entry) (transform_path error.now))) }
 {

@@ -6,9 +6,9 @@ use Rattle.json_forms.specs.Members.{lesser}
 use Rattle.step_forms.specs.Steps.{steps_of_json}
 use Rattle.step_forms.specs.declared.act.Step.{Step}
 use Rattle.step_forms.specs.declared.error.StepsError.{StepsError}
-use Rattle.line_forms.specs.Names.{name_of}
-use Rattle.line_forms.specs.declared.error.LineError.{LineError}
-use Rattle.line_forms.specs.declared.error.LineError.TheVariants.{Member, Steps}
+use Rattle.line_parts.specs.Names.{name_of}
+use Rattle.line_parts.specs.declared.error.LineError.{LineError}
+use Rattle.line_parts.specs.declared.error.LineError.TheVariants.{Member, Steps}
 
 -- what f gives of a part, where there is one
 infixl 10 ◌>>=◌

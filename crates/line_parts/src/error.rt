@@ -1,7 +1,7 @@
 ghost use Rattle.std.specs.Prelude.{◌≡◌};
 
 use cells::Name;
-use spec_open::SpecError;
+use spec_forms::SpecError;
 use std::alloc::{AllocError, AllocFailed};
 use step_forms::StepsError;
 use thiserror::Error;
@@ -30,7 +30,7 @@ pub enum LineError {
 }
 
 impl From<AllocError> for LineError {
-    ghost use Rattle.line_forms.specs.declared.error.LineError.TheVariants as line;
+    ghost use Rattle.line_parts.specs.declared.error.LineError.TheVariants as line;
 
     ghost from_gives = { λ _ e. e ≡ line.Memory };
 
@@ -40,7 +40,7 @@ impl From<AllocError> for LineError {
 }
 
 impl<T: Drop> From<AllocFailed<T>> for LineError {
-    ghost use Rattle.line_forms.specs.declared.error.LineError.TheVariants as line;
+    ghost use Rattle.line_parts.specs.declared.error.LineError.TheVariants as line;
 
     ghost from_gives = { λ _ e. e ≡ line.Memory };
 

@@ -4,7 +4,7 @@ ghost use Rattle.std.specs.List.{All};
 ghost use Rattle.serde_json.specs.View.{view};
 ghost use Rattle.step_forms.specs.Given.{IsGiven};
 ghost use Rattle.step_forms.specs.Steps.{steps_of_json};
-ghost use Rattle.line_forms.specs.Parts.{name_in, steps_in, steps_read};
+ghost use Rattle.line_parts.specs.Parts.{name_in, steps_in, steps_read};
 
 use crate::error::LineError;
 use crate::faults::name_at;
@@ -14,8 +14,8 @@ use serde_json::Value;
 use std::alloc::Global;
 use step_forms::{Step, StepsError, read_steps};
 
-/// The fault of the member at a path.
-pub(crate) fn at_fault(alloc: Global, path: &str) -> LineError
+/// The fault of the member at a path; `Memory` where an allocation failed.
+pub fn at_fault(alloc: Global, path: &str) -> LineError
     ensures { result ≢ LineError.Memory → result ≡ LineError.Member path.now }
 {
     match owned(alloc, path) {
@@ -25,7 +25,10 @@ pub(crate) fn at_fault(alloc: Global, path: &str) -> LineError
 }
 
 /// The name that a member has to be.
-pub(crate) fn name_in(alloc: Global, value: &Value, key: &str) -> Result<Name, LineError>
+///
+/// # Errors
+/// `Member` where it is missing or no name, and `Memory` where an allocation failed.
+pub fn name_in(alloc: Global, value: &Value, key: &str) -> Result<Name, LineError>
     ensures ok { IfOk result (λ name. name_in key.now (view value.now) ≡ Ok name) }
     ensures err { IfErr result (λ e. e ≢ LineError.Memory → name_in key.now (view value.now) ≡ Err e) }
 {
@@ -36,8 +39,11 @@ pub(crate) fn name_in(alloc: Global, value: &Value, key: &str) -> Result<Name, L
 }
 
 /// The steps of a line; none where it has no such member.
+///
+/// # Errors
+/// `Steps` by what stands there, and `Memory` where an allocation failed.
 #[tactic(auto, unfolding(crate::specs::Parts::steps_in))]
-pub(crate) fn steps_in(alloc: Global, value: &Value) -> Result<List<Step>, LineError>
+pub fn steps_in(alloc: Global, value: &Value) -> Result<List<Step>, LineError>
     ensures ok { IfOk result (λ steps. steps_in (view value.now) ≡ Ok steps) }
     ensures err { IfErr result (λ e. e ≢ LineError.Memory → steps_in (view value.now) ≡ Err e) }
     ensures given { IfOk result (All IsGiven) }

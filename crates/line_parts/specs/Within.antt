@@ -8,9 +8,9 @@ use Rattle.index_transform.specs.Transforms.{DomainAndMaps}
 use Rattle.transform_json.specs.Transforms.{transform_of}
 use Rattle.transform_json.specs.declared.error.JsonError.{JsonError}
 use Rattle.transform_json.specs.declared.error.JsonError.TheVariants.{BadMember, Memory}
-use Rattle.line_forms.specs.Parts.{where_sound}
-use Rattle.line_forms.specs.declared.error.LineError.{LineError}
-use Rattle.line_forms.specs.declared.error.LineError.TheVariants as line
+use Rattle.line_parts.specs.Parts.{where_sound}
+use Rattle.line_parts.specs.declared.error.LineError.{LineError}
+use Rattle.line_parts.specs.declared.error.LineError.TheVariants as line
 
 -- the path of a fault within the member, or the member among the others that is at fault and comes before it
 abbrev pub first_fault : List ℕ → Option (List ℕ) → List ℕ → List ℕ

@@ -2,21 +2,24 @@
 ghost use Rattle.std.specs.Prelude.{◌≡◌, IfOk, option_map, option_and_then};
 ghost use Rattle.std.specs.List.{list_all};
 ghost use Rattle.serde_json.specs.View.{view};
-ghost use Rattle.line_forms.specs.Names.{is_name_byte, is_name, as_name, name_of};
+ghost use Rattle.line_parts.specs.Names.{is_name_byte, is_name, as_name, name_of};
 
 use cells::Name;
 use serde_json::Value;
 use std::alloc::{AllocError, Global};
 
 /// A text of its own.
-pub(crate) fn owned(alloc: Global, text: &str) -> Result<Name, AllocError>
+///
+/// # Errors
+/// An allocation failed.
+pub fn owned(alloc: Global, text: &str) -> Result<Name, AllocError>
     ensures { IfOk result (λ name. name ≡ text.now) }
 {
     Ok(Name::wrap(String::from_str(alloc, text)?))
 }
 
 /// The name that a value is: a text of 1 to 64 ASCII letters, digits or `_`.
-pub(crate) fn name_of(value: &Value) -> Option<&str>
+pub fn name_of(value: &Value) -> Option<&str>
     ensures { option_map (λ s. s.now) result ≡ name_of (view value.now) }
 {
     let text = value.as_str()?;
