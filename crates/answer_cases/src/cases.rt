@@ -4,6 +4,7 @@ use crate::fault::Fault;
 use crate::named::named;
 use crate::opened::opened;
 use crate::plain::{counted, plain, stepped};
+use crate::refusals::{of_chunk, of_metadata, of_script};
 use crate::shown::shown;
 use answer_text::has_few_lists;
 use json_forms::{parse, u64_list};
@@ -27,7 +28,14 @@ fn told(alloc: Global, line: &str) -> Result<String, Fault> {
 fn of_line(alloc: Global, v: &Value) -> Result<String, Fault> {
     match v.get("few") {
         Some(shape) => few(alloc, shape),
-        None => of_answer(alloc, number(v, "line")?, word(v, "answer")?, v),
+        None => numbered(alloc, number(v, "line")?, v),
+    }
+}
+
+fn numbered(alloc: Global, line: u64, v: &Value) -> Result<String, Fault> {
+    match v.get("script") {
+        Some(_) => of_script(alloc, line, word(v, "script")?),
+        None => of_answer(alloc, line, word(v, "answer")?, v),
     }
 }
 
@@ -60,6 +68,8 @@ fn of_answer(alloc: Global, line: u64, what: &str, v: &Value) -> Result<String, 
         "Viewed" | "Resolved" | "Values" | "OutOfRange" | "Uncovered" | "BadValues" => {
             shown(alloc, line, what, v)
         }
+        "FoundMetadata" => of_metadata(alloc, line, v),
+        "FoundChunk" => of_chunk(alloc, line, v),
         _ => opened(alloc, line, what, v),
     }
 }

@@ -12,6 +12,7 @@ mod named;
 mod opened;
 mod plain;
 mod printing;
+mod refusals;
 mod shown;
 
 use cases::answer;
