@@ -27,12 +27,18 @@ bin/bench_stacks: crates.txt $(wildcard crates/*/src/*.rt crates/*/specs/*.antt 
 	mkdir -p bin
 	cp crates/bench_stacks/out/bench_stacks bin/bench_stacks
 
-bench: bin/tensor_run bin/bench_views bin/bench_chunks bin/bench_stacks
+bin/bench_lines: crates.txt $(wildcard crates/*/src/*.rt crates/*/specs/*.antt crates/*/proofs/*.antt)
+	cd crates/bench_lines && rt run -- print 2 < stdin > "$(CURDIR)/build.log" 2>&1
+	mkdir -p bin
+	cp crates/bench_lines/out/bench_lines bin/bench_lines
+
+bench: bin/tensor_run bin/bench_views bin/bench_chunks bin/bench_stacks bin/bench_lines
 	bench/run.sh bin/tensor_run
 	bench/stores.sh bin/tensor_run
 	bench/views.sh bin/bench_views
 	bench/chunks.sh bin/bench_chunks
 	bench/stacks.sh bin/bench_stacks
+	bench/lines.sh bin/bench_lines
 
 test:
 	rt ci
