@@ -21,8 +21,7 @@ use Rattle.history.specs.Leaves.{Leaf, location_of_leaf}
 use Rattle.history.specs.Legal.{IsLegal, IsAsKept, MayTake}
 use Rattle.history.specs.Outcomes.{home_of, new_info}
 use Rattle.history.specs.Places.{location}
-use Rattle.history.proofs.Histories.{each_history, legal_step}
-use Rattle.history.proofs.Known.{known_split, no_array, opening_of, resize_of, known_good, kept_rank}
+use Rattle.history.proofs.Laws.{each_history, legal_step, known_split, no_array, opening_of, resize_of, known_good, kept_rank}
 use Rattle.array_homes.specs.Names.{HasRank}
 use Rattle.array_homes.specs.Homes.{MayHaveShape, info_at, reference_of}
 

@@ -8,8 +8,7 @@ use Rattle.cells.specs.Places.{cell_count}
 use Rattle.cells.proofs.Laws.{less_or_not}
 use Rattle.history.specs.Grid.{grid_of}
 use Rattle.history.specs.Resizes.{whole_along, whole_grid}
-use Rattle.history.proofs.Known.{ArePositive}
-use Rattle.history.proofs.CutCounts.{cut_count}
+use Rattle.history.proofs.Laws.{ArePositive, cut_count}
 use Rattle.chunk_laying.specs.declared.counting.Counts.{Counts}
 use Rattle.chunk_laying.specs.Resized.{cut_indices}
 use Rattle.chunk_laying.specs.Behind.{IsCounted}

@@ -11,7 +11,7 @@ use Rattle.cells.specs.Places.{index_vectors}
 use Rattle.cells.proofs.Laws.{length-index_vectors, less_or_not}
 use Rattle.history.specs.Grid.{grid_of}
 use Rattle.history.specs.Resizes.{whole_along}
-use Rattle.history.proofs.Known.{ArePositive}
+use Rattle.history.proofs.Laws.{ArePositive}
 use Rattle.chunk_laying.specs.Behind.{IsCounted, chunks_of}
 use Rattle.chunk_laying.specs.Resized.{cut_indices}
 use Rattle.chunk_laying.proofs.PassLaws.{rows, cut_indices-cons}

@@ -12,7 +12,7 @@ use Rattle.cells.specs.Places.{index_vectors}
 use Rattle.cells.proofs.Laws.{true_or_false}
 use Rattle.history.specs.Grid.{grid_of}
 use Rattle.history.specs.Resizes.{reaches_into, is_shorter, is_cut, whole_along}
-use Rattle.history.proofs.Known.{ArePositive}
+use Rattle.history.proofs.Laws.{ArePositive}
 use Rattle.chunk_laying.specs.Resized.{cut_indices}
 
 -- lists that begin with each number of a range

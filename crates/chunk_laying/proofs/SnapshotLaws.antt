@@ -21,12 +21,8 @@ use Rattle.history.specs.Own.{resized_event}
 use Rattle.history.specs.Snapshots.{IsSnapshotOf, chunk_box, box_in}
 use Rattle.history.specs.Touch.{touches}
 use Rattle.history.specs.Writes.{puts_of}
-use Rattle.history.proofs.Geometry.{chunk_index-in_array}
-use Rattle.history.proofs.Histories.{known_after-more}
-use Rattle.history.proofs.Snapshots.{snapshot_of_done, snapshot_of_resize, words_over, words_cut}
-use Rattle.history.proofs.Touching.{content_of_done}
-use Rattle.history.proofs.Untouched.{generation_touched}
-use Rattle.history.proofs.Written.{last_put, else_word}
+use Rattle.history.proofs.Laws.{chunk_index-in_array, known_after-more, snapshot_of_done, snapshot_of_resize, words_over, words_cut, content_of_done}
+use Rattle.history.proofs.Laws.{generation_touched, last_put, else_word}
 use Rattle.chunk_laying.specs.Laid.{IsCovered, laid_word, cut_word, word_under}
 
 -- what is staged for a chunk is what operations put there last, at each cell in the array's shape

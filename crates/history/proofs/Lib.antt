@@ -69,3 +69,4 @@ pub mod Changing
 pub mod Snapshots
 pub mod AloneWanting
 pub mod AloneEnds
+pub mod Laws

@@ -7,7 +7,7 @@ use Rattle.chunk_cache.specs.Snapshot.{SnapshotCells}
 use Rattle.history.specs.History.{History}
 use Rattle.history.specs.Arrays.{Known, known_after}
 use Rattle.history.specs.Legal.{is_opening}
-use Rattle.history.proofs.Known.{some_inj}
+use Rattle.history.proofs.Laws.{some_inj}
 use Rattle.run_records.specs.declared.arrays.Entry.{Entry}
 use Rattle.run_records.specs.Indexed.{known_of, resized_of, IsFormOf, AreArrays}
 

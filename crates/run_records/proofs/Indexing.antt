@@ -20,10 +20,7 @@ use Rattle.history.specs.Own.{fault, opened_event}
 use Rattle.history.specs.Places.{location, array_at}
 use Rattle.history.specs.Store.{resized_after}
 use Rattle.history.specs.Touch.{is_key}
-use Rattle.history.proofs.Histories.{known_after-more, resized_after-more}
-use Rattle.history.proofs.Known.{opened_as, some_inj, none_is_none, length-more}
-use Rattle.history.proofs.Openings.{array_at-more}
-use Rattle.history.proofs.Touching.{opened_then}
+use Rattle.history.proofs.Laws.{known_after-more, resized_after-more, opened_as, some_inj, none_is_none, length-more, array_at-more, opened_then}
 use Rattle.run_records.specs.declared.arrays.Entry.{Entry}
 use Rattle.run_records.specs.declared.commit.Commit.{Commit}
 use Rattle.run_records.specs.Recorded.{done_event}

@@ -16,9 +16,7 @@ use Rattle.history.specs.Legal.{is_opening}
 use Rattle.history.specs.Own.{resized_event}
 use Rattle.history.specs.Places.{array_at, reshaped_at}
 use Rattle.history.specs.Store.{resized_after}
-use Rattle.history.proofs.Histories.{known_after-more, resized_after-more}
-use Rattle.history.proofs.Known.{some_inj, length-more}
-use Rattle.history.proofs.Openings.{array_at-more}
+use Rattle.history.proofs.Laws.{known_after-more, resized_after-more, some_inj, length-more, array_at-more}
 use Rattle.run_records.specs.declared.arrays.Entry.{Entry}
 use Rattle.run_records.specs.Indexed.{shape_now, known_of, opened_by, opened_at_event, resized_of, IsFormOf, AreArrays}
 use Rattle.run_records.proofs.Indexing.{count_more, differs, get_front, known_more, place_below, within_more}

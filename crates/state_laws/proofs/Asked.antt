@@ -15,8 +15,7 @@ use Rattle.history.specs.History.{History}
 use Rattle.history.specs.Arrays.{Known, known_after, known_step, known_reshaped, chunk_shape_in}
 use Rattle.history.specs.Chunks.{AreStarts, IsIndexOf, IsWholeIfLocal}
 use Rattle.history.specs.Legal.{IsLegal, IsLegalKind, is_opening, opens}
-use Rattle.history.proofs.Histories.{each_history, legal_step, known_after-more}
-use Rattle.history.proofs.Known.{known_below}
+use Rattle.history.proofs.Laws.{each_history, legal_step, known_after-more, known_below}
 use Rattle.state_laws.specs.Asked.{IsIndexIn}
 use Rattle.state_laws.specs.Outline.{outline}
 use Rattle.state_laws.proofs.Later.{count_more}

@@ -5,8 +5,7 @@ use Rattle.std.proofs.lemmas.List.Elements.{All-nil}
 use Rattle.kv_face.specs.Store.{Contents}
 use Rattle.history.specs.Counting.{RoseBy}
 use Rattle.history.specs.Store.{RepresentsHistory}
-use Rattle.history.proofs.GenerationTables.{generations_none}
-use Rattle.history.proofs.Known.{no_array}
+use Rattle.history.proofs.Laws.{generations_none, no_array}
 use Rattle.state_laws.specs.Seen.{StoreSeen}
 use Rattle.state_laws.specs.Log.{Log}
 use Rattle.state_laws.specs.Kept.{IsKept, IsKeptNow}

@@ -10,8 +10,7 @@ use Rattle.history.specs.Arrays.{Known, known_after, is_local}
 use Rattle.history.specs.Chunks.{Chunk, IsIndexOf, key_in, key_of}
 use Rattle.history.specs.Generations.{HasKey}
 use Rattle.history.specs.Touch.{generation_of}
-use Rattle.history.proofs.GenerationTables.{generation_by_table}
-use Rattle.history.proofs.Known.{some_inj}
+use Rattle.history.proofs.Laws.{generation_by_table, some_inj}
 use Rattle.state_laws.specs.Seen.{StoreSeen}
 use Rattle.state_laws.specs.Log.{Log, cells_held}
 use Rattle.state_laws.specs.Kept.{AreCellsOf, IsCurrent, IsKept, IsKeptNow}

@@ -26,17 +26,11 @@ use Rattle.history.specs.Generations.{Generations, IsNumbered}
 use Rattle.history.specs.Legal.{IsLegal, IsLegalKind, is_opening}
 use Rattle.history.specs.ReadRows.{mount_of}
 use Rattle.history.specs.Touch.{touches}
-use Rattle.history.proofs.Changing.{changes_applied}
-use Rattle.history.proofs.Counted.{counted_more, counted_same}
-use Rattle.history.proofs.GenerationTables.{generations_more}
+use Rattle.history.proofs.Laws.{changes_applied, counted_more, counted_same, generations_more, known_after-more, legal_more, represents_event}
+use Rattle.history.proofs.Laws.{some_inj, opened_le, snapshot_longer, generation_untouched}
 use Rattle.std.specs.FinMap.{get-insert}
 use Rattle.std.specs.Cmp.Lexicographic.{nat_list_cmp_total}
 use Rattle.std.proofs.lemmas.Map.Text.{is_eq-slice_cmp}
-use Rattle.history.proofs.Histories.{known_after-more, legal_more}
-use Rattle.history.proofs.Keeping.{represents_event}
-use Rattle.history.proofs.Known.{some_inj, opened_le}
-use Rattle.history.proofs.Snapshots.{snapshot_longer}
-use Rattle.history.proofs.Untouched.{generation_untouched}
 use Rattle.run_records.specs.Recorded.{with_numbers, without_all, done_event}
 use Rattle.state_laws.specs.declared.deed.Deed.{Deed}
 use Rattle.state_laws.specs.declared.deed.HeldCells.{HeldCells}

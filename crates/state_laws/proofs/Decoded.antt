@@ -23,8 +23,7 @@ use Rattle.history.specs.Legal.{IsLegal, IsAsKept}
 use Rattle.history.specs.Snapshots.{box_in, chunk_box}
 use Rattle.history.specs.Store.{RepresentsHistory, IsChunkKept, shape_when_touched}
 use Rattle.history.specs.Touch.{generation_of}
-use Rattle.history.proofs.Known.{known_good, none_is_none}
-use Rattle.history.proofs.Reading.{words_of_store, same_as_start}
+use Rattle.history.proofs.Laws.{known_good, none_is_none, words_of_store, same_as_start}
 use Rattle.state_laws.specs.Kept.{AreCellsOf, IsCurrent}
 
 -- another shape leaves what bytes say

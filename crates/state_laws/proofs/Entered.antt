@@ -20,10 +20,8 @@ use Rattle.history.specs.ReadRows.{mount_of}
 use Rattle.history.specs.Store.{RepresentsHistory}
 use Rattle.history.specs.Stored.{IsApplied}
 use Rattle.history.specs.Touch.{touches}
-use Rattle.history.proofs.Apart.{apart_texts, key_is}
-use Rattle.history.proofs.GenerationTables.{opening_numbers_none}
-use Rattle.history.proofs.Histories.{known_after-more, legal_more}
-use Rattle.history.proofs.Known.{opened_as, some_inj, none_is_none, known_below}
+use Rattle.history.proofs.Laws.{apart_texts, key_is, opening_numbers_none, known_after-more, legal_more, opened_as, some_inj, none_is_none}
+use Rattle.history.proofs.Laws.{known_below}
 use Rattle.state_laws.specs.Seen.{StoreSeen, IsFrame}
 use Rattle.state_laws.specs.Log.{Log, cells_held}
 use Rattle.state_laws.specs.Kept.{AreCellsOf, IsCurrent}

@@ -23,7 +23,7 @@ use Rattle.history.specs.declared.array.Home.TheVariants.{Zarr, N5, Zarr3, Local
 use Rattle.history.specs.Chunks.{Chunk}
 use Rattle.history.specs.Damaged.{IsDamaged}
 use Rattle.history.specs.Legal.{IsAsKept}
-use Rattle.history.proofs.Known.{some_inj}
+use Rattle.history.proofs.Laws.{some_inj}
 use Rattle.state_laws.specs.Seen.{StoreSeen}
 use Rattle.state_laws.specs.Log.{Log}
 use Rattle.state_laws.specs.Kept.{AreCellsOf, IsCurrent}

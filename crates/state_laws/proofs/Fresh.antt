@@ -19,8 +19,7 @@ use Rattle.history.specs.Legal.{IsLegal, IsLegalOpening, IsMount, is_opening}
 use Rattle.history.specs.Outcomes.{home_of, new_info}
 use Rattle.history.specs.Places.{location, IsFree}
 use Rattle.history.specs.ReadRows.{mount_of}
-use Rattle.history.proofs.Histories.{legal_step}
-use Rattle.history.proofs.Openings.{opening_legal}
+use Rattle.history.proofs.Laws.{legal_step, opening_legal}
 use Rattle.state_laws.specs.Outline.{outline}
 use Rattle.state_laws.proofs.Outline.{count-outline, free_outline, opening_of_outline}
 

@@ -22,13 +22,8 @@ use Rattle.history.specs.Legal.{IsLegalOpening}
 use Rattle.history.specs.OpenRows.{next_array, given_info}
 use Rattle.history.specs.Own.{opened_event}
 use Rattle.history.specs.Touch.{generation_of}
-use Rattle.history.proofs.Applied.{opening_found}
-use Rattle.history.proofs.Counted.{counted_same}
-use Rattle.history.proofs.Known.{opened_as, none_is_none}
-use Rattle.history.proofs.Openings.{local_opening}
-use Rattle.history.proofs.Shapes.{inside-to}
-use Rattle.history.proofs.Touching.{opened_then}
-use Rattle.history.proofs.Untouched.{generation_touched, content_of_opening}
+use Rattle.history.proofs.Laws.{opening_found, counted_same, opened_as, none_is_none, local_opening, inside-to, opened_then, generation_touched}
+use Rattle.history.proofs.Laws.{content_of_opening}
 use Rattle.state_laws.specs.Seen.{StoreSeen}
 use Rattle.state_laws.specs.Log.{Log}
 use Rattle.state_laws.specs.Outline.{outline}

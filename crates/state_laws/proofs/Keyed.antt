@@ -23,15 +23,8 @@ use Rattle.history.specs.Chunks.{Chunk, IsIndexOf, AreStarts, IsWholeIfLocal, ho
 use Rattle.history.specs.Generations.{HasKey}
 use Rattle.history.specs.Legal.{IsLegal, IsMount, IsPlaced}
 use Rattle.history.specs.Places.{location, array_at, IsTable}
-use Rattle.history.proofs.Apart.{known_apart, key_is}
-use Rattle.history.proofs.Conflicts.{itself}
-use Rattle.history.proofs.GenerationTables.{as_opened}
-use Rattle.history.proofs.Histories.{each_history, legal_step}
-use Rattle.history.proofs.Known.{opened_as, some_inj, none_is_none, known_split, no_array, opening_of, opened_le}
-use Rattle.history.proofs.Longer.{known-longer}
-use Rattle.history.proofs.Openings.{none_there, array_at-known}
-use Rattle.history.proofs.Tabled.{array_by_table}
-use Rattle.history.proofs.Touching.{opened_then}
+use Rattle.history.proofs.Laws.{known_apart, key_is, opened_itself, as_opened, each_history, legal_step, opened_as, some_inj, none_is_none}
+use Rattle.history.proofs.Laws.{known_split, no_array, opening_of, opened_le, known-longer, none_there, array_at-known, array_by_table, opened_then}
 use Rattle.state_laws.specs.Keyed.{IsKeyIn, IsNobodys, local_by, local_in, local_at}
 use Rattle.state_laws.specs.Outline.{outline, outlined, outlined_event}
 use Rattle.state_laws.proofs.Located.{located}
@@ -86,7 +79,7 @@ opened_known start =
     elim (less_or_not n (length h)) [
       | inl less ↦
           let old = before (legal_step start h e legal).0 n info (sym (kind_front h e n less) ∙ is) in
-          let l = as_opened old.0.info old.0.opened (known_after (h ++ e ∷ []) info.number) (known-longer start h info.number old.0.info old.0.opened (itself (known_after h info.number) old.0 old.1) (e ∷ []) legal) in
+          let l = as_opened old.0.info old.0.opened (known_after (h ++ e ∷ []) info.number) (known-longer start h info.number old.0.info old.0.opened (opened_itself (known_after h info.number) old.0 old.1) (e ∷ []) legal) in
           (l.0, l.1, l.2 ∙ old.2, l.3 ∙ old.3)
       | inr more ↦
           elim (equal_or_not n (length h)) [

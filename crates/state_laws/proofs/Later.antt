@@ -19,14 +19,8 @@ use Rattle.history.specs.ReadRows.{mount_of}
 use Rattle.history.specs.Store.{RepresentsHistory}
 use Rattle.history.specs.Stored.{IsApplied}
 use Rattle.history.specs.Touch.{touches}
-use Rattle.history.proofs.Applied.{fault_applied}
-use Rattle.history.proofs.Counted.{counted_same}
-use Rattle.history.proofs.GenerationTables.{generations_more, fault_numbers_none}
-use Rattle.history.proofs.Known.{some_inj}
-use Rattle.history.proofs.Histories.{known_after-more, legal_step, legal_more}
-use Rattle.history.proofs.Keeping.{represents_event}
-use Rattle.history.proofs.Snapshots.{snapshot_longer}
-use Rattle.history.proofs.Untouched.{generation_untouched}
+use Rattle.history.proofs.Laws.{fault_applied, counted_same, generations_more, fault_numbers_none, some_inj, known_after-more, legal_step, legal_more}
+use Rattle.history.proofs.Laws.{represents_event, snapshot_longer, generation_untouched}
 use Rattle.state_laws.specs.Seen.{StoreSeen, IsFrame, IsQuiet, IsRead}
 use Rattle.state_laws.specs.Log.{Log, cells_held}
 use Rattle.state_laws.specs.Outline.{outline}

@@ -30,9 +30,7 @@ use Rattle.history.specs.Legal.{IsMount, IsLegalOpening, is_opening}
 use Rattle.history.specs.Outcomes.{Outcome, home_of, new_info, unless_taken, outcome_at}
 use Rattle.history.specs.Places.{IsFree, array_at}
 use Rattle.history.specs.Store.{RepresentsHistory}
-use Rattle.history.proofs.Applied.{opening_found, opening_made}
-use Rattle.history.proofs.Counted.{counted_more, counted_same}
-use Rattle.history.proofs.Known.{opened_as, some_inj}
+use Rattle.history.proofs.Laws.{opening_found, opening_made, counted_more, counted_same, opened_as, some_inj}
 use Rattle.state_laws.specs.Seen.{StoreSeen, IsFrame}
 use Rattle.state_laws.specs.Log.{Log}
 use Rattle.state_laws.specs.Agreement.{Opening, Agrees, TakesMount}

@@ -17,10 +17,7 @@ use Rattle.history.specs.Arrays.{Known, known_after, is_local, ref_of}
 use Rattle.history.specs.Legal.{IsLegal}
 use Rattle.history.specs.Places.{location, array_at, at_step, reshaped_at, IsTable, IsFree}
 use Rattle.history.specs.Touch.{is_key}
-use Rattle.history.proofs.Histories.{each_history}
-use Rattle.history.proofs.Known.{opened_as, some_inj, none_is_none}
-use Rattle.history.proofs.Openings.{array_at-more, array_at-known}
-use Rattle.history.proofs.Tabled.{not_taken_by_table, array_by_table}
+use Rattle.history.proofs.Laws.{each_history, opened_as, some_inj, none_is_none, array_at-more, array_at-known, not_taken_by_table, array_by_table}
 use Rattle.state_laws.specs.Outline.{outline}
 use Rattle.state_laws.proofs.Outline.{known-outline, array_at-outline}
 

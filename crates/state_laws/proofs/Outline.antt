@@ -15,10 +15,7 @@ use Rattle.history.specs.Legal.{IsLegal, IsLegalOpening, IsApartFrom, opens, is_
 use Rattle.history.specs.Own.{fault, opened_event}
 use Rattle.history.specs.Touch.{is_key}
 use Rattle.history.specs.Places.{array_at, at_step, location, location_of, locations, clashes, least, opened_array, IsFree}
-use Rattle.history.proofs.Histories.{each_history, known_after-more, legal_more}
-use Rattle.history.proofs.Openings.{array_at-more, locations-more}
-use Rattle.history.proofs.Apart.{one_key}
-use Rattle.history.proofs.Known.{IsGood, known_good}
+use Rattle.history.proofs.Laws.{each_history, known_after-more, legal_more, array_at-more, locations-more, one_key, IsGood, known_good}
 use Rattle.state_laws.specs.Outline.{outlined, outlined_event, outline}
 
 pub outline-more : (h : History) (e : Event) → outline (h ++ e ∷ []) ≡ outline h ++ outlined_event e ∷ []

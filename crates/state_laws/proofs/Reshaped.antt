@@ -13,8 +13,7 @@ use Rattle.history.specs.Legal.{IsLegal, IsLegalResize}
 use Rattle.history.specs.Own.{resized_event}
 use Rattle.history.specs.Resizes.{is_cut_in}
 use Rattle.history.specs.Touch.{touches}
-use Rattle.history.proofs.Histories.{known_after-more, legal_more}
-use Rattle.history.proofs.Known.{some_inj}
+use Rattle.history.proofs.Laws.{known_after-more, legal_more, some_inj}
 use Rattle.state_laws.specs.declared.deed.ChangeError.{ChangeError}
 use Rattle.state_laws.specs.declared.deed.ChangeError.TheVariants as error
 use Rattle.state_laws.specs.declared.deed.NewShape.{NewShape}

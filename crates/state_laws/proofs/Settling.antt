@@ -16,11 +16,7 @@ use Rattle.history.specs.Chunks.{Chunk, chunk_key}
 use Rattle.history.specs.Legal.{IsLegal}
 use Rattle.history.specs.Snapshots.{chunk_box}
 use Rattle.history.specs.Touch.{generation_of}
-use Rattle.history.proofs.Conflicts.{itself}
-use Rattle.history.proofs.GenerationTables.{as_opened}
-use Rattle.history.proofs.Known.{some_inj}
-use Rattle.history.proofs.Longer.{known-longer}
-use Rattle.history.proofs.Snapshots.{snapshot_longer}
+use Rattle.history.proofs.Laws.{opened_itself, as_opened, some_inj, known-longer, snapshot_longer}
 use Rattle.state_laws.specs.Seen.{StoreSeen}
 use Rattle.state_laws.specs.Log.{Log}
 use Rattle.state_laws.specs.Outline.{outline, outlined_event}
@@ -45,7 +41,7 @@ known_later : (h more : History) (a : ℕ) (k l : Known) → IsLegal finmap.empt
 known_later h more a k l legal is later =
     let longer = subst (IsLegal finmap.empty) (map-append outlined_event h more) legal in
     let known : known_after (outline h) a ≡ Some k = known-outline a h ∙ is in
-    let there = as_opened k.info k.opened (known_after (outline h ++ outline more) a) (known-longer finmap.empty (outline h) a k.info k.opened (itself (known_after (outline h) a) k known) (outline more) longer) in
+    let there = as_opened k.info k.opened (known_after (outline h ++ outline more) a) (known-longer finmap.empty (outline h) a k.info k.opened (opened_itself (known_after (outline h) a) k known) (outline more) longer) in
     let same : Some l ≡ Some there.0 = sym later ∙ sym (known-outline a (h ++ more)) ∙ ap (λ g. known_after g a) (map-append outlined_event h more) ∙ there.1 in
     ap (λ (m : Known). m.info) (some_inj l there.0 same) ∙ there.2
 

@@ -1,5 +1,5 @@
 use Rattle.std.proofs.Common.{◌-◌, sym, arith}
-use Rattle.history.proofs.Known.{all_positive}
+use Rattle.history.proofs.Laws.{all_positive}
 use Rattle.chunk_laying.proofs.CountLaws.{counted-step}
 use Rattle.chunk_laying.proofs.counting.count_cut.Goals as goal
 

@@ -1,5 +1,5 @@
 use Rattle.std.proofs.Common.{◌-◌, sym, refl, arith}
-use Rattle.history.proofs.Known.{all_positive}
+use Rattle.history.proofs.Laws.{all_positive}
 use Rattle.chunk_laying.proofs.CountLaws.{counted-step, behind-step}
 use Rattle.chunk_laying.proofs.listing.count_behind.Goals as goal
 

@@ -1,7 +1,7 @@
 use Rattle.std.proofs.Common.{◌≡◌, ◌+◌, length, sym, ap, subst, ◌∙◌}
 use Rattle.history.specs.History.{History}
 use Rattle.history.specs.Own.{resized_event}
-use Rattle.history.proofs.Known.{length-more}
+use Rattle.history.proofs.Laws.{length-more}
 use Rattle.run_records.specs.Indexed.{AreArrays}
 use Rattle.run_records.specs.Recorded.{RecordsOf}
 use Rattle.history.specs.Arrays.{known_after}
