@@ -15,6 +15,7 @@ pub(crate) fn answer(alloc: Global, call: &str) -> Result<String, Fault> {
         "over" => over(alloc),
         "write_run" => write_run(alloc),
         "read_run" => read(alloc),
+        "read_staged" => read_staged(alloc),
         _ => Err(Fault::Line),
     }
 }
@@ -88,5 +89,31 @@ fn read(alloc: Global) -> Result<String, Fault> {
     };
     let mut out = [1, 1, 1, 1];
     read_run(&dense, &up, &mut out);
+    told(alloc, &out)
+}
+
+// Of the cells 3, 2 and 1 of a chunk of four, the first and the last are staged and go to every other cell of a view. Then both go to
+// the view's second cell, one after the other.
+fn read_staged(alloc: Global) -> Result<String, Fault> {
+    let mut staged = Staged::new(alloc, 4)?;
+    staged.write_cell(1, 5);
+    staged.write_cell(3, 6);
+    let down = Run {
+        view: 0,
+        view_step: 2,
+        chunk: 3,
+        chunk_step: -1,
+        len: 3,
+    };
+    let again = Run {
+        view: 1,
+        view_step: 0,
+        chunk: 3,
+        chunk_step: -2,
+        len: 2,
+    };
+    let mut out = [1, 1, 1, 1, 1];
+    staged.read_run(&down, &mut out);
+    staged.read_run(&again, &mut out);
     told(alloc, &out)
 }

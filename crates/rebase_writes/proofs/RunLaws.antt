@@ -5,7 +5,8 @@ use Rattle.std.proofs.lemmas.List.Sums.{fold-append}
 use Rattle.std.proofs.lemmas.List.FromFn.{map-range_with_len_more}
 use Rattle.cells.specs.declared.run.Run.{Run}
 use Rattle.cells.specs.Runs.{view_place, chunk_place, pair_at, pairs_of, first_pairs}
-use Rattle.rebase_writes.specs.Runs.{pairs_written, pairs_read}
+use Rattle.rebase_writes.specs.Runs.{pairs_written, pairs_read, shown_at, pairs_shown}
+use Rattle.rebase_writes.specs.Staged.{staged_at}
 
 -- a fold over the first numbers, and one more
 fold_more : {A B : Type 0} (f : B → A → B) (g : ℕ → A) (b : B) (k : ℕ) → fold f b (map g (range_with_len 0 (k + 1))) ≡ f (fold f b (map g (range_with_len 0 k))) (g k)
@@ -21,3 +22,8 @@ pub pairs_read-more : (run : Run) (words out : List ℕ) (k : ℕ) → pairs_rea
     ≡ set (pairs_read (pairs_of (first_pairs run k)) words out) (view_place run k) (get_or words (chunk_place run k) 0)
 pairs_read-more run words out k =
     fold_more (λ shown pair. set shown pair.view (get_or words pair.chunk 0)) (pair_at run) out k
+
+pub pairs_shown-more : (run : Run) (cells : List (Option ℕ)) (out : List ℕ) (k : ℕ) → pairs_shown (pairs_of (first_pairs run (k + 1))) cells out
+    ≡ shown_at (pairs_shown (pairs_of (first_pairs run k)) cells out) (view_place run k) (staged_at cells (chunk_place run k))
+pairs_shown-more run cells out k =
+    fold_more (λ shown pair. shown_at shown pair.view (staged_at cells pair.chunk)) (pair_at run) out k

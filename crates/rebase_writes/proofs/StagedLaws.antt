@@ -7,6 +7,7 @@ use Rattle.std.specs.Option.{ForSome}
 use Rattle.cells.specs.Dense.{DenseCells, IsDense}
 use Rattle.cells.specs.Numbers.{IsWord}
 use Rattle.cells.specs.declared.dtype.Dtype.{Dtype}
+use Rattle.rebase_writes.specs.Runs.{shown_at}
 use Rattle.rebase_writes.specs.Staged.{staged_cells, staged_at, AreWords, CoverAll, laid_over}
 
 -- there is a cell for each place
@@ -48,6 +49,18 @@ staged_at-mask [] words place same inside = absurd (omega (arith, inside))
 staged_at-mask (covered ∷ mask) [] place same inside = absurd (omega (arith, same))
 staged_at-mask (covered ∷ mask) (word ∷ words) zero same inside = refl
 staged_at-mask (covered ∷ mask) (word ∷ words) (suc place) same inside = staged_at-mask mask words place (omega (arith, same)) (omega (arith, inside))
+
+-- what is shown of a place whose mark is set
+pub shown-staged : (mask : List Bool) (words out : List ℕ) (view place : ℕ) → length mask ≡ length words → place < length mask → get_or mask place false ≡ true
+    → shown_at out view (staged_at (staged_cells mask words) place) ≡ set out view (get_or words place 0)
+shown-staged mask words out view place same inside mark =
+    ap (shown_at out view) (staged_at-mask mask words place same inside ∙ ap (λ (b : Bool). if b then Some (get_or words place 0) else None) mark)
+
+-- and of another
+pub shown-bare : (mask : List Bool) (words out : List ℕ) (view place : ℕ) → length mask ≡ length words → place < length mask → get_or mask place false ≡ false
+    → shown_at out view (staged_at (staged_cells mask words) place) ≡ out
+shown-bare mask words out view place same inside mark =
+    ap (shown_at out view) (staged_at-mask mask words place same inside ∙ ap (λ (b : Bool). if b then Some (get_or words place 0) else None) mark)
 
 -- whether a word is staged at a place tells its mark
 pub IsSome-staged_at : (mask : List Bool) (words : List ℕ) (cells : List (Option ℕ)) (place : ℕ) (covered : Bool) → length mask ≡ length words

@@ -1,7 +1,7 @@
 ghost use Rattle.std.specs.Prelude.{◌≡◌, ℕ, ◌+◌, ◌*◌, ◌<◌, ◌^◌, pos, ◌≤ℤ◌, ◌<ℤ◌, length};
 ghost use Rattle.rebase_writes.specs.Staged.{staged_cells};
 ghost use Rattle.cells.specs.Runs.{view_place, chunk_number, chunk_place, IsRunInside, pairs_of};
-ghost use Rattle.rebase_writes.specs.Runs.{pairs_written, pairs_read};
+ghost use Rattle.rebase_writes.specs.Runs.{pairs_written, pairs_read, pairs_shown};
 
 use cells::{Dense, Run};
 
@@ -27,6 +27,20 @@ pub(crate) fn stage_run(mask: &mut [bool], staged: &mut [u64], run: &Run, words:
         let (view, chunk) = pair_at(run, pair);
         mask[chunk] = true;
         staged[chunk] = words[view];
+    }
+}
+
+/// Puts the staged words into a view along a run, from a mask and words.
+pub(crate) fn show_run(mask: &[bool], staged: &[u64], run: &Run, out: &mut [u64])
+    requires same { length mask.now ≡ length staged.now }
+    requires inside { IsRunInside run.now (length out.old) (length staged.now) }
+    ensures { out.new ≡ pairs_shown (pairs_of run.now) (staged_cells mask.now staged.now) out.old }
+{
+    for pair in 0..run.len {
+        let (view, chunk) = pair_at(run, pair);
+        if mask[chunk] {
+            out[view] = staged[chunk];
+        }
     }
 }
 

@@ -2,9 +2,9 @@ ghost use Rattle.std.specs.Prelude.{◌≡◌, ℕ, ◌<◌, ◌≤◌, ◌^◌,
 ghost use Rattle.cells.specs.Dense.{DenseCells, IsDense};
 ghost use Rattle.rebase_writes.specs.Staged.{staged_cells, staged_at, AreWords, CoverAll, laid_over};
 ghost use Rattle.cells.specs.Runs.{IsRunInside, pairs_of};
-ghost use Rattle.rebase_writes.specs.Runs.{pairs_written};
+ghost use Rattle.rebase_writes.specs.Runs.{pairs_written, pairs_shown};
 
-use crate::run::stage_run;
+use crate::run::{show_run, stage_run};
 use cells::{Dense, Run, Sizes, Words};
 use std::alloc::{AllocError, Global};
 use std::marker::Model;
@@ -57,6 +57,15 @@ impl Staged {
         ensures { self.new ≡ pairs_written (pairs_of run.now) words.now self.old }
     {
         stage_run(&mut self.mask, &mut self.words, run, words);
+    }
+
+    /// Puts staged words into a view along a run: for each pair in turn, the word that is staged at the pair's place in the chunk, where there
+    /// is one, at the pair's place in the view.
+    pub fn read_run(&self, run: &Run, out: &mut [u64])
+        requires { IsRunInside run.now (length out.old) (length self.now) }
+        ensures { out.new ≡ pairs_shown (pairs_of run.now) self.now out.old }
+    {
+        show_run(&self.mask, &self.words, run, out);
     }
 
     /// Whether a word is staged at a place.
