@@ -2,7 +2,7 @@
 use Rattle.std.proofs.Common.{◌≡◌, ◌∙◌, zero, suc, Some, arith, ap, List, [], ◌∷◌, ◌++◌, map, sym, subst}
 use Rattle.std.specs.Prelude.{Contains}
 use Rattle.std.specs.List.{AllByRecursion}
-use Rattle.history.proofs.Known.{some_inj}
+use Rattle.history.proofs.Laws.{some_inj, known_still}
 use Rattle.history.specs.Arrays.{Known, known_after, chunk_shape}
 use Rattle.transaction_cells.specs.Lanes.{LaneSeen, AreAlike, lane_of}
 use Rattle.cast_driver.specs.declared.cast.Cast.{Cast}
@@ -18,7 +18,7 @@ use Rattle.stack_driver.specs.declared.view.View.TheVariants as view
 use Rattle.stack_driver.proofs.Laws.{every_base, every_layer}
 use Rattle.stack_targets.specs.Landings.{Seen, Ground, ground_of, leaves_of, all_leaves, with_cast}
 use Rattle.stack_targets.proofs.Laws.{ground-Leaf, ground-Cast, ground-Stack}
-use Rattle.transaction_cells.specs.Operations.{IsLeafIn}
+use Rattle.transaction_cells.specs.Operations.{IsLeafIn, IsGrowing}
 use Rattle.transaction_cells.proofs.OperationLaws.{leaf_in}
 
 module _ (events : History) where
@@ -63,13 +63,17 @@ module _ (events : History) where
   unfolding Goes
   known_leaves v = ind-View Goes goes_step v
 
--- a view of known references has leaves of arrays of the history
-pub leaves_in : (start : Contents) (events : History) (v : View) → IsLegal start events → HasKnownRefs events v → AllByRecursion (IsLeafIn events) (leaves_of v)
-leaves_in start events v legal refs = all (leaves_of v) (known_leaves events v refs)
+-- a view of known references has leaves of arrays of a history, where arrays that are there stay
+pub leaves_among : (events : History) (v : View) → IsGrowing events → HasKnownRefs events v → AllByRecursion (IsLeafIn events) (leaves_of v)
+leaves_among events v grows refs = all (leaves_of v) (known_leaves events v refs)
   where
     all : (leaves : List Seen) → AllByRecursion (λ (s : Seen). IsKnownRef events s.array) leaves → AllByRecursion (IsLeafIn events) leaves
     all [] known = tt
-    all (s ∷ leaves) known = (leaf_in start events s legal known.0, all leaves known.1)
+    all (s ∷ leaves) known = (leaf_in events s grows known.0, all leaves known.1)
+
+-- so do they in a legal history
+pub leaves_in : (start : Contents) (events : History) (v : View) → IsLegal start events → HasKnownRefs events v → AllByRecursion (IsLeafIn events) (leaves_of v)
+leaves_in start events v legal refs = leaves_among events v (λ n a k is. known_still start events a n k legal is) refs
 
 -- a lane of an array of a history
 record IsLaneIn (events : History) (lane : LaneSeen) : Type 0 where

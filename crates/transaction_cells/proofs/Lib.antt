@@ -10,3 +10,8 @@ pub mod OperationLaws
 pub mod NeedLaws
 pub mod LeafLaws
 pub mod Laws
+pub mod GatherLaws
+pub mod CastLaws
+pub mod ShownLaws
+pub mod TypeLaws
+pub mod LaterLaws

@@ -20,13 +20,18 @@ use Rattle.history.specs.Arrays.{Known, known_after, chunk_shape}
 use Rattle.history.specs.Chunks.{chunk_index, within_chunk, in_array, chunk_of, chunk_in}
 use Rattle.history.specs.History.{History}
 use Rattle.history.specs.Writes.{Put, Content, put, put_at, puts_of, puts_of_op, written}
-use Rattle.history.proofs.Geometry.{in_array-split}
-use Rattle.rebase_writes.specs.Staged.{staged_at}
+use Rattle.history.proofs.Laws.{in_array-split, some_inj, none_is_none}
+use Rattle.rebase_writes.specs.Staged.{staged_at, AreWords}
 use Rattle.stack_driver.specs.Targets.{Cell, is_cell, inwards}
 use Rattle.stack_driver.specs.Views.{targets_of}
 use Rattle.stack_driver.specs.declared.view.View.{View}
-use Rattle.transaction_cells.specs.Operations.{HasSites, AreStaged, IsLeafIn, no_content}
-use Rattle.history.proofs.Known.{some_inj}
+use Rattle.transaction_cells.specs.Operations.{HasSites, AreStaged, IsInArray, IsLeafIn, IsGrowing, no_content}
+use Rattle.history.specs.declared.array.ArrayInfo.{ArrayInfo}
+use Rattle.cast_driver.proofs.Laws.{IsWord-word_back}
+use Rattle.cells.specs.Numbers.{IsWord}
+use Rattle.cells.specs.declared.dtype.Dtype.{Dtype}
+use Rattle.std.specs.Option.{ForSome}
+use Rattle.std.proofs.lemmas.List.Elements.{All-set, All-replicate}
 use Rattle.index_transform.specs.Cells.{cells_of}
 use Rattle.stack_driver.specs.Views.{look_of}
 use Rattle.stack_targets.specs.Buffers.{all_landings}
@@ -34,14 +39,11 @@ use Rattle.stack_targets.specs.Landings.{Seen, Landing, leaves_of, no_leaf}
 use Rattle.stack_targets.specs.declared.error.TargetsError.{TargetsError}
 use Rattle.cells.proofs.Laws.{both, both_true}
 use Rattle.transaction_cells.proofs.ToldLaws.{all_landed}
-use Rattle.transaction_cells.specs.Lanes.{HasGrid}
+use Rattle.transaction_cells.specs.Lanes.{HasGrid, IsShownAs}
 use Rattle.transaction_cells.specs.Sites.{Site, sites_of, sites_in, site_of, id_of, IsLanded, pairs_at}
 use Rattle.transaction_cells.specs.Pieces.{AreCells, IsPiece}
 use Rattle.transaction_cells.specs.declared.view_cells.ViewCells.{ViewCells}
-use Rattle.history.proofs.Shrinks.{known_still}
-use Rattle.history.specs.Legal.{IsLegal}
 use Rattle.history.specs.Refs.{IsKnownRef}
-use Rattle.kv_face.specs.Store.{Contents}
 use Rattle.stack_driver.specs.References.{Reference}
 use Rattle.transaction_cells.specs.Staging.{word_in, StagedChunk, IsSized, CanStage, staged_of, with_word, written_at}
 use Rattle.transaction_cells.proofs.PlaceLaws.{inside_within, place-lt}
@@ -219,11 +221,41 @@ known_landings : (events : History) (leaves : List Seen) (ls : List Landing) →
 known_landings events leaves [] all grids landed = tt
 known_landings events leaves (l ∷ ls) all grids landed = (site_known events leaves l all grids landed.0, known_landings events leaves ls all grids landed.1)
 
-known_sites : (events : History) (v : View) → AllByRecursion (IsLeafIn events) (leaves_of v) → AllByRecursion HasGrid (leaves_of v) → AllByRecursion (IsSiteIn events) (sites_of v)
+pub known_sites : (events : History) (v : View) → AllByRecursion (IsLeafIn events) (leaves_of v) → AllByRecursion HasGrid (leaves_of v) → AllByRecursion (IsSiteIn events) (sites_of v)
 known_sites events v all grids = by (all_landings v) refl
   where
     by : (r : Result (List Landing) TargetsError) → all_landings v ≡ r → AllByRecursion (IsSiteIn events) (sites_in (leaves_of v) r)
     by (Ok ls) is = known_landings events (leaves_of v) ls all grids (all_landed v (cells_of (look_of v).dims) 0 ls is).0
+    by (Err e) is = tt
+
+-- a word of the view's dtype goes back to one of the array's dtype
+abbrev pub GoesBack : History → Dtype → Site → Type 0
+GoesBack events dtype s = (k : Known) (w : ℕ) → known_after events s.target.cell.array ≡ Some k → IsWord dtype w → IsWord k.info.dtype (inwards s.target.casts w)
+
+site_typed : (events : History) (dtype : Dtype) (leaves : List Seen) (l : Landing) → AllByRecursion (IsLeafIn events) leaves → AllByRecursion (IsShownAs dtype) leaves → IsLanded leaves l → GoesBack events dtype (site_of leaves l)
+site_typed events dtype leaves l all typed landed k w known word =
+    let seen = get_or leaves l.leaf no_leaf in
+    let leaf : IsLeafIn events seen = leaf_at (IsLeafIn events) leaves l.leaf all landed.0 in
+    let shown : IsShownAs dtype seen = leaf_at (IsShownAs dtype) leaves l.leaf typed landed.0 in
+    let same : leaf.array ≡ k = some_inj leaf.array k (sym leaf.known ∙ known) in
+    subst (λ d. IsWord d (inwards seen.casts w)) (leaf.dtype ∙ ap (λ (a : Known). a.info.dtype) same)
+    (IsWord-word_back seen.casts seen.array.dtype w shown.begins (subst (λ d. IsWord d w) (sym shown.ends) word))
+  where
+    leaf_at : (P : Seen → Type 0) (ls : List Seen) (n : ℕ) → AllByRecursion P ls → n < length ls → P (get_or ls n no_leaf)
+    leaf_at P [] n all lt = absurd (omega (arith, lt))
+    leaf_at P (s ∷ ls) zero all lt = all.0
+    leaf_at P (s ∷ ls) (suc n) all lt = leaf_at P ls n all.1 (omega (arith, lt))
+
+typed_landings : (events : History) (dtype : Dtype) (leaves : List Seen) (ls : List Landing) → AllByRecursion (IsLeafIn events) leaves → AllByRecursion (IsShownAs dtype) leaves → AllByRecursion (IsLanded leaves) ls
+    → AllByRecursion (GoesBack events dtype) (map (site_of leaves) ls)
+typed_landings events dtype leaves [] all typed landed = tt
+typed_landings events dtype leaves (l ∷ ls) all typed landed = (site_typed events dtype leaves l all typed landed.0, typed_landings events dtype leaves ls all typed landed.1)
+
+typed_sites : (events : History) (v : View) → AllByRecursion (IsLeafIn events) (leaves_of v) → HasSites v → AllByRecursion (GoesBack events (look_of v).dtype) (sites_of v)
+typed_sites events v all has = by (all_landings v) refl
+  where
+    by : (r : Result (List Landing) TargetsError) → all_landings v ≡ r → AllByRecursion (GoesBack events (look_of v).dtype) (sites_in (leaves_of v) r)
+    by (Ok ls) is = typed_landings events (look_of v).dtype (leaves_of v) ls all has.typed (all_landed v (cells_of (look_of v).dims) 0 ls is).0
     by (Err e) is = tt
 
 -- an id tells the array
@@ -317,10 +349,51 @@ any-append f (p ∷ ps) qs = told (f p) (any-append f ps qs)
     told true e = refl
     told false e = e
 
+-- words of a chunk are of its array's dtype
+abbrev HasWords : Dtype → Option (List (Option ℕ)) → Type 0
+HasWords dtype cells = (c : List (Option ℕ)) → cells ≡ Some c → AreWords dtype c
+
+one_typed : (s : Site) (word : ℕ) (dtype : Dtype) (cells : Option (List (Option ℕ))) → IsWord dtype (inwards s.target.casts word) → HasWords dtype cells → HasWords dtype (with_word s word cells)
+one_typed s word dtype None is typed c same =
+    let here : set (replicate s.size None) s.place (Some (inwards s.target.casts word)) ≡ c = cc in
+    subst (AreWords dtype) here (All-set (λ cell. ForSome cell (IsWord dtype)) (replicate s.size None) s.place (Some (inwards s.target.casts word))
+    (λ w e. subst (IsWord dtype) (some_inj (inwards s.target.casts word) w e) is) (All-replicate (λ cell. ForSome cell (IsWord dtype)) s.size None (λ w e. absurd (none_is_none w e))))
+one_typed s word dtype (Some cells) is typed c same =
+    let here : set cells s.place (Some (inwards s.target.casts word)) ≡ c = cc in
+    subst (AreWords dtype) here (All-set (λ cell. ForSome cell (IsWord dtype)) cells s.place (Some (inwards s.target.casts word))
+    (λ w e. subst (IsWord dtype) (some_inj (inwards s.target.casts word) w e) is) (typed cells refl))
+
+typed_after : (id : List ℕ) (shown dtype : Dtype) (sites : List Site) (words : List ℕ) (cells : Option (List (Option ℕ))) → AllByRecursion (λ (s : Site). bytes_eq s.id id ≡ true → (w : ℕ) → IsWord shown w → IsWord dtype (inwards s.target.casts w)) sites
+    → AllByRecursion (IsWord shown) words → HasWords dtype cells → HasWords dtype (written_at id sites words cells)
+typed_after id shown dtype [] words cells back are typed = typed
+typed_after id shown dtype (s ∷ sites) [] cells back are typed = typed
+typed_after id shown dtype (s ∷ sites) (word ∷ words) cells back are typed =
+    told (bytes_eq s.id id) refl (λ next h. typed_after id shown dtype sites words next back.1 are.1 h)
+  where
+    told : (b : Bool) → bytes_eq s.id id ≡ b → ((next : Option (List (Option ℕ))) → HasWords dtype next → HasWords dtype (written_at id sites words next)) → HasWords dtype (written_at id sites words (cond b (with_word s word cells) cells))
+    told true e rest = rest (with_word s word cells) (one_typed s word dtype cells (back.0 e word are.0) typed)
+    told false e rest = rest cells typed
+
+all_back : (events : History) (shown : Dtype) (sites : List Site) (array : ℕ) (index : List ℕ) (k : Known) → known_after events array ≡ Some k → AllByRecursion (IsSiteIn events) sites → AllByRecursion (GoesBack events shown) sites
+    → AllByRecursion (λ (s : Site). bytes_eq s.id (array ∷ index) ≡ true → (w : ℕ) → IsWord shown w → IsWord k.info.dtype (inwards s.target.casts w)) sites
+all_back events shown [] array index k known all typed = tt
+all_back events shown (s ∷ sites) array index k known all typed =
+    (λ e w word. typed.0 k w (ap (known_after events) (of_id events s all.0 array index k known e).0 ∙ known) word, all_back events shown sites array index k known all.1 typed.1)
+
+all_with : {A : Type 0} (P : A → Type 0) (xs ys : List A) → AllByRecursion P xs → AllByRecursion P ys → AllByRecursion P (xs ++ ys)
+all_with P [] ys all rest = rest
+all_with P (x ∷ xs) ys all rest = (all.0, all_with P xs ys all.1 rest)
+
+-- words that are put at sites are put into arrays of the history
+puts_known : (events : History) (sites : List Site) (words : List ℕ) → AllByRecursion (IsSiteIn events) sites → AllByRecursion (IsInArray events) (puts_at sites words)
+puts_known events [] words all = tt
+puts_known events (s ∷ sites) [] all = tt
+puts_known events (s ∷ sites) (word ∷ words) all = (record { array = all.0.array; known = all.0.known }, puts_known events sites words all.1)
+
 -- what is staged after a write is what the operations with it write
 pub staged_more : (events : History) (v : View) (ops : List Op) (words : List ℕ) (old new : List StagedChunk) → AllByRecursion (IsLeafIn events) (leaves_of v) → HasSites v
-    → ((id : List ℕ) → staged_of new id ≡ written_at id (sites_of v) words (staged_of old id)) → AreStaged events ops old → AreStaged events (ops ++ Write v words ∷ []) new
-staged_more events v ops words old new leaves has is h =
+    → ((id : List ℕ) → staged_of new id ≡ written_at id (sites_of v) words (staged_of old id)) → AllByRecursion (IsWord (look_of v).dtype) words → AreStaged events ops old → AreStaged events (ops ++ Write v words ∷ []) new
+staged_more events v ops words old new leaves has is are h =
     let sites = sites_of v in
     let known = known_sites events v leaves has.grids in
     let puts = puts-more ops v words has in
@@ -339,6 +412,10 @@ staged_more events v ops words old new leaves has is h =
       sizes = λ array index k cells there e.
           sized_after (array ∷ index) (cell_count (chunk_shape k.info)) sites words (staged_of old (array ∷ index)) (all_fit events sites array index k there known)
           (λ c f. h.sizes array index k c there f) cells (sym (is (array ∷ index)) ∙ e);
+      typed = λ array index k cells there e.
+          typed_after (array ∷ index) (look_of v).dtype k.info.dtype sites words (staged_of old (array ∷ index))
+          (all_back events (look_of v).dtype sites array index k there known (typed_sites events v leaves has)) are (λ c f. h.typed array index k c there f) cells (sym (is (array ∷ index)) ∙ e);
+      known = subst (AllByRecursion (IsInArray events)) (sym puts) (all_with (IsInArray events) (puts_of ops) (puts_at sites words) h.known (puts_known events sites words known));
     }
 
 -- what is staged by operations has the sizes of the chunks of a view, and their cells lie in them
@@ -371,20 +448,23 @@ none_staged events = record {
   words = λ x k there rank. refl;
   there = λ id. refl;
   sizes = λ array index k cells there e. absurd (let no_such : ⊥ = cc in no_such);
+  typed = λ array index k cells there e. absurd (let no_such : ⊥ = cc in no_such);
+  known = tt;
 }
 
 -- a leaf with a known reference is of its array
-pub leaf_in : (start : Contents) (events : History) (seen : Seen) → IsLegal start events → IsKnownRef events seen.array → IsLeafIn events seen
-leaf_in start events seen legal ref =
-    let still = known_still start events seen.array.number ref.seen ref.array legal ref.known in
+pub leaf_in : (events : History) (seen : Seen) → IsGrowing events → IsKnownRef events seen.array → IsLeafIn events seen
+leaf_in events seen grows ref =
+    let still = grows ref.seen seen.array.number ref.array ref.known in
     record {
       array = still.0;
       known = still.1;
       chunk = ap (λ (r : Reference). r.chunk) ref.same ∙ ap chunk_shape (sym still.2);
+      dtype = ap (λ (r : Reference). r.dtype) ref.same ∙ ap (λ (i : ArrayInfo). i.dtype) (sym still.2);
     }
 
 -- a word is there where one was, or where one is put
-some_put : (ps : List Put) (content : Content) (x : Cell) → is_some (fold put content ps x) ≡ (is_some (content x) || is_put ps x)
+pub some_put : (ps : List Put) (content : Content) (x : Cell) → is_some (fold put content ps x) ≡ (is_some (content x) || is_put ps x)
 some_put [] content x = sym (or_no (is_some (content x)))
   where
     or_no : (b : Bool) → (b || false) ≡ b
@@ -421,7 +501,7 @@ any_kept keep test (s ∷ sites) = told (keep s.target.cell) (any_kept keep test
     told true e = ap (λ c. test s.target.cell || c) e
     told false e = e
 
-named_cells : (sites : List Site) → filter_map target_cell (map (λ (s : Site). Ok s.target) sites) ≡ map (λ (s : Site). s.target.cell) sites
+pub named_cells : (sites : List Site) → filter_map target_cell (map (λ (s : Site). Ok s.target) sites) ≡ map (λ (s : Site). s.target.cell) sites
 named_cells [] = refl
 named_cells (s ∷ sites) = ap (λ xs. s.target.cell ∷ xs) (named_cells sites)
 

@@ -31,7 +31,7 @@ length-runs_written [] words cells = refl
 length-runs_written (run ∷ runs) words cells = length-runs_written runs words (pairs_written (pairs_of run) words cells) ∙ length-pairs_written (pairs_of run) words cells
 
 -- room for runs goes with the size
-room_same : (runs : List Run) (count n m : ℕ) → n ≡ m → AllByRecursion (λ run. IsRunInside run count n) runs → AllByRecursion (λ run. IsRunInside run count m) runs
+pub room_same : (runs : List Run) (count n m : ℕ) → n ≡ m → AllByRecursion (λ run. IsRunInside run count n) runs → AllByRecursion (λ run. IsRunInside run count m) runs
 room_same runs count n m e h = subst (λ k. AllByRecursion (λ run. IsRunInside run count k) runs) e h
 
 room_after : (runs more : List Run) (words : List ℕ) (count : ℕ) (cells : Option (List (Option ℕ))) → HasRoom runs count cells → HasRoom runs count (option_map (runs_written more words) cells)

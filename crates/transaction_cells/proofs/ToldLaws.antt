@@ -10,7 +10,9 @@ use Rattle.stack_targets.specs.Buffers.{told_landings, all_landings, all_or_firs
 use Rattle.stack_targets.specs.Landings.{Seen, Landing, landing_of, leaves_of, no_leaf, target_among}
 use Rattle.stack_targets.specs.declared.error.TargetsError.{TargetsError}
 use Rattle.stack_driver.specs.declared.error.TargetError.{TargetError}
+use Rattle.stack_driver.specs.Conditions.{IsView}
 use Rattle.stack_targets.proofs.Laws.{Meets, agrees}
+use Rattle.transaction_cells.proofs.TypeLaws.{shown_as}
 use Rattle.transaction_cells.specs.Casting.{HasLane, casts_at}
 use Rattle.transaction_cells.specs.Lanes.{LaneSeen, lane_of, HasGrid}
 use Rattle.transaction_cells.specs.Operations.{HasSites}
@@ -137,11 +139,12 @@ sites_targeted leaves [] = refl
 sites_targeted leaves (l ∷ ls) = ap (λ ts. there_is (target_among leaves l) ∷ ts) (sites_targeted leaves ls)
 
 -- where all cells land, the sites are the targets
-pub has_sites : (v : View) (ls : List Landing) → all_landings v ≡ Ok ls → AllByRecursion HasGrid (leaves_of v) → HasSites v
+pub has_sites : (v : View) (ls : List Landing) → all_landings v ≡ Ok ls → AllByRecursion HasGrid (leaves_of v) → IsView v → HasSites v
 unfolding targets_of
-has_sites v ls is grids = record {
+has_sites v ls is grids valid = record {
   targets = all_targeted v (cells_of (look_of v).dims) 0 ls is ∙ sites_targeted (leaves_of v) ls ∙ ap (map (λ (s : Site). there_is s.target)) (sym (ap (sites_in (leaves_of v)) is));
   grids = grids;
+  typed = shown_as v valid;
 }
 
 -- the same of the other cells

@@ -147,7 +147,7 @@ module _ (id : List ℕ) where
       ap (λ b. pieces_written pieces id words (cond b (option_map (runs_written p.runs words) cells) cells)) h.0 ∙ others_written pieces words cells h.1
 
 -- ids behind one in order are others
-others_behind : (id : List ℕ) (pieces : List Piece) → AllByRecursion (λ y. slice_cmp nat_cmp id y ≡ Less) (ids_of pieces) → AreOthers id pieces
+pub others_behind : (id : List ℕ) (pieces : List Piece) → AllByRecursion (λ y. slice_cmp nat_cmp id y ≡ Less) (ids_of pieces) → AreOthers id pieces
 others_behind id [] h = tt
 others_behind id (p ∷ pieces) h = (apart id p.id h.0, others_behind id pieces h.1)
   where

@@ -2,6 +2,8 @@
 use Rattle.std.specs.Prelude.{◌≡◌, ℕ, List, [], ◌∷◌, length, map, ◌==◌, Contains, if◌then◌else◌}
 use Rattle.cells.specs.Places.{cell_count}
 use Rattle.cells.specs.Shapes.{IsChunkShape}
+use Rattle.cells.specs.declared.dtype.Dtype.{Dtype}
+use Rattle.cast_driver.specs.Chain.{BeginsWith, dtype_after}
 use Rattle.stack_targets.specs.Landings.{Seen}
 use Rattle.cast_driver.specs.declared.cast.Cast.{Cast}
 
@@ -32,3 +34,8 @@ AreAlike leaves = HaveOneShape (map lane_of leaves)
 pub record HasGrid (seen : Seen) : Type 0 where
   pub rank : length seen.array.chunk ≡ length seen.array.shape
   pub shape : IsChunkShape seen.array.chunk
+
+-- the casts of a leaf lead from its array's dtype to this one
+pub record IsShownAs (dtype : Dtype) (seen : Seen) : Type 0 where
+  pub begins : BeginsWith seen.array.dtype seen.casts
+  pub ends : dtype_after seen.array.dtype seen.casts ≡ dtype

@@ -8,3 +8,4 @@ pub mod Staging
 pub mod Tables
 pub mod Operations
 pub mod Needs
+pub mod Gathered

@@ -15,7 +15,7 @@ IsRunIn size run = (view : ℕ) × IsRunInside run view size
 abbrev pub is_bare : List (Option ℕ) → Pair → Bool
 is_bare cells pair = is_none (staged_at cells pair.chunk)
 
--- nor at one of the pairs of runs
+-- at one of the pairs of runs no word is staged
 abbrev pub are_bare : List (Option ℕ) → List Run → Bool
 are_bare cells runs = list_any (is_bare cells) (flat_map pairs_of runs)
 

@@ -1,10 +1,11 @@
 //! The cells of a transaction: where those of a view lie by chunks, and what is staged of each chunk.
 //!
-//! Crates above rest on two things: `locate` has each cell of a view once, in its chunk at its place, and `Staging` has at
-//! each cell the word that the transaction's operations put there last.
+//! Crates above rest on three things: `locate` has each cell of a view once, in its chunk at its place, `Staging` has at each
+//! cell the word that the transaction's operations put there last, and `gather` shows a view through both.
 #![tactic(auto)]
 
 mod cuts;
+mod gathering;
 mod lane;
 mod lanes;
 mod locating;

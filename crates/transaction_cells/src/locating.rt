@@ -41,6 +41,7 @@ pub fn locate(alloc: Global, v: &View) -> Result<ViewCells, TargetsError>
     ensures cells { IfOk result (λ cells. AreCells (sites_of v.now) cells) }
     ensures sites { OnOk result (HasSites v.now) }
     ensures err { IfErr result (λ e. e ≢ TargetsError.Memory → all_targets v.now ≡ Err e) }
+    ensures lanes { IfOk result (λ cells. cells.lanes ≡ map lane_of (leaves_of v.now)) }
 {
     let t = targets(alloc, v)?;
     let (lanes, pieces) = cut(alloc, v, &t)?;

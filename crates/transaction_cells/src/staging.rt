@@ -1,21 +1,24 @@
-ghost use Rattle.std.specs.Prelude.{◌≡◌, ◌∷◌, ◌++◌, [], ℕ, List, length, slice_index_or, ◌<◌, ◌≤◌, ◌^◌, pos, ◌≤ℤ◌, ◌<ℤ◌, OnOk, OnErr};
+ghost use Rattle.std.specs.Prelude.{◌≡◌, ◌∷◌, ◌++◌, [], ℕ, List, Option, length, slice_index_or, ◌<◌, ◌≤◌, ◌^◌, pos, ◌≤ℤ◌, ◌<ℤ◌, OnOk, OnErr};
 ghost use Rattle.std.specs.List.{AllByRecursion, list_any};
+ghost use Rattle.std.specs.Map.Iter.{ShowsInOrder, deref_pair};
 ghost use Rattle.std.specs.Str.{bytes_eq};
+ghost use Rattle.cells.specs.Numbers.{IsWord};
 ghost use Rattle.cells.specs.Runs.{IsRunInside, pairs_of, chunk_number, chunk_place};
 ghost use Rattle.history.specs.Chunks.{chunk_of};
 ghost use Rattle.history.specs.History.{History};
 ghost use Rattle.history.specs.Reads.{unwritten};
 ghost use Rattle.history.specs.declared.event.Op.{Op};
 ghost use Rattle.history.specs.declared.event.Op.TheVariants as op;
+ghost use Rattle.stack_driver.specs.Views.{look_of};
 ghost use Rattle.stack_driver.specs.declared.view.View.{View};
 ghost use Rattle.stack_targets.specs.Landings.{leaves_of};
 ghost use Rattle.transaction_cells.specs.Operations.{AreStaged, HasSites, IsLeafIn};
-ghost use Rattle.transaction_cells.specs.Found.{found};
+ghost use Rattle.transaction_cells.specs.Found.{Id, found};
 ghost use Rattle.transaction_cells.specs.Needs.{IsRunIn, is_bare, are_bare, needs};
 ghost use Rattle.transaction_cells.specs.declared.view_cells.Piece.{Piece};
 ghost use Rattle.transaction_cells.specs.Pieces.{AreCells};
 ghost use Rattle.transaction_cells.specs.Sites.{Site, sites_of, id_of};
-ghost use Rattle.transaction_cells.specs.Staging.{staged_of, word_in, written_at, CanStage};
+ghost use Rattle.transaction_cells.specs.Staging.{chunks_of, staged_of, word_in, written_at, CanStage};
 ghost use Rattle.transaction_cells.specs.Tables.{prepared, HasSameWords, MayWrite, pieces_written, runs_written};
 
 use crate::view_cells::{Piece, ViewCells};
@@ -23,15 +26,16 @@ use cells::Run;
 use rebase_writes::Staged;
 use std::alloc::{AllocError, Global};
 use std::collections::BTreeMap;
+use std::collections::btree_map::Iter;
 use std::marker::Model;
 
 /// Staged cells by the ids of their chunks.
-type Table = BTreeMap<Vec<u64>, Staged>;
+pub(crate) type Table = BTreeMap<Vec<u64>, Staged>;
 
 /// What a transaction has written and not yet committed, by chunks. A contract sees the chunks in the order of their ids.
 #[derive(Drop)]
 pub struct Staging {
-    table: Table,
+    pub(crate) table: Table,
 }
 
 impl Model for Staging {
@@ -68,7 +72,7 @@ impl Staging {
         ensures ok { OnOk result ((sites : List Site) → AreCells sites cells.now → (id : List ℕ)
             → staged_of self.new id ≡ written_at id sites words.now (staged_of self.old id)) }
         ensures history { OnOk result ((events : History) (v : View) (ops : List Op) → AllByRecursion (IsLeafIn events) (leaves_of v) → HasSites v → AreCells (sites_of v) cells.now
-            → AreStaged events ops self.old → AreStaged events (ops ++ op.Write v words.now ∷ []) self.new) }
+            → AllByRecursion (IsWord (look_of v).dtype) words.now → AreStaged events ops self.old → AreStaged events (ops ++ op.Write v words.now ∷ []) self.new) }
         ensures err { OnErr result ((id : List ℕ) (place : ℕ) → word_in self.new id place ≡ word_in self.old id place) }
     {
         let kept = cells.back(alloc, words)?;
@@ -76,6 +80,14 @@ impl Staging {
         prepare(alloc, &mut self.table, pieces)?;
         write(&mut self.table, pieces, &kept);
         Ok(())
+    }
+
+    /// The chunks of which a word is staged, in the order of their ids.
+    pub fn chunks(&self) -> Iter<'_, Vec<u64>, Staged>
+        ensures rest { chunks_of result ≡ self.now }
+        ensures runs { ShowsInOrder (deref_pair {K = Id} {X = List (Option ℕ)}) }
+    {
+        self.table.iter()
     }
 
     /// Whether a read of a view needs the chunk of one of its pieces: at a cell of it no word is staged. It takes no memory.

@@ -1,6 +1,7 @@
 ghost use Rattle.std.specs.Prelude.{◌≡◌, length, IfOk};
 ghost use Rattle.std.specs.List.{AllByRecursion};
 ghost use Rattle.transaction_cells.specs.Casting.{HasLane, taken_back};
+ghost use Rattle.transaction_cells.specs.Gathered.{taken_out};
 
 use crate::lane::Lane;
 use cells::{List, Run, Sizes};
@@ -40,6 +41,15 @@ impl ViewCells {
     {
         back(alloc, self.lanes.items(), self.leaves.items(), words)
     }
+
+    /// Takes the words that are kept of a view's cells outwards, each through the casts of its leaf.
+    pub fn out(&self, words: &mut [u64])
+        requires count { length words.old ≡ length self.now.leaves }
+        requires lanes { AllByRecursion (HasLane self.now.lanes) self.now.leaves }
+        ensures { words.new ≡ taken_out self.now.lanes self.now.leaves words.old }
+    {
+        out(self.lanes.items(), self.leaves.items(), words);
+    }
 }
 
 fn back(
@@ -58,4 +68,15 @@ fn back(
         kept.push(lane.casts.back(words[cell]))?;
     }
     Ok(kept)
+}
+
+fn out(lanes: &[Lane], leaves: &[u32], words: &mut [u64])
+    requires count { length words.old ≡ length leaves.now }
+    requires lanes { AllByRecursion (HasLane lanes.now) leaves.now }
+    ensures { words.new ≡ taken_out lanes.now leaves.now words.old }
+{
+    for (cell, leaf) in leaves.iter().enumerate() {
+        let lane = &lanes[*leaf as usize];
+        words[cell] = lane.casts.out(words[cell]);
+    }
 }

@@ -29,4 +29,4 @@ returns-clause-cells c =
 pub returns-clause-sites : goal.returns-clause-sites
 returns-clause-sites c =
     let v = c.args.v.now in
-    has_sites v (told_landings (leaves_of v) c.in_ok-t.t.leaves c.in_ok-t.t.numbers) c.in_ok-t.ensures.landings c.in_ok-lanes.ensures.ranks
+    has_sites v (told_landings (leaves_of v) c.in_ok-t.t.leaves c.in_ok-t.t.numbers) c.in_ok-t.ensures.landings c.in_ok-lanes.ensures.ranks c.requires.view

@@ -44,5 +44,5 @@ returns-clause-ok c sites are id =
     ∙ ap (written_at id sites words) (sym (staged_found old id) ∙ ap (λ (chunks : List StagedChunk). staged_of chunks id) c.self.view_is)
 
 pub returns-clause-history : goal.returns-clause-history
-returns-clause-history c events v ops leaves has are h =
-    staged_more events v ops c.args.words.now c.args.self.now _ leaves has (λ id. returns-clause-ok c (sites_of v) are id) h
+returns-clause-history c events v ops leaves has are words h =
+    staged_more events v ops c.args.words.now c.args.self.now _ leaves has (λ id. returns-clause-ok c (sites_of v) are id) words h
