@@ -16,7 +16,7 @@ use Rattle.history.specs.Legal.{is_opening}
 use Rattle.history.specs.Outcomes.{Outcome, exists, mismatch, there, found, made, unless_taken, outcome_at}
 use Rattle.history.specs.Own.{opened_event}
 use Rattle.history.specs.Places.{IsFree, taken, array_at}
-use Rattle.history.proofs.Known.{none_is_none}
+use Rattle.history.proofs.Laws.{none_is_none}
 use Rattle.state_laws.specs.Seen.{StoreSeen}
 use Rattle.state_laws.specs.Log.{Log}
 use Rattle.state_laws.specs.Fetches.{HasFailed}

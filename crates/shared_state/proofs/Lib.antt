@@ -3,3 +3,4 @@ pub mod Looked
 pub mod Answered
 pub mod Beside
 pub mod Written
+pub mod Keys

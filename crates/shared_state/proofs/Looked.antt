@@ -8,7 +8,7 @@ use Rattle.history.specs.declared.array.Home.TheVariants.{Zarr, N5, Zarr3, Local
 use Rattle.history.specs.Arrays.{Known, known_after, is_local}
 use Rattle.history.specs.Chunks.{Chunk}
 use Rattle.history.specs.ReadRows.{mount_of}
-use Rattle.history.proofs.Known.{none_is_none}
+use Rattle.history.proofs.Laws.{none_is_none}
 use Rattle.state_laws.specs.declared.reading.Look.{Look}
 use Rattle.state_laws.specs.declared.reading.Look.TheVariants as look
 use Rattle.state_laws.specs.Seen.{StoreSeen, IsRead}

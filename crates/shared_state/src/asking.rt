@@ -1,13 +1,15 @@
-// Whether an array, or a chunk of it, is one of the run.
-ghost use Rattle.std.specs.Prelude.{◌↔◌, IsTrue, IsSome};
+// Whether an array, or a chunk of it, is one of the run, and whether changes go together.
+ghost use Rattle.std.specs.Prelude.{◌≡◌, ◌↔◌, IsTrue, IsSome};
+ghost use Rattle.kv_face.specs.Store.{keys_of, are_together};
 ghost use Rattle.history.specs.Arrays.{known_after};
+ghost use Rattle.history.specs.Commit.{are_together as are_keys_together};
 ghost use Rattle.state_laws.specs.Seen.{seen_of};
 ghost use Rattle.state_laws.specs.Agreement.{IsState};
 ghost use Rattle.state_laws.specs.Fetches.{IsChunkOf};
 
 use crate::state::State;
-use kv_face::KvStore;
-use state_parts::is_index_of;
+use kv_face::{Change, KvStore};
+use state_parts::{is_index_of, together};
 
 impl<K: KvStore> State<K> {
     /// Whether the run has an array of this number.
@@ -24,5 +26,13 @@ impl<K: KvStore> State<K> {
         ensures { IsTrue result ↔ IsChunkOf self.now.log.events (record { array = array; index = chunk.now }) }
     {
         self.has_array(array) && is_index_of(self.records.info(array), chunk)
+    }
+
+    /// Whether the store makes these changes in one call. Takes no memory.
+    pub fn together(&self, changes: &[Change]) -> bool
+        ensures changes { result ≡ are_together (K.prefixes self.now.store) changes.now 0 }
+        ensures keys { result ≡ are_keys_together (K.prefixes self.now.store) (keys_of changes.now) }
+    {
+        together(&self.store, changes)
     }
 }

@@ -137,7 +137,7 @@ impl<K: KvStore> State<K> {
         ensures store { self.new.store ≡ self.old.store }
         ensures kept { let seen = seen_of K.contents K.faults K.prefixes K.names K.standing K.change_count in KeepsAgreement (seen self.old.store) self.old.log (seen self.new.store) self.new.log }
     {
-        let generation = self.generation_at(array, chunk, key.as_str());
+        let generation = self.generation_at(array, key.as_str());
         let form = self.info(array)?;
         match decode(self.alloc, &form, bytes) {
             Ok(cells) => self.put(array, chunk, key, generation, cells, bounds),

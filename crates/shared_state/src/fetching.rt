@@ -22,7 +22,10 @@ use std::alloc::AllocError;
 
 impl<K: KvStore> State<K> {
     /// The mount of a stored array.
-    fn mount_name(&self, array: u64) -> Result<Name, AllocError>
+    ///
+    /// # Errors
+    /// Want of memory alone.
+    pub fn mount_name(&self, array: u64) -> Result<Name, AllocError>
         requires { (k : Known) × (known_after self.now.log.events array ≡ Some k) × (is_local k.info.home ≡ false) }
         ensures { IfOk result (λ name. (k : Known) → known_after self.now.log.events array ≡ Some k → mount_of k.info.home ≡ Some name) }
     {
@@ -150,7 +153,7 @@ impl<K: KvStore> State<K> {
         ensures looked { let seen = seen_of K.contents K.faults K.prefixes K.names K.standing K.change_count in IfOk result (λ l. IsLook (seen self.now.store) self.now.log (record { array = array; index = chunk.now }) l) }
         ensures err { OnErr result (result ≡ Err FetchError.Memory) }
     {
-        let generation = self.generation_at(array, chunk, key);
+        let generation = self.generation_at(array, key);
         let form = self.info(array)?;
         Ok(Look::Bytes {
             generation,

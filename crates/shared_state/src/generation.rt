@@ -59,13 +59,13 @@ impl<K: KvStore> State<K> {
         // A look at the length, by which the contract knows that numbers of events have 64 bits.
         let _ = self.events().len();
         match self.array_of(key.as_bytes()) {
-            Some(array) => self.number_of(array, key),
+            Some(array) => self.generation_at(array, key),
             None => 0,
         }
     }
 
     /// The generation that the table tells of a chunk of an array.
-    fn number_of(&self, array: u64, key: &str) -> u64
+    pub(crate) fn generation_at(&self, array: u64, key: &str) -> u64
         requires { IsSome (known_after self.now.log.events array) }
         ensures { (k : Known) → known_after self.now.log.events array ≡ Some k → result ≡ generation_in self.now.log k key.now }
     {

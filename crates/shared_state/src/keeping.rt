@@ -5,7 +5,7 @@ ghost use Rattle.history.specs.Chunks.{chunk_key};
 ghost use Rattle.state_laws.specs.Seen.{seen_of};
 ghost use Rattle.state_laws.specs.Log.{cells_held};
 ghost use Rattle.state_laws.specs.Agreement.{IsState, KeepsAgreement};
-ghost use Rattle.state_laws.specs.Fetches.{IsAnswered, IsChunkOf, IsNamed, KeepsSettled, kept_of, looked_at, generation_in, settled};
+ghost use Rattle.state_laws.specs.Fetches.{IsAnswered, IsChunkOf, IsNamed, KeepsSettled, kept_of, looked_at, settled};
 
 use crate::state::State;
 use array_homes::is_local;
@@ -15,22 +15,11 @@ use std::alloc::AllocError;
 
 impl<K: KvStore> State<K> {
     /// Whether the run holds an array, and no store.
-    pub(crate) fn is_local(&self, array: u64) -> bool
+    pub fn is_local(&self, array: u64) -> bool
         requires { IsSome (known_after self.now.log.events array) }
         ensures { (k : Known) → known_after self.now.log.events array ≡ Some k → result ≡ is_local k.info.home }
     {
         is_local(&self.records.info(array).home)
-    }
-
-    /// The generation of the chunk that has a key.
-    pub(crate) fn generation_at(&self, array: u64, chunk: &[u64], key: &str) -> u64
-        requires { IsNamed self.now.log.events (record { array = array; index = chunk.now }) key.now }
-        ensures { (k : Known) → known_after self.now.log.events array ≡ Some k → result ≡ generation_in self.now.log k key.now }
-    {
-        match self.records.number_at(key.as_bytes()) {
-            Some(number) => number,
-            None => self.records.opened(array),
-        }
     }
 
     /// The cells that the run holds of a local array.
@@ -88,7 +77,7 @@ impl<K: KvStore> State<K> {
         if self.is_local(array) {
             return Ok(());
         }
-        if self.generation_at(array, chunk, key.as_str()) != snapshot.generation() {
+        if self.generation_at(array, key.as_str()) != snapshot.generation() {
             return Ok(());
         }
         match self.records.keep(key, snapshot) {

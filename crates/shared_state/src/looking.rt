@@ -1,12 +1,12 @@
 // Chunks as they are.
-ghost use Rattle.std.specs.Prelude.{◌≡◌, Some, IfOk, IsSome, string_bytes};
-ghost use Rattle.history.specs.Arrays.{Known, known_after, form_of};
-ghost use Rattle.history.specs.Chunks.{chunk_key};
+ghost use Rattle.std.specs.Prelude.{◌≡◌, Some, IfOk, IsSome, false, string_bytes};
+ghost use Rattle.history.specs.Arrays.{Known, known_after, form_of, is_local};
+ghost use Rattle.history.specs.Chunks.{chunk_key, metadata_key};
 ghost use Rattle.chunk_forms.specs.Metadata.{with_shape};
 ghost use Rattle.state_laws.specs.Fetches.{IsChunkOf, bounds_in};
 
 use crate::state::State;
-use array_homes::chunk_key;
+use array_homes::{chunk_key, metadata_key};
 use cells::Name;
 use chunk_forms::Form;
 use kv_face::KvStore;
@@ -33,6 +33,20 @@ impl<K: KvStore> State<K> {
         let info = self.records.info(array);
         let opened = self.records.opened(array);
         chunk_key(self.alloc, &info.home, opened, chunk)
+    }
+
+    /// The key of a stored array's metadata.
+    ///
+    /// # Errors
+    /// Want of memory alone.
+    pub fn metadata_key(&self, array: u64) -> Result<Name, AllocError>
+        requires { (k : Known) × (known_after self.now.log.events array ≡ Some k) × (is_local k.info.home ≡ false) }
+        ensures { IfOk result (λ name. (k : Known) → known_after self.now.log.events array ≡ Some k → metadata_key k ≡ Some name) }
+    {
+        let Some(key) = metadata_key(self.alloc, &self.records.info(array).home)? else {
+            unreachable!();
+        };
+        Ok(Name::wrap(key))
     }
 
     /// An array's present shape, and the number of the event that gave it.

@@ -1,6 +1,9 @@
 // Changes of a store.
-ghost use Rattle.std.specs.Prelude.{◌≡◌, ◌<◌, length, Some, Err, OnOk, OnErr, IsOk};
-ghost use Rattle.kv_face.specs.Store.{Contents, OneMore, after};
+ghost use Rattle.std.specs.Prelude.{◌≡◌, ◌<◌, length, Some, Err, OnOk, OnErr, IsOk, All};
+ghost use Rattle.std.specs.Str.{IsCharBoundary};
+ghost use Rattle.kv_face.specs.declared.change.Change.{Change as ChangeOf};
+ghost use Rattle.kv_face.specs.Store.{Contents, OneMore, after, keys_of, are_together};
+ghost use Rattle.history.specs.Commit.{are_together as are_keys_together};
 ghost use Rattle.state_laws.specs.Seen.{IsFrame, IsQuiet, seen_of};
 ghost use Rattle.state_laws.specs.Changing.{AreMade};
 
@@ -21,4 +24,22 @@ pub fn apply<K: KvStore>(store: &mut K, changes: &[Change]) -> Result<(), KvErro
         return Ok(());
     }
     store.apply(changes)
+}
+
+// Looks at each key as a text, by which the contract knows that a character begins at its first byte.
+fn are_texts(changes: &[Change])
+    ensures { All (λ (c : ChangeOf). IsCharBoundary c.key 0) changes.now }
+{
+    for change in changes {
+        let _ = change.key.items();
+    }
+}
+
+/// Whether a store makes these changes in one call.
+pub fn together<K: KvStore>(store: &K, changes: &[Change]) -> bool
+    ensures changes { result ≡ are_together (K.prefixes store.now) changes.now 0 }
+    ensures keys { result ≡ are_keys_together (K.prefixes store.now) (keys_of changes.now) }
+{
+    are_texts(changes);
+    store.together(changes, 0)
 }

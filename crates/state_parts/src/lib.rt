@@ -15,7 +15,7 @@ mod names;
 mod place;
 mod writing;
 
-pub use applying::apply;
+pub use applying::{apply, together};
 pub use arrays::{given_array, new_array};
 pub use deciding::{decided, refused};
 pub use decoding::{as_snapshot, decode, listed};

@@ -1,7 +1,7 @@
 use Rattle.std.proofs.Common.{◌++◌, ◌∷◌, [], refl, sym, ap, subst, ◌∙◌}
 use Rattle.history.specs.Own.{opened_event}
 use Rattle.history.specs.Places.{IsTable}
-use Rattle.history.proofs.Tabled.{table_opened}
+use Rattle.history.proofs.Laws.{table_opened}
 use Rattle.run_records.specs.Recorded.{RecordsOf}
 use Rattle.shared_state.proofs.state.State.enter_new.Goals as goal
 

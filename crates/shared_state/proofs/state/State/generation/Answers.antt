@@ -1,13 +1,13 @@
 use Rattle.std.proofs.Common.{refl, sym, ap, subst, ◌∙◌}
 use Rattle.std.specs.Prelude.{IsSome}
 use Rattle.history.specs.Arrays.{known_after}
-use Rattle.history.proofs.GenerationTables.{generation_by_table}
+use Rattle.history.proofs.Laws.{generation_by_table}
 use Rattle.state_laws.specs.Keyed.{IsKeyIn, IsNobodys}
 use Rattle.state_laws.proofs.Laws.{key_known}
 use Rattle.shared_state.proofs.state.State.generation.Goals as goal
 
-pub number_of-requires : goal.number_of-requires
-number_of-requires g c =
+pub generation_at-requires : goal.generation_at-requires
+generation_at-requires g c =
     let there = c.in-Some.ensures.some in
     subst IsSome (sym (ap (known_after c.args.self.now.log.events) (sym there.of_array) ∙ there.has.known)) refl
 
@@ -15,7 +15,7 @@ pub returns-in-Some-clause-by_table : goal.returns-in-Some-clause-by_table
 returns-in-Some-clause-by_table g c = λ d has.
     let h = c.args.self.now.log.events in
     let there = subst (λ key. IsKeyIn h key c.in-Some.array) c.as_bytes.ensures.value c.in-Some.ensures.some in
-    c.number_of.ensures has.array (key_known h c.requires.agrees.1.outline c.in-Some.array c.args.key.now there d has)
+    c.generation_at.ensures has.array (key_known h c.requires.agrees.1.outline c.in-Some.array c.args.key.now there d has)
 
 pub returns-in-Some-clause-none : goal.returns-in-Some-clause-none
 returns-in-Some-clause-none g c = λ nobody.
@@ -30,7 +30,7 @@ returns-in-Some-clause-told g c = λ opening start agrees told.
     let true_to = agrees.holds start told in
     record {
       of_chunk = λ d has.
-          c.number_of.ensures has.array (key_known h c.requires.agrees.1.outline c.in-Some.array c.args.key.now there d has)
+          c.generation_at.ensures has.array (key_known h c.requires.agrees.1.outline c.in-Some.array c.args.key.now there d has)
           ∙ sym (generation_by_table start h c.args.self.now.log.generations d c.args.key.now true_to.legal true_to.generations has);
       of_none = λ nobody. absurd (nobody there.chunk there.has);
     }

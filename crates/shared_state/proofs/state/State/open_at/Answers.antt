@@ -5,8 +5,7 @@ use Rattle.history.specs.Arrays.{Known, ref_of}
 use Rattle.history.specs.Leaves.{nothing}
 use Rattle.history.specs.Outcomes.{outcome_at}
 use Rattle.history.specs.Places.{IsTable, IsFree, array_at, taken}
-use Rattle.history.proofs.Known.{some_inj}
-use Rattle.history.proofs.Tabled.{taken_by_table, not_taken_by_table}
+use Rattle.history.proofs.Laws.{some_inj, taken_by_table, not_taken_by_table}
 use Rattle.stack_driver.specs.References.{IsReference}
 use Rattle.state_laws.specs.declared.place.Place.{Place}
 use Rattle.state_laws.specs.Log.{StateOf}

@@ -5,7 +5,7 @@ use Rattle.array_homes.specs.Names.{IsChunkName}
 use Rattle.history.specs.declared.array.ArrayInfo.{ArrayInfo}
 use Rattle.history.specs.Arrays.{Known, known_after}
 use Rattle.history.specs.Places.{IsTable, location}
-use Rattle.history.proofs.Known.{some_inj}
+use Rattle.history.proofs.Laws.{some_inj}
 use Rattle.state_laws.specs.Log.{StateOf}
 use Rattle.state_laws.proofs.Laws.{of_table, places_apart, stored_some, nothing_above, not_named}
 use Rattle.shared_state.proofs.state.State.stored_of.Goals as goal

@@ -1,0 +1,14 @@
+-- The key of a stored array's metadata.
+use Rattle.std.proofs.Common.{◌≡◌, ◌≢◌, ℕ, List, None, false}
+use Rattle.std.specs.Option.{option_map}
+use Rattle.chunk_forms.specs.Names.{metadata_name}
+use Rattle.history.specs.declared.array.Home.{Home}
+use Rattle.history.specs.declared.array.Home.TheVariants.{Zarr, N5, Zarr3, Local}
+use Rattle.history.specs.Arrays.{form_of, is_local}
+
+-- a stored array's metadata has a name
+pub named_if_stored : (home : Home) (f : List ℕ → List ℕ) → is_local home ≡ false → option_map f (metadata_name (form_of home)) ≢ None
+named_if_stored (Zarr mount path meta) f stored = λ none. absurd (cc)
+named_if_stored (N5 mount path meta) f stored = λ none. absurd (cc)
+named_if_stored (Zarr3 mount path meta) f stored = λ none. absurd (cc)
+named_if_stored (Local start) f stored = λ none. absurd (cc)

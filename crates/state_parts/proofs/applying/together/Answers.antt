@@ -1,0 +1,6 @@
+use Rattle.std.proofs.Common.{◌∙◌}
+use Rattle.state_parts.proofs.OneCall.{together-keys}
+use Rattle.state_parts.proofs.applying.together.Goals as goal
+
+pub returns-clause-keys : goal.returns-clause-keys
+returns-clause-keys g c = c.together.ensures ∙ together-keys (g.K.KvStore.prefixes c.args.store.now) c.args.changes.now
