@@ -39,6 +39,7 @@ pub record IsPlanned (log : Log) (e : Event) (p : Planned) : Type 0 where
   pub known : known_after log.events chunk.array ≡ Some array
   pub valid : IsIndexOf array.info chunk.index
   pub touched : touches log.events e chunk ≡ true
+  pub of_array : chunk.array ≡ p.array
   pub named : chunk_key array chunk.index ≡ p.key
   pub left : IsLeftOf array chunk p.left
 
@@ -91,8 +92,8 @@ committed_by log owner commit plans = record {
   locals = with_cells log.locals (cells_of plans);
 }
 
--- where the store told its contents at the start, the commit may follow, each plan is right, and one counts as a change exactly where
--- the event does
+-- where the store told its contents at the start, the commit may follow, each plan is right, and there are changes exactly where the
+-- event counts as one
 pub record AreRightBy (start : Contents) (log : Log) (owner : ℕ) (commit : Commit) (plans : List Planned) : Type 0 where
   pub legal : IsLegalDone start log.events commit.ops
   pub each : AllByRecursion (IsRightPlan start log (done_event owner commit)) plans

@@ -49,7 +49,7 @@ fn add(alloc: Global, parts: &mut Parts, plan: Planned) -> Result<(), AllocError
     ensures keys { OnOk result (parts.new.keys.items ≡ parts.old.keys.items ++ plan.key ∷ []) }
     ensures cells { OnOk result (parts.new.cells.items ≡ parts.old.cells.items ++ held_of plan.left []) }
 {
-    let Planned { key, left } = plan;
+    let Planned { key, left, .. } = plan;
     parts.keys.push(copied(alloc, &key)?)?;
     add_left(&mut parts.changes, &mut parts.cells, key, left)
 }

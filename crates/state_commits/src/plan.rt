@@ -13,6 +13,8 @@ pub enum Left {
 /// What a commit leaves of the chunk that has a key.
 #[derive(Drop)]
 pub struct Planned {
+    /// The number of its array.
+    pub array: u64,
     pub key: Name,
     pub left: Left,
 }
