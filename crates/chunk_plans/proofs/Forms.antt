@@ -13,7 +13,7 @@ use Rattle.history.specs.Arrays.{Known, known_after, form_of, is_local, chunk_sh
 use Rattle.history.specs.Chunks.{IsIndexOf, chunk_key}
 use Rattle.history.specs.Legal.{IsAsKept}
 use Rattle.history.specs.Resizes.{reaches_into}
-use Rattle.history.proofs.Known.{IsGood}
+use Rattle.history.proofs.Laws.{IsGood}
 use Rattle.rebase_writes.specs.Staged.{AreWords}
 use Rattle.chunk_laying.specs.Laid.{IsChunkOf}
 use Rattle.state_laws.specs.Agreement.{IsState}
@@ -29,18 +29,19 @@ use Rattle.chunk_plans.proofs.Kept.{shape_told, chunk_told}
 pub record MayLay (f : Form) (w : ChunkWrite) : Type 0 where
   pub stored : meta.is_local f ≡ false
   pub fill : IsWord (dtype_of f) (fill_of f)
-  pub chunk : IsChunkOf (shape_of f) (chunk_shape_of f) w.chunk
-  pub reached : reaches_into (chunk_shape_of f) (shape_of f) w.chunk ≡ true
-  pub size : length w.staged ≡ cell_count (chunk_shape_of f)
-  pub words : AreWords (dtype_of f) w.staged
+  pub chunk : IsChunkOf (shape_of f) (chunk_shape_of f) w.chunk.now
+  pub reached : reaches_into (chunk_shape_of f) (shape_of f) w.chunk.now ≡ true
+  pub size : length w.staged.now ≡ cell_count (chunk_shape_of f)
+  pub words : AreWords (dtype_of f) w.staged.now
 
-valid_chunks : (info : ArrayInfo) (home : Home) → IsAsKept info home → is_local home ≡ false → IsChunkShape (chunk_shape_in home info.shape)
+-- a stored array's chunks have a shape that chunks may have, of its rank
+pub valid_chunks : (info : ArrayInfo) (home : Home) → IsAsKept info home → is_local home ≡ false → IsChunkShape (chunk_shape_in home info.shape)
 valid_chunks info (Zarr mount path m) kept stored = kept.valid.chunks
 valid_chunks info (N5 mount path m) kept stored = kept.valid.block
 valid_chunks info (Zarr3 mount path m) kept stored = kept.valid.chunks
 valid_chunks info (Local start) kept stored = absurd (cc)
 
-valid_ranks : (info : ArrayInfo) (home : Home) → IsAsKept info home → is_local home ≡ false → length (chunk_shape_in home info.shape) ≡ length info.shape
+pub valid_ranks : (info : ArrayInfo) (home : Home) → IsAsKept info home → is_local home ≡ false → length (chunk_shape_in home info.shape) ≡ length info.shape
 valid_ranks info (Zarr mount path m) kept stored = kept.valid.ranks ∙ ap length (sym kept.shape)
 valid_ranks info (N5 mount path m) kept stored = kept.valid.ranks ∙ ap length (sym kept.shape)
 valid_ranks info (Zarr3 mount path m) kept stored = kept.valid.ranks ∙ ap length (sym kept.shape)
@@ -69,7 +70,7 @@ module _ (store : StoreSeen) (log : Log) (w : ChunkWrite) (k : Known) (state : I
   chunks : chunk_shape_of f ≡ chunk_shape k.info
   chunks = chunk_told k.info.home k.info.shape k.shape stored
 
-  whole_chunk : IsChunkOf k.shape (chunk_shape k.info) w.chunk
+  whole_chunk : IsChunkOf k.shape (chunk_shape k.info) w.chunk.now
   whole_chunk = record {
     chunks = valid_chunks k.info k.info.home good.kept stored;
     shape_rank = good.rank ∙ sym (valid_ranks k.info k.info.home good.kept stored);
@@ -81,10 +82,10 @@ module _ (store : StoreSeen) (log : Log) (w : ChunkWrite) (k : Known) (state : I
   may_lay_now = record {
     stored = form_stored store log w.array k f state is.known stored refl;
     fill = form_fill store log w.array k f state is.known stored refl;
-    chunk = subst (λ s. IsChunkOf s (chunk_shape_of f) w.chunk) (sym shapes) (subst (λ n. IsChunkOf k.shape n w.chunk) (sym chunks) whole_chunk);
-    reached = ap (λ n. reaches_into n (shape_of f) w.chunk) chunks ∙ ap (λ s. reaches_into (chunk_shape k.info) s w.chunk) shapes ∙ is.reached;
+    chunk = subst (λ s. IsChunkOf s (chunk_shape_of f) w.chunk.now) (sym shapes) (subst (λ n. IsChunkOf k.shape n w.chunk.now) (sym chunks) whole_chunk);
+    reached = ap (λ n. reaches_into n (shape_of f) w.chunk.now) chunks ∙ ap (λ s. reaches_into (chunk_shape k.info) s w.chunk.now) shapes ∙ is.reached;
     size = is.size ∙ ap cell_count (sym chunks);
-    words = subst (λ d. AreWords d w.staged) (sym (dtype_told k.info k.info.home k.shape good.kept stored)) is.words;
+    words = subst (λ d. AreWords d w.staged.now) (sym (dtype_told k.info k.info.home k.shape good.kept stored)) is.words;
   }
 
   pub may_lay : (form : Form) → form ≡ f → MayLay form w
@@ -102,8 +103,8 @@ local_told (Zarr3 mount path m) s = refl
 local_told (Local start) s = refl
 
 -- words that are staged by an array's form, as a state tells it, are a write
-pub write_by_form : {store : StoreSeen} {log : Log} (w : ChunkWrite) (k : Known) (form : Form) → IsState store log → known_after log.events w.array ≡ Some k → IsIndexOf k.info w.chunk → chunk_key k w.chunk ≡ w.key → meta.is_local form ≡ false
-    → form ≡ with_shape (form_of k.info.home) k.shape → reaches_into (chunk_shape_of form) (shape_of form) w.chunk ≡ true → length w.staged ≡ cell_count (chunk_shape_of form) → AreWords (dtype_of form) w.staged → IsWrite log.events w
+pub write_by_form : {store : StoreSeen} {log : Log} (w : ChunkWrite) (k : Known) (form : Form) → IsState store log → known_after log.events w.array ≡ Some k → IsIndexOf k.info w.chunk.now → chunk_key k w.chunk.now ≡ w.key → meta.is_local form ≡ false
+    → form ≡ with_shape (form_of k.info.home) k.shape → reaches_into (chunk_shape_of form) (shape_of form) w.chunk.now ≡ true → length w.staged.now ≡ cell_count (chunk_shape_of form) → AreWords (dtype_of form) w.staged.now → IsWrite log.events w
 write_by_form {store} {log} w k form state known valid named kept same reached size words =
     let stored : is_local k.info.home ≡ false = sym (local_told k.info.home k.shape) ∙ ap meta.is_local (sym same) ∙ kept in
     let shapes : shape_of form ≡ k.shape = ap shape_of same ∙ shape_told k.info.home k.shape stored in
@@ -114,8 +115,8 @@ write_by_form {store} {log} w k form state known valid named kept same reached s
         known = known;
         valid = valid;
         named = named;
-        reached = ap (λ n. reaches_into n k.shape w.chunk) (sym chunks) ∙ ap (λ s. reaches_into (chunk_shape_of form) s w.chunk) (sym shapes) ∙ reached;
+        reached = ap (λ n. reaches_into n k.shape w.chunk.now) (sym chunks) ∙ ap (λ s. reaches_into (chunk_shape_of form) s w.chunk.now) (sym shapes) ∙ reached;
         size = size ∙ ap cell_count chunks;
-        words = subst (λ d. AreWords d w.staged) dtypes words;
+        words = subst (λ d. AreWords d w.staged.now) dtypes words;
       },
     )

@@ -14,7 +14,7 @@ use Rattle.history.specs.declared.array.Home.TheVariants.{Zarr, N5, Zarr3, Local
 use Rattle.history.specs.Arrays.{Known, known_after, is_local, chunk_shape, chunk_shape_in}
 use Rattle.history.specs.Resizes.{reaches_into}
 use Rattle.history.specs.Snapshots.{chunk_box}
-use Rattle.history.proofs.Valid.{local_shape}
+use Rattle.history.proofs.Laws.{local_shape}
 use Rattle.rebase_writes.specs.Staged.{AreWords, staged_at}
 use Rattle.state_laws.specs.Agreement.{Opening, Agrees, IsState}
 use Rattle.state_laws.specs.Fetches.{IsAnswered, kept_of}
@@ -63,23 +63,23 @@ module _ {store : StoreSeen} {log : Log} (w : ChunkWrite) (base : SnapshotCells)
 
   sizes : chunk_shape k.info ≡ k.info.shape
   sizes =
-      full_by k.info.home k.info.shape w.chunk local
-      (ap (λ s. reaches_into (chunk_shape k.info) s w.chunk) (sym (local_whole w.array k state write.1.known local)) ∙ write.1.reached)
+      full_by k.info.home k.info.shape w.chunk.now local
+      (ap (λ s. reaches_into (chunk_shape k.info) s w.chunk.now) (sym (local_whole w.array k state write.1.known local)) ∙ write.1.reached)
 
   box : chunk_box k.info ≡ k.info.shape
   box = ap (λ b. cond b k.info.shape (chunk_shape k.info)) local
 
-  pub held_size : length w.staged ≡ cell_count base.cells.shape
+  pub held_size : length w.staged.now ≡ cell_count base.cells.shape
   held_size = write.1.size ∙ ap cell_count (sizes ∙ sym box ∙ sym (answered.cells k write.1.known).shape)
 
-  pub held_words : AreWords base.cells.dtype w.staged
-  held_words = subst (λ d. AreWords d w.staged) (sym (answered.cells k write.1.known).dtype) write.1.words
+  pub held_words : AreWords base.cells.dtype w.staged.now
+  held_words = subst (λ d. AreWords d w.staged.now) (sym (answered.cells k write.1.known).dtype) write.1.words
 
   pub held_plan : (opening : Opening) (start : Contents) (l : Known) (cells : DenseCells) → Agrees opening store log → opening.store.contents ≡ Some start → known_after log.events w.array ≡ Some l
-      → ((at : List ℕ) → IsInside base.cells.shape at → word_at cells at ≡ unwrap_or (staged_at w.staged (c_place base.cells.shape at)) (word_at base.cells at)) → IsHeldOver start log.events l (chunk_of_write w) w.staged cells
+      → ((at : List ℕ) → IsInside base.cells.shape at → word_at cells at ≡ unwrap_or (staged_at w.staged.now (c_place base.cells.shape at)) (word_at base.cells at)) → IsHeldOver start log.events l (chunk_of_write w) w.staged.now cells
   held_plan opening start l cells agrees told known words = record {
     base = base.cells;
     generation = base.generation;
     snapshot = answered.now opening start l agrees told known;
-    words = subst (λ (ns : List ℕ). (at : List ℕ) → IsInside ns at → word_at cells at ≡ unwrap_or (staged_at w.staged (c_place ns at)) (word_at base.cells at)) (answered.cells l known).shape words;
+    words = subst (λ (ns : List ℕ). (at : List ℕ) → IsInside ns at → word_at cells at ≡ unwrap_or (staged_at w.staged.now (c_place ns at)) (word_at base.cells at)) (answered.cells l known).shape words;
   }

@@ -19,9 +19,8 @@ use Rattle.std.specs.List.{AllByRecursion}
 use Rattle.stack_driver.specs.Targets.{Cell}
 use Rattle.cells.proofs.Laws.{test-IsInside}
 use Rattle.history.specs.Chunks.{Chunk, IsIndexOf, IsWholeIfLocal, cell_at, chunk_in, chunk_index, chunk_of, in_array}
-use Rattle.history.proofs.Geometry.{chunk_index-in_array}
-use Rattle.history.proofs.Touching.{content_of_done}
-use Rattle.history.proofs.Untouched.{generation_touched}
+use Rattle.history.proofs.Laws.{chunk_index-in_array, content_of_done, generation_touched, known_after-more, some_inj, shape_now, snapshot_longer}
+use Rattle.history.proofs.Laws.{else_word, last_put}
 use Rattle.history.specs.Commit.{Key, Transaction, done}
 use Rattle.history.specs.Content.{content_after, cut_to, present_shape, word_outside}
 use Rattle.history.specs.Legal.{IsLegal, IsAsKept}
@@ -29,11 +28,6 @@ use Rattle.history.specs.Snapshots.{IsSnapshotOf, box_in, chunk_box}
 use Rattle.history.specs.Store.{IsChunkKept, shape_when_touched}
 use Rattle.history.specs.Touch.{touches, generation_of}
 use Rattle.history.specs.Writes.{puts_of}
-use Rattle.history.proofs.Histories.{known_after-more}
-use Rattle.history.proofs.Known.{some_inj}
-use Rattle.history.proofs.Changing.{shape_now}
-use Rattle.history.proofs.Snapshots.{snapshot_longer}
-use Rattle.history.proofs.Written.{else_word, last_put}
 use Rattle.rebase_writes.specs.Staged.{staged_at}
 use Rattle.chunk_laying.specs.Laid.{laid_word}
 use Rattle.chunk_laying.proofs.Laws.{IsStagedBy, snapshot_of_covered, snapshot_of_laid}
@@ -67,6 +61,23 @@ writes_told (Local start) index s bytes word stored w = absurd (cc)
 
 box_told : (home : Home) (shape : List ℕ) → is_local home ≡ false → box_in home shape ≡ chunk_shape_in home shape
 box_told home shape stored = ap (λ b. cond b shape (chunk_shape_in home shape)) stored
+
+in_full : (info : ArrayInfo) (at : List ℕ) → is_local info.home ≡ false → IsInside (chunk_shape info) at → IsInside (chunk_box info) at
+in_full info at stored inside = subst (λ ns. IsInside ns at) (sym (box_told info.home info.shape stored)) inside
+
+-- the bytes of a stored chunk's words are what is kept of it
+pub kept_of_bytes : (start : Contents) (later : History) (k : Known) (c : Chunk) (generation : ℕ) (shape : List ℕ) (cells : DenseCells) (bytes : Option (List ℕ)) → is_local k.info.home ≡ false → IsAsKept k.info k.info.home
+    → IsSnapshotOf start later k c generation (word_at cells) → AreBytesOf (with_shape (form_of k.info.home) shape) c.index (word_at cells) bytes → IsChunkKept start later k c shape bytes
+kept_of_bytes start later k c generation shape cells None stored as_kept snapshot are = λ at inside.
+    snapshot.cells at (in_full k.info at stored inside)
+    ∙ ap Some (are at (subst (λ ns. IsInside ns at) (sym (chunk_told k.info.home k.info.shape shape stored)) inside) ∙ fill_told k.info k.info.home shape stored as_kept)
+kept_of_bytes start later k c generation shape cells (Some bytes) stored as_kept snapshot are = (
+  record { word = word_at cells; writes = writes_told k.info.home c.index shape bytes (word_at cells) stored are.0; cells = λ at inside. snapshot.cells at (in_full k.info at stored inside) },
+  λ all. are.1
+      (λ at inside.
+      let within : IsInside (chunk_shape k.info) at = subst (λ ns. IsInside ns at) (chunk_told k.info.home k.info.shape shape stored) inside in
+      some_inj (word_at cells at) k.info.fill (sym (snapshot.cells at (in_full k.info at stored within)) ∙ all at within) ∙ sym (fill_told k.info k.info.home shape stored as_kept)),
+)
 
 -- a local array with a cell has no size of 0, and its one chunk stands at the origin
 no_zero : (shape at : List ℕ) → IsInside shape at → map (max 1) shape ≡ shape
@@ -134,25 +145,11 @@ module _ (start : Contents) (events : History) (owner : ℕ) (t : Transaction) (
     shape_is : shape_when_touched later c ≡ k.shape
     shape_is = shape_now events (done owner t ops key) c touched ∙ ap present_shape (known_after-more events (done owner t ops key) c.array ∙ known)
 
-    in_box : (at : List ℕ) → IsInside (chunk_shape k.info) at → IsInside (chunk_box k.info) at
-    in_box at inside = subst (λ ns. IsInside ns at) (sym (box_told k.info.home k.info.shape stored)) inside
-
-    kept_by : (cells : DenseCells) (bytes : Option (List ℕ)) → IsSnapshotOf start later k c (length events + 1) (word_at cells) → AreBytesOf f c.index (word_at cells) bytes → IsChunkKept start later k c k.shape bytes
-    kept_by cells None snapshot are = λ at inside.
-        snapshot.cells at (in_box at inside) ∙ ap Some (are at (subst (λ ns. IsInside ns at) (sym (chunk_told k.info.home k.info.shape k.shape stored)) inside) ∙ fill_told k.info k.info.home k.shape stored as_kept)
-    kept_by cells (Some bytes) snapshot are = (
-      record { word = word_at cells; writes = writes_told k.info.home c.index k.shape bytes (word_at cells) stored are.0; cells = λ at inside. snapshot.cells at (in_box at inside) },
-      λ all. are.1
-          (λ at inside.
-          let within : IsInside (chunk_shape k.info) at = subst (λ ns. IsInside ns at) (chunk_told k.info.home k.info.shape k.shape stored) inside in
-          some_inj (word_at cells at) k.info.fill (sym (snapshot.cells at (in_box at within)) ∙ all at within) ∙ sym (fill_told k.info k.info.home k.shape stored as_kept)),
-    )
-
     -- what is left of a stored chunk is what is kept of it behind the commit
     pub kept_of_left : (bytes : Option (List ℕ)) → IsLeftNow start events k c staged bytes → IsChunkKept start later k c (shape_when_touched later c) bytes
     kept_of_left bytes now =
         subst (λ s. IsChunkKept start later k c s bytes) (sym shape_is)
-        (kept_by now.left.cells bytes (left_snapshot now.base now.left.cells now.under (laid_told c.index now.base now.left.cells now.left.laid)) now.left.written)
+        (kept_of_bytes start later k c (length events + 1) k.shape now.left.cells bytes stored as_kept (left_snapshot now.base now.left.cells now.under (laid_told c.index now.base now.left.cells now.left.laid)) now.left.written)
 
   -- the cells of a local array behind the commit
   module _ (local : is_local k.info.home ≡ true) (whole : k.shape ≡ k.info.shape) where

@@ -8,3 +8,12 @@ pub use Rattle.chunk_plans.proofs.Kept.{held_snapshot}
 pub use Rattle.chunk_plans.proofs.Kept.{left_longer, held_longer}
 -- words that are staged by an array's form, as a state tells it, are a write
 pub use Rattle.chunk_plans.proofs.Forms.{write_by_form}
+-- the bytes of a stored chunk's words are what is kept of it
+pub use Rattle.chunk_plans.proofs.Kept.{kept_of_bytes}
+-- what the form of a stored array, with some shape, says of the array
+pub use Rattle.chunk_plans.proofs.Kept.{shape_told, chunk_told, fill_told}
+pub use Rattle.chunk_plans.proofs.Forms.{dtype_told, kept_as, valid_chunks, valid_ranks}
+-- what is laid of a chunk that reaches into its array's shape may be written, and its bytes are what is left of it
+pub use Rattle.chunk_plans.proofs.LeftLaws.{IsLaidBy, laid_of, may_write, is_left}
+-- a chunk that was fetched changes the cache alone
+pub use Rattle.chunk_plans.proofs.Same.{same_log, same_by, fetched_same}

@@ -21,31 +21,31 @@ use Rattle.chunk_plans.proofs.Kept.{shape_told, chunk_told}
 
 -- over the chunk that was read
 pub left_over_read : (opening : Opening) (start : Contents) (store : StoreSeen) (log : Log) (w : ChunkWrite) (k : Known) (f : Form) (snapshot : SnapshotCells) (bytes : Option (List ℕ)) → IsAnswered store log (chunk_of_write w) snapshot → Agrees opening store log
-    → opening.store.contents ≡ Some start → known_after log.events w.array ≡ Some k → f ≡ with_shape (form_of k.info.home) k.shape → IsLeft f w.chunk w.staged (Some snapshot.cells) bytes → IsLeftNow start log.events k (chunk_of_write w) w.staged bytes
+    → opening.store.contents ≡ Some start → known_after log.events w.array ≡ Some k → f ≡ with_shape (form_of k.info.home) k.shape → IsLeft f w.chunk.now w.staged.now (Some snapshot.cells) bytes → IsLeftNow start log.events k (chunk_of_write w) w.staged.now bytes
 left_over_read opening start store log w k f snapshot bytes answered agrees told known same left = record {
   base = Some snapshot.cells;
   under = (snapshot.generation, answered.now opening start k agrees told known);
-  left = subst (λ g. IsLeft g w.chunk w.staged (Some snapshot.cells) bytes) same left;
+  left = subst (λ g. IsLeft g w.chunk.now w.staged.now (Some snapshot.cells) bytes) same left;
 }
 
 -- the words cover the chunk by the form that is told, and so by the array
-pub covered_told : (k : Known) (w : ChunkWrite) (f : Form) → is_local k.info.home ≡ false → f ≡ with_shape (form_of k.info.home) k.shape → IsCovered (shape_of f) (chunk_shape_of f) w.chunk w.staged → IsCovered k.shape (chunk_shape k.info) w.chunk w.staged
+pub covered_told : (k : Known) (w : ChunkWrite) (f : Form) → is_local k.info.home ≡ false → f ≡ with_shape (form_of k.info.home) k.shape → IsCovered (shape_of f) (chunk_shape_of f) w.chunk.now w.staged.now → IsCovered k.shape (chunk_shape k.info) w.chunk.now w.staged.now
 covered_told k w f stored same covered =
     let g : Form = with_shape (form_of k.info.home) k.shape in
-    let now : IsCovered (shape_of g) (chunk_shape_of g) w.chunk w.staged = subst (λ h. IsCovered (shape_of h) (chunk_shape_of h) w.chunk w.staged) same covered in
-    subst (λ s. IsCovered s (chunk_shape k.info) w.chunk w.staged) (shape_told k.info.home k.shape stored) (subst (λ n. IsCovered (shape_of g) n w.chunk w.staged) (chunk_told k.info.home k.info.shape k.shape stored) now)
+    let now : IsCovered (shape_of g) (chunk_shape_of g) w.chunk.now w.staged.now = subst (λ h. IsCovered (shape_of h) (chunk_shape_of h) w.chunk.now w.staged.now) same covered in
+    subst (λ s. IsCovered s (chunk_shape k.info) w.chunk.now w.staged.now) (shape_told k.info.home k.shape stored) (subst (λ n. IsCovered (shape_of g) n w.chunk.now w.staged.now) (chunk_told k.info.home k.info.shape k.shape stored) now)
 
-pub covered_back : (k : Known) (w : ChunkWrite) (f : Form) → is_local k.info.home ≡ false → f ≡ with_shape (form_of k.info.home) k.shape → IsCovered k.shape (chunk_shape k.info) w.chunk w.staged → IsCovered (shape_of f) (chunk_shape_of f) w.chunk w.staged
+pub covered_back : (k : Known) (w : ChunkWrite) (f : Form) → is_local k.info.home ≡ false → f ≡ with_shape (form_of k.info.home) k.shape → IsCovered k.shape (chunk_shape k.info) w.chunk.now w.staged.now → IsCovered (shape_of f) (chunk_shape_of f) w.chunk.now w.staged.now
 covered_back k w f stored same covered =
     let g : Form = with_shape (form_of k.info.home) k.shape in
-    let now : IsCovered (shape_of g) (chunk_shape_of g) w.chunk w.staged =
-    subst (λ n. IsCovered (shape_of g) n w.chunk w.staged) (sym (chunk_told k.info.home k.info.shape k.shape stored)) (subst (λ s. IsCovered s (chunk_shape k.info) w.chunk w.staged) (sym (shape_told k.info.home k.shape stored)) covered) in
-    subst (λ h. IsCovered (shape_of h) (chunk_shape_of h) w.chunk w.staged) (sym same) now
+    let now : IsCovered (shape_of g) (chunk_shape_of g) w.chunk.now w.staged.now =
+    subst (λ n. IsCovered (shape_of g) n w.chunk.now w.staged.now) (sym (chunk_told k.info.home k.info.shape k.shape stored)) (subst (λ s. IsCovered s (chunk_shape k.info) w.chunk.now w.staged.now) (sym (shape_told k.info.home k.shape stored)) covered) in
+    subst (λ h. IsCovered (shape_of h) (chunk_shape_of h) w.chunk.now w.staged.now) (sym same) now
 
 -- over none, where every cell in the array's shape is staged
-pub left_over_none : (start : Contents) (log : Log) (w : ChunkWrite) (k : Known) (f : Form) (bytes : Option (List ℕ)) → is_local k.info.home ≡ false → f ≡ with_shape (form_of k.info.home) k.shape → IsCovered (shape_of f) (chunk_shape_of f) w.chunk w.staged
-    → IsLeft f w.chunk w.staged None bytes → IsLeftNow start log.events k (chunk_of_write w) w.staged bytes
-left_over_none start log w k f bytes stored same covered left = record { base = None; under = covered_told k w f stored same covered; left = subst (λ g. IsLeft g w.chunk w.staged None bytes) same left }
+pub left_over_none : (start : Contents) (log : Log) (w : ChunkWrite) (k : Known) (f : Form) (bytes : Option (List ℕ)) → is_local k.info.home ≡ false → f ≡ with_shape (form_of k.info.home) k.shape → IsCovered (shape_of f) (chunk_shape_of f) w.chunk.now w.staged.now
+    → IsLeft f w.chunk.now w.staged.now None bytes → IsLeftNow start log.events k (chunk_of_write w) w.staged.now bytes
+left_over_none start log w k f bytes stored same covered left = record { base = None; under = covered_told k w f stored same covered; left = subst (λ g. IsLeft g w.chunk.now w.staged.now None bytes) same left }
 
 -- the words of a chunk that was read are of the dtype of its form
 pub base_dtype : {store : StoreSeen} {log : Log} (w : ChunkWrite) (form : Form) (snapshot : SnapshotCells) → IsState store log → (write : IsWrite log.events w)
@@ -66,6 +66,6 @@ pub chunk_by : (s n i s2 n2 i2 : List ℕ) → s ≡ s2 → n ≡ n2 → i ≡ i
 chunk_by s n i s2 n2 i2 a b c is = subst (λ t. IsChunkOf t n i) (sym a) (subst (λ t. IsChunkOf s2 t i) (sym b) (subst (λ t. IsChunkOf s2 n2 t) (sym c) is))
 
 -- damage that is told of the index of a write is that of its chunk
-pub damaged_of : {store : StoreSeen} {log : Log} (w : ChunkWrite) (index name : List ℕ) (cause : Damage) → IsState store log → index ≡ w.chunk → IsDamagedThere store log (record { array = w.array; index = index }) name cause
+pub damaged_of : {store : StoreSeen} {log : Log} (w : ChunkWrite) (index name : List ℕ) (cause : Damage) → IsState store log → index ≡ w.chunk.now → IsDamagedThere store log (record { array = w.array; index = index }) name cause
     → IsDamagedThere store log (chunk_of_write w) name cause
 damaged_of {store} {log} w index name cause state same = subst (λ i. IsDamagedThere store log (record { array = w.array; index = i }) name cause) same

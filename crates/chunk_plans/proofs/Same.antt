@@ -42,10 +42,10 @@ weaken_ok (Ok x) gives holds = gives x holds
 weaken_ok (Err e) gives holds = tt
 
 -- cells that are answered for the index of a write are so for its chunk
-pub answered_of : {store : StoreSeen} {log : Log} (w : ChunkWrite) (index : List ℕ) (snapshot : SnapshotCells) → index ≡ w.chunk → IsAnswered store log (record { array = w.array; index = index }) snapshot → IsAnswered store log (chunk_of_write w) snapshot
+pub answered_of : {store : StoreSeen} {log : Log} (w : ChunkWrite) (index : List ℕ) (snapshot : SnapshotCells) → index ≡ w.chunk.now → IsAnswered store log (record { array = w.array; index = index }) snapshot → IsAnswered store log (chunk_of_write w) snapshot
 answered_of {store} {log} w index snapshot same = subst (λ i. IsAnswered store log (record { array = w.array; index = i }) snapshot) same
 
-pub answered_some : {store : StoreSeen} {log : Log} (w : ChunkWrite) (index : List ℕ) (o : Option SnapshotCells) (snapshot : SnapshotCells) → index ≡ w.chunk → o ≡ Some snapshot → IfSome o (λ s. IsAnswered store log (record { array = w.array; index = index }) s)
+pub answered_some : {store : StoreSeen} {log : Log} (w : ChunkWrite) (index : List ℕ) (o : Option SnapshotCells) (snapshot : SnapshotCells) → index ≡ w.chunk.now → o ≡ Some snapshot → IfSome o (λ s. IsAnswered store log (record { array = w.array; index = index }) s)
     → IsAnswered store log (chunk_of_write w) snapshot
 answered_some {store} {log} w index o snapshot same is answered =
     answered_of w index snapshot same (subst (λ (p : Option SnapshotCells). IfSome p (λ s. IsAnswered store log (record { array = w.array; index = index }) s)) is answered)

@@ -5,7 +5,7 @@ use Rattle.history.specs.History.{History}
 use Rattle.history.specs.Arrays.{Known, known_after}
 use Rattle.history.specs.Chunks.{Chunk, key_in}
 use Rattle.history.specs.Generations.{HasKey}
-use Rattle.history.proofs.Known.{some_inj}
+use Rattle.history.proofs.Laws.{some_inj}
 use Rattle.state_laws.specs.Fetches.{generation_in}
 use Rattle.state_laws.specs.Log.{Log}
 use Rattle.chunk_plans.specs.declared.write.ChunkWrite.{ChunkWrite}

@@ -18,16 +18,16 @@ use Rattle.chunk_plans.specs.Under.{IsLeftNow, IsHeldOver}
 
 -- the chunk that a write is of
 abbrev pub chunk_of_write : ChunkWrite → Chunk
-chunk_of_write w = record { array = w.array; index = w.chunk }
+chunk_of_write w = record { array = w.array; index = w.chunk.now }
 
 -- words are staged for a chunk of an array of the history, which has a cell in the array's shape
 pub record IsWriteOf (events : History) (w : ChunkWrite) (k : Known) : Type 0 where
   pub known : known_after events w.array ≡ Some k
-  pub valid : IsIndexOf k.info w.chunk
-  pub named : chunk_key k w.chunk ≡ w.key
-  pub reached : reaches_into (chunk_shape k.info) k.shape w.chunk ≡ true
-  pub size : length w.staged ≡ cell_count (chunk_shape k.info)
-  pub words : AreWords k.info.dtype w.staged
+  pub valid : IsIndexOf k.info w.chunk.now
+  pub named : chunk_key k w.chunk.now ≡ w.key
+  pub reached : reaches_into (chunk_shape k.info) k.shape w.chunk.now ≡ true
+  pub size : length w.staged.now ≡ cell_count (chunk_shape k.info)
+  pub words : AreWords k.info.dtype w.staged.now
 
 abbrev pub IsWrite : History → ChunkWrite → Type 0
 IsWrite events w = (k : Known) × IsWriteOf events w k
@@ -51,13 +51,13 @@ may_use log k w = is_usable (generation_in log k w.key) (resized_after log.event
 
 -- what is left of a chunk is the chunk as it is with the staged words over it; the cells of a local array get the number of the event
 abbrev pub IsPlanOf : Contents → History → ℕ → Known → ChunkWrite → Left → Type 0
-IsPlanOf start events number k w (Stored bytes) = IsLeftNow start events k (chunk_of_write w) w.staged bytes
-IsPlanOf start events number k w (Held a cells) = (cells.generation ≡ number) × IsHeldOver start events k (chunk_of_write w) w.staged cells.cells
+IsPlanOf start events number k w (Stored bytes) = IsLeftNow start events k (chunk_of_write w) w.staged.now bytes
+IsPlanOf start events number k w (Held a cells) = (cells.generation ≡ number) × IsHeldOver start events k (chunk_of_write w) w.staged.now cells.cells
 
 -- prepared bytes that may be used are right
 abbrev pub IsReadyBy : Contents → History → Known → ChunkWrite → Option Ready → Type 0
 IsReadyBy start events k w None = Unit {0}
-IsReadyBy start events k w (Some ready) = IsLeftNow start events k (chunk_of_write w) w.staged ready.bytes
+IsReadyBy start events k w (Some ready) = IsLeftNow start events k (chunk_of_write w) w.staged.now ready.bytes
 
 abbrev pub IsReadyWrite : Contents → Log → Known → ChunkWrite → Type 0
 IsReadyWrite start log k w = may_use log k w ≡ true → IsReadyBy start log.events k w w.ready

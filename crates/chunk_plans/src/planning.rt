@@ -37,21 +37,22 @@ pub fn plan_write<K: KvStore>(
     state: &mut State<K>,
     owner: u32,
     number: u64,
-    write: ChunkWrite,
+    write: ChunkWrite<'_>,
 ) -> Result<Planned, FetchError>
     requires agrees { let seen = seen_of K.contents K.faults K.prefixes K.names K.standing K.change_count in IsState (seen state.old.store) state.old.log }
     requires write { IsWrite state.old.log.events write }
-    ensures key { IfOk result (λ p. p.key ≡ write.key) }
-    ensures left { IfOk result (λ p. (k : Known) → known_after state.old.log.events write.array ≡ Some k → IsLeftOf k (chunk_of_write write) p.left) }
+    ensures array { IfOk result (λ p. p.array ≡ write.entry.array) }
+    ensures key { IfOk result (λ p. p.key ≡ write.entry.key) }
+    ensures left { IfOk result (λ p. (k : Known) → known_after state.old.log.events write.entry.array ≡ Some k → IsLeftOf k (chunk_of_write write.entry) p.left) }
     ensures plan { let seen = seen_of K.contents K.faults K.prefixes K.names K.standing K.change_count in IfOk result (λ p. (opening : Opening) (start : Contents) (k : Known) → Agrees opening (seen state.old.store) state.old.log
-        → opening.store.contents ≡ Some start → known_after state.old.log.events write.array ≡ Some k → IsReadyWrite start state.old.log k write → IsPlanOf start state.old.log.events number k write p.left) }
+        → opening.store.contents ≡ Some start → known_after state.old.log.events write.entry.array ≡ Some k → IsReadyWrite start state.old.log k write.entry → IsPlanOf start state.old.log.events number k write.entry p.left) }
     ensures same { OnOk result (IsSameButCache state.old.log state.new.log) }
     ensures read { let seen = seen_of K.contents K.faults K.prefixes K.names K.standing K.change_count in IsRead (seen state.old.store) (seen state.new.store) }
     ensures failed { (event : ℕ) → result ≡ Err (FetchError.StoreFailed event) → let seen = seen_of K.contents K.faults K.prefixes K.names K.standing K.change_count in
-        IsFailedLook owner (chunk_of_write write) (seen state.old.store) (seen state.new.store) state.old.log state.new.log event }
+        IsFailedLook owner (chunk_of_write write.entry) (seen state.old.store) (seen state.new.store) state.old.log state.new.log event }
     ensures damaged { (name : List ℕ) (cause : DamageOf) → result ≡ Err (FetchError.Damaged name cause) → let seen = seen_of K.contents K.faults K.prefixes K.names K.standing K.change_count in
-        (state.new.log ≡ state.old.log) × IsDamagedThere (seen state.old.store) state.old.log (chunk_of_write write) name cause }
-    ensures read_on { (k : Known) → known_after state.old.log.events write.array ≡ Some k → result ≢ Err FetchError.Memory → OnErr result ((may_use state.old.log k write ≡ false) × ¬ (IsCovered k.shape (chunk_shape k.info) write.chunk write.staged)) }
+        (state.new.log ≡ state.old.log) × IsDamagedThere (seen state.old.store) state.old.log (chunk_of_write write.entry) name cause }
+    ensures read_on { (k : Known) → known_after state.old.log.events write.entry.array ≡ Some k → result ≢ Err FetchError.Memory → OnErr result ((may_use state.old.log k write.entry ≡ false) × ¬ (IsCovered k.shape (chunk_shape k.info) write.entry.chunk.now write.entry.staged.now)) }
     ensures memory { result ≡ Err FetchError.Memory → IsSameButCache state.old.log state.new.log }
     ensures kept { let seen = seen_of K.contents K.faults K.prefixes K.names K.standing K.change_count in KeepsAgreement (seen state.old.store) state.old.log (seen state.new.store) state.new.log }
 {
@@ -68,24 +69,26 @@ fn plan_held<K: KvStore>(
     alloc: Global,
     state: &mut State<K>,
     number: u64,
-    write: ChunkWrite,
+    write: ChunkWrite<'_>,
 ) -> Result<Planned, AllocError>
     requires agrees { let seen = seen_of K.contents K.faults K.prefixes K.names K.standing K.change_count in IsState (seen state.old.store) state.old.log }
     requires write { IsWrite state.old.log.events write }
     requires local { (k : Known) → known_after state.old.log.events write.array ≡ Some k → is_local k.info.home ≡ true }
-    ensures key { IfOk result (λ p. p.key ≡ write.key) }
-    ensures left { IfOk result (λ p. (k : Known) → known_after state.old.log.events write.array ≡ Some k → IsLeftOf k (chunk_of_write write) p.left) }
+    ensures array { IfOk result (λ p. p.array ≡ write.entry.array) }
+    ensures key { IfOk result (λ p. p.key ≡ write.entry.key) }
+    ensures left { IfOk result (λ p. (k : Known) → known_after state.old.log.events write.entry.array ≡ Some k → IsLeftOf k (chunk_of_write write.entry) p.left) }
     ensures plan { let seen = seen_of K.contents K.faults K.prefixes K.names K.standing K.change_count in IfOk result (λ p. (opening : Opening) (start : Contents) (k : Known) → Agrees opening (seen state.old.store) state.old.log
-        → opening.store.contents ≡ Some start → known_after state.old.log.events write.array ≡ Some k → IsPlanOf start state.old.log.events number k write p.left) }
+        → opening.store.contents ≡ Some start → known_after state.old.log.events write.entry.array ≡ Some k → IsPlanOf start state.old.log.events number k write.entry p.left) }
     ensures same { state.new.log ≡ state.old.log }
     ensures store { state.new.store ≡ state.old.store }
 {
-    let Some(base) = state.kept(write.array, write.chunk.items())? else {
+    let Some(base) = state.kept(write.array, write.chunk)? else {
         unreachable!();
     };
-    let cells = held_over(alloc, number, &write.staged, &base)?;
+    let cells = held_over(alloc, number, write.staged, &base)?;
     let ChunkWrite { array, key, .. } = write;
     Ok(Planned {
+        array,
         key,
         left: Left::Held { array, cells },
     })
@@ -97,22 +100,23 @@ fn plan_stored<K: KvStore>(
     state: &mut State<K>,
     owner: u32,
     form: &Form,
-    write: ChunkWrite,
+    write: ChunkWrite<'_>,
 ) -> Result<Planned, FetchError>
     requires agrees { let seen = seen_of K.contents K.faults K.prefixes K.names K.standing K.change_count in IsState (seen state.old.store) state.old.log }
     requires write { IsWrite state.old.log.events write }
     requires form { (k : Known) → known_after state.old.log.events write.array ≡ Some k → (is_local k.info.home ≡ false) × (form.now ≡ with_shape (form_of k.info.home) k.shape) }
-    ensures key { IfOk result (λ p. p.key ≡ write.key) }
-    ensures left { IfOk result (λ p. (k : Known) → known_after state.old.log.events write.array ≡ Some k → IsLeftOf k (chunk_of_write write) p.left) }
+    ensures array { IfOk result (λ p. p.array ≡ write.entry.array) }
+    ensures key { IfOk result (λ p. p.key ≡ write.entry.key) }
+    ensures left { IfOk result (λ p. (k : Known) → known_after state.old.log.events write.entry.array ≡ Some k → IsLeftOf k (chunk_of_write write.entry) p.left) }
     ensures plan { let seen = seen_of K.contents K.faults K.prefixes K.names K.standing K.change_count in IfOk result (λ p. (opening : Opening) (start : Contents) (k : Known) (number : ℕ) → Agrees opening (seen state.old.store) state.old.log
-        → opening.store.contents ≡ Some start → known_after state.old.log.events write.array ≡ Some k → IsReadyWrite start state.old.log k write → IsPlanOf start state.old.log.events number k write p.left) }
+        → opening.store.contents ≡ Some start → known_after state.old.log.events write.entry.array ≡ Some k → IsReadyWrite start state.old.log k write.entry → IsPlanOf start state.old.log.events number k write.entry p.left) }
     ensures same { OnOk result (IsSameButCache state.old.log state.new.log) }
     ensures read { let seen = seen_of K.contents K.faults K.prefixes K.names K.standing K.change_count in IsRead (seen state.old.store) (seen state.new.store) }
     ensures failed { (event : ℕ) → result ≡ Err (FetchError.StoreFailed event) → let seen = seen_of K.contents K.faults K.prefixes K.names K.standing K.change_count in
-        IsFailedLook owner (chunk_of_write write) (seen state.old.store) (seen state.new.store) state.old.log state.new.log event }
+        IsFailedLook owner (chunk_of_write write.entry) (seen state.old.store) (seen state.new.store) state.old.log state.new.log event }
     ensures damaged { (name : List ℕ) (cause : DamageOf) → result ≡ Err (FetchError.Damaged name cause) → let seen = seen_of K.contents K.faults K.prefixes K.names K.standing K.change_count in
-        (state.new.log ≡ state.old.log) × IsDamagedThere (seen state.old.store) state.old.log (chunk_of_write write) name cause }
-    ensures read_on { (k : Known) → known_after state.old.log.events write.array ≡ Some k → result ≢ Err FetchError.Memory → OnErr result ((may_use state.old.log k write ≡ false) × ¬ (IsCovered k.shape (chunk_shape k.info) write.chunk write.staged)) }
+        (state.new.log ≡ state.old.log) × IsDamagedThere (seen state.old.store) state.old.log (chunk_of_write write.entry) name cause }
+    ensures read_on { (k : Known) → known_after state.old.log.events write.entry.array ≡ Some k → result ≢ Err FetchError.Memory → OnErr result ((may_use state.old.log k write.entry ≡ false) × ¬ (IsCovered k.shape (chunk_shape k.info) write.entry.chunk.now write.entry.staged.now)) }
     ensures memory { result ≡ Err FetchError.Memory → IsSameButCache state.old.log state.new.log }
     ensures kept { let seen = seen_of K.contents K.faults K.prefixes K.names K.standing K.change_count in KeepsAgreement (seen state.old.store) state.old.log (seen state.new.store) state.new.log }
 {
@@ -121,29 +125,37 @@ fn plan_stored<K: KvStore>(
     }
     let bytes = left_now(alloc, state, owner, form, &write)?;
     Ok(Planned {
+        array: write.array,
         key: write.key,
         left: Left::Stored { bytes },
     })
 }
 
 /// Prepared bytes as a plan.
-fn prepared(write: ChunkWrite) -> Planned
+fn prepared(write: ChunkWrite<'_>) -> Planned
     requires { IsSome write.ready }
-    ensures key { result.key ≡ write.key }
-    ensures left { ForSome write.ready (λ r. result.left ≡ left.Stored r.bytes) }
+    ensures array { result.array ≡ write.entry.array }
+    ensures key { result.key ≡ write.entry.key }
+    ensures left { ForSome write.entry.ready (λ r. result.left ≡ left.Stored r.bytes) }
 {
-    let ChunkWrite { key, ready, .. } = write;
+    let ChunkWrite {
+        array,
+        key,
+        ready,
+        ..
+    } = write;
     let Some(ready) = ready else {
         unreachable!();
     };
     Planned {
+        array,
         key,
         left: Left::Stored { bytes: ready.bytes },
     }
 }
 
 /// Whether this is the generation of the chunk of a write. Where none is given, it is.
-fn is_base<K: KvStore>(state: &State<K>, write: &ChunkWrite, generation: Option<u64>) -> bool
+fn is_base<K: KvStore>(state: &State<K>, write: &ChunkWrite<'_>, generation: Option<u64>) -> bool
     requires agrees { let seen = seen_of K.contents K.faults K.prefixes K.names K.standing K.change_count in IsState (seen state.now.store) state.now.log }
     requires write { IsWrite state.now.log.events write.now }
     ensures { (k : Known) → known_after state.now.log.events write.now.array ≡ Some k → result ≡ is_base (generation_in state.now.log k write.now.key) generation }
@@ -155,7 +167,7 @@ fn is_base<K: KvStore>(state: &State<K>, write: &ChunkWrite, generation: Option<
 }
 
 /// Whether prepared bytes may be used as they are.
-fn is_usable<K: KvStore>(state: &State<K>, write: &ChunkWrite) -> Result<bool, AllocError>
+fn is_usable<K: KvStore>(state: &State<K>, write: &ChunkWrite<'_>) -> Result<bool, AllocError>
     requires agrees { let seen = seen_of K.contents K.faults K.prefixes K.names K.standing K.change_count in IsState (seen state.now.store) state.now.log }
     requires write { IsWrite state.now.log.events write.now }
     ensures { IfOk result (λ b. (k : Known) → known_after state.now.log.events write.now.array ≡ Some k → b ≡ may_use state.now.log k write.now) }
@@ -175,30 +187,25 @@ fn left_now<K: KvStore>(
     state: &mut State<K>,
     owner: u32,
     form: &Form,
-    write: &ChunkWrite,
+    write: &ChunkWrite<'_>,
 ) -> Result<Option<cells::List<u8>>, FetchError>
     requires agrees { let seen = seen_of K.contents K.faults K.prefixes K.names K.standing K.change_count in IsState (seen state.old.store) state.old.log }
     requires write { IsWrite state.old.log.events write.now }
     requires form { (k : Known) → known_after state.old.log.events write.now.array ≡ Some k → (is_local k.info.home ≡ false) × (form.now ≡ with_shape (form_of k.info.home) k.shape) }
     ensures plan { let seen = seen_of K.contents K.faults K.prefixes K.names K.standing K.change_count in IfOk result (λ bytes. (opening : Opening) (start : Contents) (k : Known) → Agrees opening (seen state.old.store) state.old.log
-        → opening.store.contents ≡ Some start → known_after state.old.log.events write.now.array ≡ Some k → IsLeftNow start state.old.log.events k (chunk_of_write write.now) write.now.staged bytes) }
+        → opening.store.contents ≡ Some start → known_after state.old.log.events write.now.array ≡ Some k → IsLeftNow start state.old.log.events k (chunk_of_write write.now) write.now.staged.now bytes) }
     ensures same { OnOk result (IsSameButCache state.old.log state.new.log) }
     ensures read { let seen = seen_of K.contents K.faults K.prefixes K.names K.standing K.change_count in IsRead (seen state.old.store) (seen state.new.store) }
     ensures failed { (event : ℕ) → result ≡ Err (FetchError.StoreFailed event) → let seen = seen_of K.contents K.faults K.prefixes K.names K.standing K.change_count in
         IsFailedLook owner (chunk_of_write write.now) (seen state.old.store) (seen state.new.store) state.old.log state.new.log event }
     ensures damaged { (name : List ℕ) (cause : DamageOf) → result ≡ Err (FetchError.Damaged name cause) → let seen = seen_of K.contents K.faults K.prefixes K.names K.standing K.change_count in
         (state.new.log ≡ state.old.log) × IsDamagedThere (seen state.old.store) state.old.log (chunk_of_write write.now) name cause }
-    ensures read_on { (k : Known) → known_after state.old.log.events write.now.array ≡ Some k → result ≢ Err FetchError.Memory → OnErr result (¬ (IsCovered k.shape (chunk_shape k.info) write.now.chunk write.now.staged)) }
+    ensures read_on { (k : Known) → known_after state.old.log.events write.now.array ≡ Some k → result ≢ Err FetchError.Memory → OnErr result (¬ (IsCovered k.shape (chunk_shape k.info) write.now.chunk.now write.now.staged.now)) }
     ensures memory { result ≡ Err FetchError.Memory → IsSameButCache state.old.log state.new.log }
     ensures kept { let seen = seen_of K.contents K.faults K.prefixes K.names K.standing K.change_count in KeepsAgreement (seen state.old.store) state.old.log (seen state.new.store) state.new.log }
 {
-    if covers(
-        form.shape(),
-        form.chunk_shape(),
-        write.chunk.items(),
-        &write.staged,
-    ) {
-        return Ok(left_over(alloc, form, write.chunk.items(), &write.staged, None)?);
+    if covers(form.shape(), form.chunk_shape(), write.chunk, write.staged) {
+        return Ok(left_over(alloc, form, write.chunk, write.staged, None)?);
     }
     read_over(alloc, state, owner, form, write)
 }
@@ -209,13 +216,13 @@ fn read_over<K: KvStore>(
     state: &mut State<K>,
     owner: u32,
     form: &Form,
-    write: &ChunkWrite,
+    write: &ChunkWrite<'_>,
 ) -> Result<Option<cells::List<u8>>, FetchError>
     requires agrees { let seen = seen_of K.contents K.faults K.prefixes K.names K.standing K.change_count in IsState (seen state.old.store) state.old.log }
     requires write { IsWrite state.old.log.events write.now }
     requires form { (k : Known) → known_after state.old.log.events write.now.array ≡ Some k → (is_local k.info.home ≡ false) × (form.now ≡ with_shape (form_of k.info.home) k.shape) }
     ensures plan { let seen = seen_of K.contents K.faults K.prefixes K.names K.standing K.change_count in IfOk result (λ bytes. (opening : Opening) (start : Contents) (k : Known) → Agrees opening (seen state.old.store) state.old.log
-        → opening.store.contents ≡ Some start → known_after state.old.log.events write.now.array ≡ Some k → IsLeftNow start state.old.log.events k (chunk_of_write write.now) write.now.staged bytes) }
+        → opening.store.contents ≡ Some start → known_after state.old.log.events write.now.array ≡ Some k → IsLeftNow start state.old.log.events k (chunk_of_write write.now) write.now.staged.now bytes) }
     ensures same { OnOk result (IsSameButCache state.old.log state.new.log) }
     ensures read { let seen = seen_of K.contents K.faults K.prefixes K.names K.standing K.change_count in IsRead (seen state.old.store) (seen state.new.store) }
     ensures failed { (event : ℕ) → result ≡ Err (FetchError.StoreFailed event) → let seen = seen_of K.contents K.faults K.prefixes K.names K.standing K.change_count in
@@ -225,12 +232,12 @@ fn read_over<K: KvStore>(
     ensures memory { result ≡ Err FetchError.Memory → IsSameButCache state.old.log state.new.log }
     ensures kept { let seen = seen_of K.contents K.faults K.prefixes K.names K.standing K.change_count in KeepsAgreement (seen state.old.store) state.old.log (seen state.new.store) state.new.log }
 {
-    let fetched = state.fetch(owner, write.array, write.chunk.items())?;
+    let fetched = state.fetch(owner, write.array, write.chunk)?;
     Ok(left_over(
         alloc,
         form,
-        write.chunk.items(),
-        &write.staged,
+        write.chunk,
+        write.staged,
         Some(fetched.snapshot.cells()),
     )?)
 }

@@ -1,4 +1,4 @@
-use cells::{List, Name, Sizes};
+use cells::{List, Name};
 use rebase_writes::Staged;
 
 /// Bytes of a chunk that were prepared before its commit.
@@ -12,13 +12,14 @@ pub struct Ready {
     pub bytes: Option<List<u8>>,
 }
 
-/// What a transaction has staged for a chunk.
+/// What a transaction has staged for a chunk. The transaction keeps it, so that it can be committed again where the store failed.
 #[derive(Drop)]
-pub struct ChunkWrite {
+pub struct ChunkWrite<'a> {
     pub array: u64,
-    pub chunk: Sizes,
+    /// The chunk's index.
+    pub chunk: &'a [u64],
     pub key: Name,
     /// A word or none for each cell of the chunk, in C order.
-    pub staged: Staged,
+    pub staged: &'a Staged,
     pub ready: Option<Ready>,
 }

@@ -6,7 +6,7 @@ use Rattle.chunk_plans.proofs.planning.left_now.Goals as goal
 
 pub covers-requires-clause-chunk : goal.covers-requires-clause-chunk
 covers-requires-clause-chunk g c =
-    chunk_by c.shape.result.now c.chunk_shape.result.now c.items.result.now (shape_of c.args.form.now) (chunk_shape_of c.args.form.now) c.args.write.now.chunk c.shape.ensures c.chunk_shape.ensures.value c.items.ensures
+    chunk_by c.shape.result.now c.chunk_shape.result.now c.args.write.now.chunk.now (shape_of c.args.form.now) (chunk_shape_of c.args.form.now) c.args.write.now.chunk.now c.shape.ensures c.chunk_shape.ensures.value refl
     (may_lay_by c.args.write.now c.args.form.now c.requires.agrees c.requires.write c.requires.form).chunk
 
 pub left_over-requires-clause-fill : goal.left_over-requires-clause-fill
@@ -14,7 +14,7 @@ left_over-requires-clause-fill g c = (may_lay_by c.args.write.now c.args.form.no
 
 pub left_over-requires-clause-chunk : goal.left_over-requires-clause-chunk
 left_over-requires-clause-chunk g c =
-    chunk_by (shape_of c.args.form.now) (chunk_shape_of c.args.form.now) c.items-then-covers.result.now (shape_of c.args.form.now) (chunk_shape_of c.args.form.now) c.args.write.now.chunk refl refl c.items-then-covers.ensures
+    chunk_by (shape_of c.args.form.now) (chunk_shape_of c.args.form.now) c.args.write.now.chunk.now (shape_of c.args.form.now) (chunk_shape_of c.args.form.now) c.args.write.now.chunk.now refl refl refl
     (may_lay_by c.args.write.now c.args.form.now c.requires.agrees c.requires.write c.requires.form).chunk
 
 pub left_over-requires-clause-words : goal.left_over-requires-clause-words

@@ -1,11 +1,11 @@
-use Rattle.std.proofs.Common.{◌≡◌, Err, sym, subst, ◌∙◌, ap}
+use Rattle.std.proofs.Common.{refl, ◌≡◌, Err, sym, subst, ◌∙◌, ap}
 use Rattle.chunk_forms.specs.Metadata.{shape_of, chunk_shape_of}
 use Rattle.chunk_laying.specs.Laid.{IsChunkOf}
 use Rattle.chunk_plans.proofs.Forms.{may_lay_by}
 use Rattle.chunk_plans.proofs.Plans.{left_over_read, left_told, base_dtype, damaged_of}
 use Rattle.chunk_plans.proofs.Same.{answered_of, err_and}
 use Rattle.cells.specs.Dense.{DenseCells}
-use Rattle.history.proofs.Known.{some_inj}
+use Rattle.history.proofs.Laws.{some_inj}
 use Rattle.state_laws.specs.declared.error.FetchError.TheVariants as fetch
 use Rattle.chunk_plans.proofs.planning.read_over.Goals as goal
 
@@ -13,7 +13,7 @@ pub left_over-requires-clause-fill : goal.left_over-requires-clause-fill
 left_over-requires-clause-fill g c = (may_lay_by c.args.write.now c.args.form.now c.requires.agrees c.requires.write c.requires.form).fill
 
 pub left_over-requires-clause-chunk : goal.left_over-requires-clause-chunk
-left_over-requires-clause-chunk g c = subst (IsChunkOf (shape_of c.args.form.now) (chunk_shape_of c.args.form.now)) (sym c.items-2.ensures) (may_lay_by c.args.write.now c.args.form.now c.requires.agrees c.requires.write c.requires.form).chunk
+left_over-requires-clause-chunk g c = subst (IsChunkOf (shape_of c.args.form.now) (chunk_shape_of c.args.form.now)) (sym refl) (may_lay_by c.args.write.now c.args.form.now c.requires.agrees c.requires.write c.requires.form).chunk
 
 pub left_over-requires-clause-words : goal.left_over-requires-clause-words
 left_over-requires-clause-words g c = (may_lay_by c.args.write.now c.args.form.now c.requires.agrees c.requires.write c.requires.form).words
@@ -22,16 +22,16 @@ pub left_over-requires-clause-base_dtype : goal.left_over-requires-clause-base_d
 left_over-requires-clause-base_dtype g c x same =
     ap (λ b. b.now.dtype) (sym (some_inj c.cells.result x same)) ∙ ap (λ (d : DenseCells). d.dtype) c.cells.ensures
     ∙ base_dtype c.args.write.now c.args.form.now c.in_ok-fetched.fetched.snapshot c.requires.agrees c.requires.write c.requires.form
-    (answered_of c.args.write.now c.items.result.now c.in_ok-fetched.fetched.snapshot c.items.ensures c.in_ok-fetched.ensures.answered)
+    (answered_of c.args.write.now c.args.write.now.chunk.now c.in_ok-fetched.fetched.snapshot refl c.in_ok-fetched.ensures.answered)
 
 pub returns-clause-plan : goal.returns-clause-plan
 returns-clause-plan g c opening start k agrees told known =
     left_over_read opening start _ _ c.args.write.now k c.args.form.now c.in_ok-fetched.fetched.snapshot c.in_ok-left_over.field-0
-    (answered_of c.args.write.now c.items.result.now c.in_ok-fetched.fetched.snapshot c.items.ensures c.in_ok-fetched.ensures.answered) agrees told known (c.requires.form k known).1
-    (left_told c.args.form.now c.items-2.result.now c.args.write.now.chunk c.args.write.now.staged c.cells.result.now c.in_ok-fetched.fetched.snapshot.cells c.in_ok-left_over.field-0 c.items-2.ensures c.cells.ensures c.in_ok-left_over.ensures)
+    (answered_of c.args.write.now c.args.write.now.chunk.now c.in_ok-fetched.fetched.snapshot refl c.in_ok-fetched.ensures.answered) agrees told known (c.requires.form k known).1
+    (left_told c.args.form.now c.args.write.now.chunk.now c.args.write.now.chunk.now c.args.write.now.staged.now c.cells.result.now c.in_ok-fetched.fetched.snapshot.cells c.in_ok-left_over.field-0 refl c.cells.ensures c.in_ok-left_over.ensures)
 
 pub returns-in_err-fetched-clause-damaged : goal.returns-in_err-fetched-clause-damaged
 returns-in_err-fetched-clause-damaged g c name cause e =
     let told = err_and _ c.from_residual.result (fetch.Damaged name cause) e c.from_residual.ensures.1 in
     let is : c.fetch.result ≡ Err (fetch.Damaged name cause) = c.in_err-fetched.was ∙ ap Err (sym told) in
-    let there = c.fetch.ensures.damaged name cause is in (there.0, damaged_of c.args.write.now c.items.result.now name cause c.requires.agrees c.items.ensures there.1)
+    let there = c.fetch.ensures.damaged name cause is in (there.0, damaged_of c.args.write.now c.args.write.now.chunk.now name cause c.requires.agrees refl there.1)
