@@ -6,6 +6,7 @@ use crate::chunks::chunk;
 use crate::fault::Fault;
 use crate::opens::{open, open_local};
 use crate::read::{number, text, told};
+use crate::resizing::new_shape;
 use kv_face::KvStore;
 use serde_json::Value;
 use shared_state::State;
@@ -24,6 +25,7 @@ pub(crate) fn answer<K: KvStore>(
         "local" => open_local(alloc, v, state),
         "events" => told(alloc, &state.events()),
         "generation" => generation(alloc, state, text(v, "key")?),
+        "resize" => new_shape(alloc, v, state),
         "array" => array(alloc, state, number(v, "array")?),
         call => chunk(alloc, call, v, state),
     }

@@ -1,15 +1,15 @@
 // A store that begins with what a line says.
 use crate::fault::Fault;
-use crate::read::{items, member, number_or};
+use crate::read::{is_true, items, member, number_or};
 use cells::{List, Name};
 use kv_face::{Change, KvError, KvStore, MemoryKv};
 use serde_json::Value;
 use std::alloc::Global;
 
 /// A store that has under each key of `store` a text, or bytes as numbers, and of which the call of `get` or `apply` that is named
-/// fails, counted from 1 behind the filling.
+/// fails, counted from 1 behind the filling. With `apart` it makes one change at a time.
 pub(crate) fn store(alloc: Global, v: &Value) -> Result<MemoryKv, Fault> {
-    let mut store = MemoryKv::new(alloc, true);
+    let mut store = MemoryKv::new(alloc, !is_true(v, "apart"));
     let filled = fill(alloc, &mut store, member(v, "store")?)?;
     let get = number_or(v, "get", 0)?;
     let apply = number_or(v, "apply", 0)?;

@@ -11,6 +11,7 @@ mod filling;
 mod opens;
 mod planning;
 mod read;
+mod resizing;
 mod runs;
 mod settling;
 

@@ -14,7 +14,7 @@ ghost use Rattle.state_cases.specs.Ready.{IsReady};
 use crate::fault::Fault;
 use crate::filling::bytes;
 use crate::read::{items, member, number_or, told, word_of};
-use cells::{Dtype, List, MOST_CHUNK_CELLS, Sizes, count_cells};
+use cells::{Dtype, List, MOST_CHUNK_CELLS, count_cells};
 use chunk_forms::Form;
 use chunk_laying::{is_chunk_of, is_gone};
 use chunk_plans::{ChunkWrite, Ready, plan_write};
@@ -79,7 +79,7 @@ fn plan_in<K: KvStore>(
         items(member(v, "staged")?)?,
     )?;
     let ready = ready_of(alloc, v)?;
-    plan_staged(alloc, owner, array, chunk, staged, ready, form, state)
+    plan_staged(alloc, owner, array, chunk, &staged, ready, form, state)
 }
 
 fn plan_staged<K: KvStore>(
@@ -87,7 +87,7 @@ fn plan_staged<K: KvStore>(
     owner: u32,
     array: u64,
     chunk: &[u64],
-    staged: Staged,
+    staged: &Staged,
     ready: Option<Ready>,
     form: &Form,
     state: &mut State<K>,
@@ -97,12 +97,11 @@ fn plan_staged<K: KvStore>(
     requires form { (k : Known) → known_after state.old.log.events array ≡ Some k → form.now ≡ with_shape (form_of k.info.home) k.shape }
     requires stored { meta.is_local form.now ≡ false }
     requires reached { reaches_into (chunk_shape_of form.now) (shape_of form.now) chunk.now ≡ true }
-    requires size { length staged ≡ cell_count (chunk_shape_of form.now) }
-    requires words { AreWords (dtype_of form.now) staged }
+    requires size { length staged.now ≡ cell_count (chunk_shape_of form.now) }
+    requires words { AreWords (dtype_of form.now) staged.now }
     ensures { IsReady (seen_of K.contents K.faults K.prefixes K.names K.standing K.change_count state.new.store) state.new.log }
 {
     let key = state.key(array, chunk)?;
-    let chunk = Sizes::wrap(Vec::from_slice(alloc, chunk)?);
     let write = ChunkWrite {
         array,
         chunk,

@@ -1,5 +1,5 @@
-// `{"store":[[KEY,TEXT or BYTES],..],"cache":N,"get":N,"apply":N,"calls":[..],"keys":[..]}`: calls on a state over a store that
-// begins with these, with a cache of so many cells; then the number of calls of `get`, and what stands under the keys.
+// `{"store":[[KEY,TEXT or BYTES],..],"cache":N,"get":N,"apply":N,"apart":B,"calls":[..],"keys":[..]}`: calls on a state over a store
+// that begins with these, with a cache of so many cells; then the number of calls of `get`, and what stands under the keys.
 // `{"files":FOLDER,"cache":N,"calls":[..]}`: the same calls over the files of a folder.
 ghost use Rattle.std.specs.Prelude.{◌≡◌, ◌≤◌, ◌^◌, None};
 ghost use Rattle.state_laws.specs.Seen.{seen_of};

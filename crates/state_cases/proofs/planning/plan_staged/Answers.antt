@@ -1,7 +1,4 @@
-use Rattle.std.proofs.Common.{◌≡◌, sym, ap, subst, ◌∙◌, ℕ, List}
-use Rattle.chunk_forms.specs.Metadata.{chunk_shape_of, shape_of}
-use Rattle.history.specs.Chunks.{IsIndexOf, chunk_key}
-use Rattle.history.specs.Resizes.{reaches_into}
+use Rattle.std.proofs.Common.{sym}
 use Rattle.chunk_plans.proofs.Laws.{write_by_form}
 use Rattle.state_cases.proofs.Ready.{ready_kept}
 use Rattle.state_cases.proofs.planning.plan_staged.Goals as goal
@@ -12,9 +9,8 @@ plan_write-requires-clause-agrees g c = (c.requires.ready.opening, c.requires.re
 pub plan_write-requires-clause-write : goal.plan_write-requires-clause-write
 plan_write-requires-clause-write g c =
     let there = c.requires.chunk in
-    let same = c.wrap-chunk.ensures ∙ c.in_ok-from_slice.ensures.items in
-    write_by_form _ there.array c.args.form.now (c.requires.ready.opening, c.requires.ready.agrees) there.known (subst (IsIndexOf there.array.info) (sym same) there.valid) (ap (chunk_key there.array) same ∙ sym (c.in_ok-key.ensures there.array there.known))
-    c.requires.stored (c.requires.form there.array there.known) (ap (reaches_into (chunk_shape_of c.args.form.now) (shape_of c.args.form.now)) same ∙ c.requires.reached) c.requires.size c.requires.words
+    write_by_form _ there.array c.args.form.now (c.requires.ready.opening, c.requires.ready.agrees) there.known there.valid (sym (c.in_ok-key.ensures there.array there.known)) c.requires.stored (c.requires.form there.array there.known) c.requires.reached c.requires.size
+    c.requires.words
 
 pub returns-in-Ok : goal.returns-in-Ok
 returns-in-Ok g c = ready_kept _ _ _ _ c.requires.ready c.plan_write.ensures.kept

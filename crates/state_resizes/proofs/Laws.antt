@@ -1,0 +1,4 @@
+-- What crates above rest on.
+
+-- what a resize answers, and the events that it adds, are a row of a session's step
+pub use Rattle.state_resizes.proofs.Row.{HasRow, body_of, resize_row}

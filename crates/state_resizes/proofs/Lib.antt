@@ -1,0 +1,10 @@
+pub mod Lists
+pub mod Cut
+pub mod Right
+pub mod Made
+pub mod Outcome
+pub mod Reading
+pub mod Along
+pub mod Row
+pub mod Laws
+pub mod Begin

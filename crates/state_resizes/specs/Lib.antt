@@ -1,0 +1,4 @@
+pub mod Conditions
+pub mod Answers
+pub mod Cuts
+pub mod Refusals
