@@ -1,0 +1,11 @@
+pub mod Prepared
+pub mod Writes
+pub mod Late
+pub mod Outside
+pub mod Planning
+pub mod Right
+pub mod Made
+pub mod Refused
+pub mod Ways
+pub mod Keyed
+pub mod Answers

@@ -1,0 +1,48 @@
+// Chunks that were read and have later generations now.
+ghost use Rattle.std.specs.Prelude.{◌≡◌, ◌<◌, Some, IfOk};
+ghost use Rattle.state_laws.specs.Seen.{seen_of};
+ghost use Rattle.state_laws.specs.Agreement.{IsState};
+ghost use Rattle.commits.specs.Late.{IsFirstLate};
+
+use crate::prepared::Mark;
+use cells::Name;
+use kv_face::KvStore;
+use shared_state::State;
+use state_parts::copy_name;
+use std::alloc::{AllocError, Global};
+
+/// A chunk that was read and has a later generation now.
+#[derive(Drop)]
+pub(crate) struct Late {
+    pub(crate) key: Name,
+    pub(crate) read: u64,
+    pub(crate) now: u64,
+}
+
+fn later(alloc: Global, mark: &Mark, now: u64) -> Result<Option<Late>, AllocError>
+    ensures { IfOk result (λ found. found ≡ Some (record { key = mark.now.key; read = mark.now.generation; now = now })) }
+{
+    Ok(Some(Late {
+        key: copy_name(alloc, mark.key.items())?,
+        read: mark.generation,
+        now,
+    }))
+}
+
+/// Of marks, the first whose chunk has a later generation, if there is one.
+pub(crate) fn first_late<K: KvStore>(
+    alloc: Global,
+    state: &State<K>,
+    marks: &[Mark],
+) -> Result<Option<Late>, AllocError>
+    requires agrees { let seen = seen_of K.contents K.faults K.prefixes K.names K.standing K.change_count in IsState (seen state.now.store) state.now.log }
+    ensures { IfOk result (IsFirstLate state.now.log marks.now) }
+{
+    for mark in marks {
+        let now = state.generation(mark.key.items());
+        if now > mark.generation {
+            return later(alloc, mark, now);
+        }
+    }
+    Ok(None)
+}
