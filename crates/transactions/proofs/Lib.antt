@@ -1,0 +1,9 @@
+pub mod ViewLaws
+pub mod TxnLaws
+pub mod PieceLaws
+pub mod LookLaws
+pub mod LooksLaws
+pub mod TurnLaws
+pub mod FreshLaws
+pub mod SettleLaws
+pub mod Laws

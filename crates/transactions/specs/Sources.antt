@@ -1,0 +1,52 @@
+-- Where a read has the chunks of a view's pieces from.
+use Rattle.std.specs.Prelude.{ℕ, List, [], ◌∷◌, map, ◌+◌, Bool, true, false, Option, Some, None, if◌then◌else◌}
+use Rattle.std.specs.List.{slice_get}
+use Rattle.std.specs.Option.{option_map}
+use Rattle.chunk_cache.specs.Snapshot.{SnapshotCells}
+use Rattle.transaction_cells.specs.Needs.{needs}
+use Rattle.transaction_cells.specs.Staging.{StagedChunk}
+use Rattle.transaction_cells.specs.declared.view_cells.Piece.{Piece}
+use Rattle.transactions.specs.Txn.{place_from}
+use Rattle.transactions.specs.declared.kept.Kept.{Kept}
+use Rattle.transactions.specs.declared.looked.Fresh.{Fresh}
+use Rattle.transactions.specs.declared.source.Source.{Source}
+use Rattle.transactions.specs.declared.source.Source.TheVariants.{Covered, Old, New}
+
+abbrev pub is_new : Source → Bool
+is_new Covered = false
+is_new (Old place) = false
+is_new New = true
+
+abbrev pub source_at : Option ℕ → Source
+source_at None = New
+source_at (Some place) = Old place
+
+-- what is staged covers the piece, or its chunk is kept, or it is to be fetched
+abbrev pub source_of : List StagedChunk → List Kept → Piece → Source
+source_of staged kept p = if needs staged p then source_at (place_from 0 kept p.id) else Covered
+
+abbrev pub sources_of : List StagedChunk → List Kept → List Piece → List Source
+sources_of staged kept pieces = map (source_of staged kept) pieces
+
+-- the pieces whose chunks are to be fetched
+abbrev pub new_pieces : List Source → List Piece → List Piece
+new_pieces [] pieces = []
+new_pieces (s ∷ sources) [] = []
+new_pieces (s ∷ sources) (p ∷ pieces) = if is_new s then p ∷ new_pieces sources pieces else new_pieces sources pieces
+
+-- how many chunks are fetched for a piece
+abbrev pub count_new : Source → ℕ
+count_new Covered = 0
+count_new (Old place) = 0
+count_new New = 1
+
+-- the chunk of a piece, where so many were fetched for those before it
+abbrev pub chunk_of : Source → List Kept → List Fresh → ℕ → Option SnapshotCells
+chunk_of Covered kept fresh next = None
+chunk_of (Old place) kept fresh next = option_map (λ k. k.snapshot) (slice_get kept place)
+chunk_of New kept fresh next = option_map (λ f. f.snapshot) (slice_get fresh next)
+
+-- the chunks of pieces: those that are kept, and those that were fetched, in order
+abbrev pub chunks_from : List Source → List Kept → List Fresh → ℕ → List (Option SnapshotCells)
+chunks_from [] kept fresh next = []
+chunks_from (s ∷ sources) kept fresh next = chunk_of s kept fresh next ∷ chunks_from sources kept fresh (next + count_new s)

@@ -1,0 +1,23 @@
+//! Transactions: what a session reads, stages and commits over the turn.
+//!
+//! Crates above rest on one relation, `IsTxnIn`: beside what its pass has seen, what a transaction has staged is what its operations wrote,
+//! and each chunk that it keeps is the one after its mark.
+#![tactic(auto)]
+
+mod decoding;
+mod error;
+mod gate;
+mod kept;
+mod located;
+mod looked;
+mod looking;
+mod planning;
+mod settling;
+mod source;
+mod turns;
+mod txn;
+
+pub use error::{ReadError, ViewFault, WriteError};
+pub use gate::Gate;
+pub use kept::Kept;
+pub use txn::Txn;
