@@ -1,6 +1,4 @@
-# `make` builds the proved program, `make run SCRIPT=..` runs a script, `make test` is the merge gate.
-SCRIPT ?= examples/first.jsonl
-
+# `make` builds the proved program (`./run SCRIPT` runs a script), `make test` is the merge gate and tries the program's words.
 .PHONY: all run test edits bench
 all: bin/tensor_run
 
@@ -8,9 +6,6 @@ bin/tensor_run: crates.txt $(wildcard crates/*/src/*.rt crates/*/specs/*.antt cr
 	cd crates/tensor_run && rt run -- "$(abspath examples/first.jsonl)" > "$(CURDIR)/build.log" 2>&1
 	mkdir -p bin
 	cp crates/tensor_run/out/tensor_run bin/tensor_run
-
-run: bin/tensor_run
-	@bin/tensor_run "$(SCRIPT)"
 
 bin/bench_views: crates.txt $(wildcard crates/*/src/*.rt crates/*/specs/*.antt crates/*/proofs/*.antt)
 	cd crates/bench_views && rt run -- contiguous 1 > "$(CURDIR)/build.log" 2>&1
@@ -40,8 +35,14 @@ bench: bin/tensor_run bin/bench_views bin/bench_chunks bin/bench_stacks bin/benc
 	bench/stacks.sh bin/bench_stacks
 	bench/lines.sh bin/bench_lines
 
+# make ends with 2 where the script's run ends with another status than 0; `./run SCRIPT` ends with that status
+run:
+	@./run "$(SCRIPT)"
+
 test:
 	rt ci
+	@$(MAKE) -s bin/tensor_run
+	tools/program.sh bin/tensor_run
 
 edits:
 	tools/edits.sh
