@@ -1,6 +1,7 @@
 pub mod ViewLaws
 pub mod TxnLaws
 pub mod PieceLaws
+pub mod SourceLaws
 pub mod LookLaws
 pub mod LooksLaws
 pub mod TurnLaws
