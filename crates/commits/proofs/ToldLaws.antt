@@ -18,15 +18,15 @@ module _ (owner : ℕ) (store next : StoreSeen) (log later : Log) (p : Prepared)
   told_of_made step all (Err (refused.Conflict key read now)) is made = absurd made
   told_of_made step all (Err (refused.Shrunk key now)) is made = absurd made
   told_of_made step all (Err (refused.NotAtomic keys)) is made = absurd made
-  told_of_made step all (Err (refused.Damaged key cause)) is made = made.0
+  told_of_made step all (Err (refused.Damaged key cause)) is made = (made.0, (step, made.1))
   told_of_made step all (Err (refused.StoreFailed event done)) is made = (all, is, made.count, made.fewer, made.counted, made.failed)
   told_of_made step all (Err refused.Memory) is made = (all, is, made.count, made.fewer, made.added)
 
 -- of one that was refused before
-pub told_of_way : (prefixes : List (List ℕ)) (owner : ℕ) (store : StoreSeen) (log : Log) (p : Prepared) (error : CommitRefused) → IsWay prefixes log p (Err error) → IsTold owner store store log log p (Err error)
-told_of_way prefixes owner store log p (refused.Conflict key read now) way = (refl, refl)
-told_of_way prefixes owner store log p (refused.Shrunk key now) way = (refl, refl)
-told_of_way prefixes owner store log p (refused.NotAtomic keys) way = (refl, refl)
-told_of_way prefixes owner store log p (refused.Damaged key cause) way = absurd way
-told_of_way prefixes owner store log p (refused.StoreFailed event done) way = absurd way
-told_of_way prefixes owner store log p refused.Memory way = (whole_event owner p ∷ [], inl refl, 0, omega arith, sym (append-nil log.events))
+pub told_of_way : (owner : ℕ) (store : StoreSeen) (log : Log) (p : Prepared) (error : CommitRefused) → IsWay store.prefixes log p (Err error) → IsTold owner store store log log p (Err error)
+told_of_way owner store log p (refused.Conflict key read now) way = (refl, refl, way)
+told_of_way owner store log p (refused.Shrunk key now) way = (refl, refl, way)
+told_of_way owner store log p (refused.NotAtomic keys) way = (refl, refl, way)
+told_of_way owner store log p (refused.Damaged key cause) way = absurd way
+told_of_way owner store log p (refused.StoreFailed event done) way = absurd way
+told_of_way owner store log p refused.Memory way = (whole_event owner p ∷ [], inl refl, 0, omega arith, sym (append-nil log.events))

@@ -23,8 +23,9 @@ use Rattle.commits.specs.declared.refused.CommitRefused.{CommitRefused}
 use Rattle.commits.specs.declared.refused.CommitRefused.TheVariants as refused
 use Rattle.commits.specs.Keyed.{each_event}
 use Rattle.commits.specs.Made.{whole_event}
-use Rattle.commits.specs.Planning.{HasFailedFor, write_arrays}
+use Rattle.commits.specs.Planning.{HasFailedFor, IsFirstDamaged, write_arrays}
 use Rattle.commits.specs.Prepared.{IsPreparedFor, write_keys}
+use Rattle.commits.specs.Ways.{IsWay}
 
 -- the answer of a session
 abbrev pub body_of : Result (List ℕ) CommitRefused → Body
@@ -80,14 +81,16 @@ IsStateByTransaction store log p = (opening : Opening) × (Agrees opening store 
 abbrev pub AreAll : ℕ → Prepared → List Event → Type 0
 AreAll owner p all = (all ≡ whole_event owner p ∷ []) ⊎ (all ≡ each_event owner p.line p.mode p.ops (write_keys p.writes.items))
 
--- what is told of the events and the store, whatever the store tells: a refusal for what was read, cut or can't be atomic changes nothing
+-- what is told of the events and the store, whatever the store tells: a refusal for what was read, cut or can't be atomic comes where the log
+-- says so, and changes nothing
 abbrev pub IsTold : ℕ → StoreSeen → StoreSeen → Log → Log → Prepared → Result (List ℕ) CommitRefused → Type 0
 IsTold owner store next log later p (Ok numbers) =
     (all : List Event) × AreAll owner p all × (later.events ≡ log.events ++ all) × (numbers ≡ numbers_of (numbered (length log.events + 1) all))
-IsTold owner store next log later p (Err (refused.Conflict key read now)) = (next ≡ store) × (later ≡ log)
-IsTold owner store next log later p (Err (refused.Shrunk key now)) = (next ≡ store) × (later ≡ log)
-IsTold owner store next log later p (Err (refused.NotAtomic keys)) = (next ≡ store) × (later ≡ log)
-IsTold owner store next log later p (Err (refused.Damaged key cause)) = later.events ≡ log.events
+IsTold owner store next log later p (Err (refused.Conflict key read now)) = (next ≡ store) × (later ≡ log) × IsWay store.prefixes log p (Err (refused.Conflict key read now))
+IsTold owner store next log later p (Err (refused.Shrunk key now)) = (next ≡ store) × (later ≡ log) × IsWay store.prefixes log p (Err (refused.Shrunk key now))
+IsTold owner store next log later p (Err (refused.NotAtomic keys)) = (next ≡ store) × (later ≡ log) × IsWay store.prefixes log p (Err (refused.NotAtomic keys))
+IsTold owner store next log later p (Err (refused.Damaged key cause)) =
+    (later.events ≡ log.events) × ((step : ℕ) × IsFirstDamaged store log (length log.events + 1) step p.writes.items key cause)
 IsTold owner store next log later p (Err (refused.StoreFailed event done)) =
     (all : List Event) × AreAll owner p all × (count : ℕ) × (count < length all) × (done ≡ numbers_of (numbered (length log.events + 1) (take count all)))
     × HasFailedFor owner (write_arrays p.writes.items) store next (log.events ++ take count all) later.events event

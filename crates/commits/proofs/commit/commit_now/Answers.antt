@@ -85,4 +85,4 @@ pub returns-in-Err-clause-told : goal.returns-in-Err-clause-told
 returns-in-Err-clause-told g c =
     let seen = seen_of g.K.KvStore.contents g.K.KvStore.faults g.K.KvStore.prefixes g.K.KvStore.names g.K.KvStore.standing g.K.KvStore.change_count in
     let way = subst (IsWay (g.K.KvStore.prefixes c.args.state.now.store) c.args.state.now.log c.args.p) c.in-Err.is c.way_of.ensures in
-    told_of_way (g.K.KvStore.prefixes c.args.state.now.store) c.args.owner (seen c.args.state.now.store) c.args.state.now.log c.args.p c.in-Err.refused way
+    told_of_way c.args.owner (seen c.args.state.now.store) c.args.state.now.log c.args.p c.in-Err.refused way
