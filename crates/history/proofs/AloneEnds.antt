@@ -1,5 +1,5 @@
 -- A session alone that ends by want of memory: what it did begins what the single session does.
-use Rattle.std.proofs.Common.{◌≡◌, ◌⊎◌, ℕ, ◌+◌, List, [], ◌∷◌, ◌++◌, length, take, drop, map, Bool, true, false, Option, Some, None, Ok, inl, inr, refl, sym, ap, subst, ◌∙◌, append_assoc, append-nil}
+use Rattle.std.proofs.Common.{◌≡◌, ◌⊎◌, ℕ, ◌+◌, List, [], ◌∷◌, ◌++◌, length, take, drop, map, true, false, Option, Ok, inl, inr, refl, sym, ap, subst, ◌∙◌, append_assoc, append-nil}
 use Rattle.std.specs.Prelude.{fold}
 use Rattle.std.specs.FinMap as finmap
 use Rattle.std.specs.List.{AllByRecursion}
@@ -29,7 +29,7 @@ use Rattle.history.proofs.AloneMount.{front_on}
 use Rattle.history.proofs.AloneRows.{IsAloneHere, single_at, still, events_are}
 use Rattle.history.proofs.AloneRuns.{IsAloneAt, alone_here, asked_same, step_alone, none_known}
 use Rattle.history.proofs.AloneSteps.{bare_act, bare_asked}
-use Rattle.history.proofs.AloneWanting.{Grows, grows_act, grows_asked, opened_events, leaves_begin, run_grows}
+use Rattle.history.proofs.AloneWanting.{Grows, grows_asked, opened_events, leaves_begin, run_grows}
 
 -- no refusal of a leaf is want of memory
 refusal_good : (leaf : Leaf) (at : ℕ) (numbers : List ℕ) (outcome : Outcome) (answer : Body) → IsRefusal leaf at numbers outcome answer → is_memory answer ≡ false

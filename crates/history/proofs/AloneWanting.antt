@@ -1,10 +1,9 @@
 -- What the single session adds only grows, and begins with what a session added that wanted memory.
-use Rattle.std.proofs.Common.{◌≡◌, ◌⊎◌, ℕ, ◌+◌, ◌≤◌, List, [], ◌∷◌, ◌++◌, length, take, drop, map, Bool, true, false, cond, Option, Some, None, Result, Ok, Err, inl, inr, refl, sym, ap, subst, ◌∙◌, append_assoc, append-nil, arith}
-use Rattle.std.specs.Prelude.{fold, nat_lt}
+use Rattle.std.proofs.Common.{◌≡◌, ℕ, ◌+◌, ◌≤◌, List, [], ◌∷◌, ◌++◌, length, take, drop, map, Bool, true, false, cond, Option, Some, None, Result, Ok, Err, refl, sym, ap, subst, ◌∙◌, append_assoc, append-nil, arith}
+use Rattle.std.specs.Prelude.{fold}
 use Rattle.std.specs.FinMap as finmap
-use Rattle.std.proofs.lemmas.List.{length-take-le, take-append-drop}
+use Rattle.std.proofs.lemmas.List.{length-take-le}
 use Rattle.kv_face.specs.Store.{Contents}
-use Rattle.stack_driver.specs.Renewed.{renewed}
 use Rattle.stack_driver.specs.References.{Reference}
 use Rattle.stack_driver.specs.declared.error.RenewError.{RenewError}
 use Rattle.stack_driver.specs.declared.error.RenewError.TheVariants as renew
@@ -16,18 +15,14 @@ use Rattle.history.specs.Acts.{Act, Asked, opens, binds, reads, stages, writes, 
 use Rattle.history.specs.Answers as body
 use Rattle.history.specs.Answers.{Body, Text, BuildCause, Answer}
 use Rattle.history.specs.Commit.{Fixed, Transaction, commit_events}
-use Rattle.history.specs.Leaves.{Leaf}
 use Rattle.history.specs.Lines.{SpecLeaf, Build, Line, stored, given}
 use Rattle.history.specs.OpenRows.{AreOpened, no_leaf, known_leaf, new_leaf, given_leaf, given_info, next_array}
 use Rattle.history.specs.Outcomes.{there, new_info}
 use Rattle.history.specs.Own.{Numbered, numbered, opened_event, resized_event}
-use Rattle.history.specs.ResizeRows.{shape_after}
-use Rattle.history.specs.Sessions.{reader}
-use Rattle.history.specs.Single.{Single, LineDone, Outside, Run, stays, built, opened_by, open_leaves, unless_outside, read_alone, commit_alone, resize_alone, resolve_alone, act_alone, asked_alone, after_line, answered, cut_by}
+use Rattle.history.specs.Single.{Single, LineDone, Outside, Run, stays, built, opened_by, unless_outside, resolve_alone, act_alone, asked_alone, after_line, answered}
 use Rattle.history.specs.SingleOpen.{Begun, leaves_from, with_own, by_outcome, opened_then}
 use Rattle.history.specs.Steps.{write_alone}
-use Rattle.history.proofs.AloneOpens.{first_after, take_to_end, nothing_left, room_for, opens_new, outcome_is, rest_at}
-use Rattle.history.proofs.AloneKeys.{commit_together}
+use Rattle.history.proofs.AloneOpens.{first_after, take_to_end, nothing_left, room_for, opens_new, outcome_is}
 use Rattle.history.proofs.Alone.{number_first, number_rest, drop_next}
 
 -- a line leaves the events that there were, and adds some

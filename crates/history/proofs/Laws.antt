@@ -26,6 +26,8 @@ pub use Rattle.history.proofs.Conflicts.{itself as opened_itself}
 pub use Rattle.history.proofs.GenerationTables.{as_opened}
 pub use Rattle.history.proofs.Longer.{known-longer}
 pub use Rattle.history.proofs.Shrinks.{known_still}
+-- one that none of the later events has given a new shape is as it was; the number of its last new shape is one of the events'
+pub use Rattle.history.proofs.Unresized.{known_unresized, resized_after-le-length}
 -- an array has its number, is as its metadata says, and keeps its rank; a local one keeps its shape
 pub use Rattle.history.proofs.Known.{IsGood, known_good, kept_rank}
 pub use Rattle.history.proofs.Valid.{local_shape}
@@ -37,14 +39,28 @@ pub use Rattle.history.proofs.Tabled.{array_by_table, taken_by_table, not_taken_
 pub use Rattle.history.proofs.Tabled.{table_none, table_opened, table_same}
 -- two arrays lie apart, and texts that lie apart begin no text together
 pub use Rattle.history.proofs.Apart.{known_apart, apart_texts}
--- the key of an array's chunk, and that a key tells its array and its chunk
-pub use Rattle.history.proofs.Apart.{key_is, one_key}
+-- the key of an array's chunk, and that a key tells its array and its chunk; no chunk has the key of metadata
+pub use Rattle.history.proofs.Apart.{key_is, one_key, one_chunk, no_metadata}
 -- every size is at least 1
 pub use Rattle.history.proofs.Known.{ArePositive, all_positive}
--- an index vector inside a shape passes the test for it
-pub use Rattle.history.proofs.Shapes.{inside-to}
+-- an index vector inside a shape passes the test for it, and one that passes is inside
+pub use Rattle.history.proofs.Shapes.{inside-to, inside-from}
+-- where two tests hold together, each does
+pub use Rattle.history.proofs.Shapes.{and_left, and_right}
+-- what a test keeps of a list: all of the list for which it holds, and nothing else
+pub use Rattle.history.proofs.AloneShrunk.{among_kept, kept_among}
 -- a cell by its chunk and its place in it: the chunk of a cell that is named so, and a cell named so by its own chunk
 pub use Rattle.history.proofs.Geometry.{chunk_index-in_array, in_array-split}
+-- a chunk's first place lies in it
+pub use Rattle.history.proofs.Grids.{zeros, inside_zeros}
+-- the chunk of a cell inside the array is in the grid, and reaches into the shape
+pub use Rattle.history.proofs.Grids.{in_grid}
+pub use Rattle.history.proofs.Shapes.{reaches_own}
+-- the first cell of a chunk lies in the shape into which the chunk reaches, and in that chunk
+pub use Rattle.history.proofs.Cuts.{first_cell, first_inside, first_index}
+-- a chunk is cut where one of its cells is, and only there
+pub use Rattle.history.proofs.Shapes.{cut_of_cell}
+pub use Rattle.history.proofs.Cuts.{cell_of_is_cut}
 -- the chunks that a new shape cuts and those that keep all their cells are all of the old grid
 pub use Rattle.history.proofs.CutCounts.{cut_count}
 -- an event that touches a chunk gives it its number, and any other leaves its generation
@@ -57,6 +73,8 @@ pub use Rattle.history.proofs.GenerationTables.{generations_none, generations_mo
 pub use Rattle.history.proofs.Written.{last_put, else_word}
 -- a commit leaves at a cell the last word put there, else the one before, and past the shape the fill
 pub use Rattle.history.proofs.Touching.{content_of_done}
+-- a new shape leaves at a cell of a chunk that it cuts the word inside the shape, and past it the fill
+pub use Rattle.history.proofs.Touching.{content_of_resize}
 -- a cell whose chunk nothing has touched since the opening has the word that it had then
 pub use Rattle.history.proofs.Untouched.{content_of_opening}
 -- the snapshot of a chunk stays right for as long as its generation is the chunk's
@@ -105,8 +123,10 @@ pub use Rattle.history.proofs.Marks.{IsGenerationAt, reads_at_generations}
 pub use Rattle.history.proofs.Conflicts.{known_at_mark, opening_touches, conflict_is_real}
 pub use Rattle.history.proofs.Commits.{read_generation-le-mark, nothing_read, no_conflict_of_writes}
 pub use Rattle.history.proofs.Meetings.{no_conflict_of_none}
+-- each target of a view lay in its array's shape after some of the events
+pub use Rattle.history.proofs.Shrinks.{WasInside, LiesOf, targets_lie, absent_stored}
 -- written cells lie in the present shapes where no cell of an array was cut; then, without a conflict, a commit may follow
-pub use Rattle.history.proofs.Shrinks.{WasInside, absent_stored, targets_lie, in_shapes, unshrunk_keeps_legal}
+pub use Rattle.history.proofs.Shrinks.{in_shapes, unshrunk_keeps_legal}
 pub use Rattle.history.proofs.Staged.{kept_legal, commit_keeps_legal}
 -- the events of a commit keep a history legal: one, or one a key
 pub use Rattle.history.proofs.Commits.{done_legal, done_each_legal}
@@ -119,6 +139,11 @@ pub use Rattle.history.proofs.StepsKept.{kept_later, step_keeps, run_keeps}
 pub use Rattle.history.proofs.StepsStaged.{step_staged, run_staged}
 pub use Rattle.history.proofs.StepsKnown.{step_known, run_known}
 pub use Rattle.history.proofs.Quiet.{step_quiet, run_quiet}
+-- a run stays one over the events that it has seen
+pub use Rattle.history.proofs.RunCommits.{run_shorter}
+-- behind a session's run its commit keeps the history legal: one that meets no conflict and isn't shrunk, and whatever the line of a
+-- commit adds, or that of a write of its own
+pub use Rattle.history.proofs.RunCommits.{run_keeps_legal, commit_line_legal, write_line_legal}
 -- a conflict is another session's, and a commit that read nothing meets none
 pub use Rattle.history.proofs.ForeignConflicts.{IsForeignConflict, run_foreign, session_conflicts, writes_meet_none}
 -- the arrays as one thread would keep them are those of the history, where every commit is one event

@@ -43,6 +43,7 @@ pub mod Settled
 pub mod ForeignConflicts
 pub mod Shrinks
 pub mod Meetings
+pub mod RunCommits
 pub mod Alone
 pub mod AloneReads
 pub mod AloneShrunk
@@ -67,6 +68,7 @@ pub mod Tabled
 pub mod GenerationTables
 pub mod Changing
 pub mod Snapshots
+pub mod Unresized
 pub mod AloneWanting
 pub mod AloneEnds
 pub mod Laws

@@ -1,5 +1,5 @@
 -- A snapshot of a chunk is right for as long as its generation is the chunk's.
-use Rattle.std.proofs.Common.{◌≡◌, ◌≢◌, ℕ, ◌≤◌, ◌<◌, ◌+◌, List, [], ◌∷◌, ◌++◌, length, map, arith, Bool, true, false, cond, eq-eqb, Option, Some, None, refl, sym, ap, subst, ◌∙◌}
+use Rattle.std.proofs.Common.{◌≡◌, ◌≢◌, ℕ, ◌≤◌, ◌+◌, List, [], ◌∷◌, ◌++◌, length, map, arith, Bool, true, false, cond, eq-eqb, Option, Some, None, refl, sym, ap, subst, ◌∙◌}
 use Rattle.std.specs.Prelude.{max, unwrap_or}
 use Rattle.cells.specs.Places.{IsInside}
 use Rattle.chunk_forms.specs.Words.{is_inside}

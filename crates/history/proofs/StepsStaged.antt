@@ -59,7 +59,7 @@ targets-count : (view : View) → length (targets_of view) ≡ length (cells_of 
 unfolding targets_of
 targets-count view = length-map (cells_of (look_of view).dims) (look_of view).target
 
-whole_view : (view : View) → view_fault view ≡ None → cell_fault view ≡ None → IsWholeView view
+pub whole_view : (view : View) → view_fault view ≡ None → cell_fault view ≡ None → IsWholeView view
 whole_view view fits found = record {
   finite = dims_finite 0 (look_of view).dims (sizes_finite (first_infinite 0 (look_of view).dims) (too_many (shape_of view)) fits);
   targets = all_found (cells_of (look_of view).dims) (targets_of view) (targets-count view) found;
@@ -78,7 +78,7 @@ IsActWhole aborts = Unit {0}
 IsActWhole (resizes array shape) = Unit {0}
 IsActWhole (resolves name view array) = Unit {0}
 
-staged_write : (view : View) (values : Values) (words : List ℕ) → AreFitting values → values (look_of view).dtype (shape_of view) ≡ Ok words → IsWholeView view → IsStaged (Write view words)
+pub staged_write : (view : View) (values : Values) (words : List ℕ) → AreFitting values → values (look_of view).dtype (shape_of view) ≡ Ok words → IsWholeView view → IsStaged (Write view words)
 staged_write view values words fitting given whole =
     let fit = fitting (look_of view).dtype (shape_of view) words given in
     record {

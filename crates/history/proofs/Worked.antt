@@ -402,7 +402,7 @@ keyed_events : commit_events split (first_events 1) 0 own_write ≡ of_key first
 unfolding digits
 keyed_events = simp targets_whole
 
-writes_fives : act_of names None (line.writing (codes "a") [] all_fives) ≡ Ok (writes whole fives)
+pub writes_fives : act_of names None (line.writing (codes "a") [] all_fives) ≡ Ok (writes whole fives)
 writes_fives = simp (look-Leaf (of_shape 4) (first_cells 3), targets_whole)
 
 pub writes_5 : SessionStep split 0 by_key (outside 1) 5 (line.writing (codes "a") [] all_fives) (outside 3) (body.written 4 (2 ∷ 3 ∷ []))
@@ -435,7 +435,7 @@ marked_6 = record {
 outside_6 : cells_outside (first_events 6) marks_6 (new_transaction 15 plain_mode) whole ≡ cell 3 ∷ []
 outside_6 = ap (filter (was_outside (first_events 6) marks_6)) unwritten_14
 
-only_last : (x : Cell) → Contains (cell 3 ∷ []) x → cell 3 ≡ x
+pub only_last : (x : Cell) → Contains (cell 3 ∷ []) x → cell 3 ≡ x
 only_last x (zero, low, is) = is
 only_last x (suc k, low, is) = absurd (omega arith)
 
@@ -459,7 +459,7 @@ shrunk_15 = record {
   row = subst (λ asked. IsAnswered joint 0 (first_events 6) (outside 6) 15 asked names None (body.shrunk metadata 6) []) (sym reads_all) (done_line (read_shrunk (record { marks = marks_6; marked = marked_6; shrunk = shrunk_6 })));
 }
 
-resolves_whole : act_of names None (line.resolving (codes "a")) ≡ Ok (resolves (codes "a") whole (of_shape 4))
+pub resolves_whole : act_of names None (line.resolving (codes "a")) ≡ Ok (resolves (codes "a") whole (of_shape 4))
 resolves_whole = ap (λ o. on_leaf o (λ r. Ok (resolves (codes "a") whole r))) (array-Leaf (of_shape 4) (first_cells 3))
 
 pub renewed_whole : renewed (3 ∷ []) whole ≡ Ok three

@@ -13,6 +13,7 @@ use Rattle.history.specs.Lines.{FormError, bad_line, bad_spec, unsupported, bad_
 use Rattle.history.specs.Sessions.{Names}
 use Rattle.history.specs.Viewing.{shape_of, view_fault, cell_fault}
 
+-- what a line does once nothing refuses it
 pub data Act : Type 0 where
   opens : (name : Text) → (leaves : List SpecLeaf) → (build : Build) → Act
   binds : (name : Text) → (view : View) → Act
@@ -29,12 +30,14 @@ pub data Act : Type 0 where
 abbrev pub Asked : Type 0
 Asked = Result Act Body
 
+-- the answer to a line that has no form
 abbrev pub form_body : FormError → Body
 form_body (bad_line text) = body.bad_line text
 form_body (bad_spec path) = body.bad_spec path None
 form_body (unsupported path) = body.unsupported path
 form_body (bad_step step) = body.bad_step step
 
+-- the answer where a transform or a step doesn't go with its view
 abbrev pub change_body : ChangeError → Body
 change_body (unknown_dim step) = body.unknown_dim step
 change_body (repeated_dim step) = body.repeated_dim step
@@ -67,10 +70,12 @@ changed (Err e) changes = Err e
 changed (Ok view) [] = Ok view
 changed (Ok view) (change ∷ changes) = changed (change view) changes
 
+-- only where no change refuses the view
 abbrev pub with_changes : Result View ChangeError → (View → Asked) → Asked
 with_changes (Err e) next = Err (change_body e)
 with_changes (Ok view) next = next view
 
+-- only where the views are joined
 abbrev pub with_join : Result View JoinCause → (View → Asked) → Asked
 with_join (Err cause) next = Err (body.refused_join cause)
 with_join (Ok view) next = next view
@@ -90,6 +95,7 @@ abbrev pub with_factors : Option Downsampling → View → Asked → Asked
 with_factors None view asked = asked
 with_factors (Some down) view asked = if down.rank == length (look_of view).dims then asked else Err (body.refused_view compose.Rank)
 
+-- a write in a transaction is staged there, and one outside is a transaction of its own
 abbrev pub write_act : Option Transaction → View → List ℕ → Act
 write_act None view words = writes view words
 write_act (Some t) view words = stages t view words
@@ -105,9 +111,11 @@ on_stored array shape =
     if array.local then Err body.not_array
     else (if length shape == length array.shape then Ok (resizes array shape) else Err (body.refused_view compose.Rank))
 
+-- a read of a view may be refused by its factors, by the count of its cells, or by a cell without a target
 abbrev pub read_of : Option Downsampling → View → Asked
 read_of down view = with_factors down view (without (view_fault view) (without (cell_fault view) (Ok (reads view down))))
 
+-- a write to a view may be refused by the count of its cells, by the values, or by a cell without a target
 abbrev pub write_of : Option Transaction → Values → View → Asked
 write_of t values view = without (view_fault view) (with_values (values (look_of view).dtype (shape_of view)) (λ words. without (cell_fault view) (Ok (write_act t view words))))
 

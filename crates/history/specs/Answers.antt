@@ -40,6 +40,7 @@ pub data JoinCause : Type 0 where
   join_unbounded : (layer : ℕ) → JoinCause
   join_overflow : (layer : ℕ) → JoinCause
 
+-- an answer: what the line did or shows, or why it was refused or failed
 pub data Body : Type 0 where
   opened : (name : Text) → (dtype : Dtype) → (domain : Domain) → (events : List ℕ) → Body
   viewed : (name : Text) → (dtype : Dtype) → (transform : DomainAndMaps) → Body

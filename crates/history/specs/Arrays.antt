@@ -30,6 +30,7 @@ pub record Known : Type 0 where
   pub opened : ℕ
   pub shape : List ℕ
 
+-- an array of the run with another present shape
 abbrev pub known_reshaped : List ℕ → Option Known → Option Known
 known_reshaped shape None = None
 known_reshaped shape (Some k) = Some (record k { shape = shape })
@@ -52,6 +53,7 @@ chunk_shape_in (N5 mount path meta) shape = meta.block
 chunk_shape_in (Zarr3 mount path meta) shape = meta.chunks
 chunk_shape_in (Local start) shape = map (max 1) shape
 
+-- the shape of the chunks of an array as it was opened
 abbrev pub chunk_shape : ArrayInfo → List ℕ
 chunk_shape info = chunk_shape_in info.home info.shape
 

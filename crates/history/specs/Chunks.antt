@@ -16,6 +16,7 @@ pub record Chunk : Type 0 where
   pub array : ℕ
   pub index : List ℕ
 
+-- the two are one chunk of one array
 abbrev pub is_chunk : Chunk → Chunk → Bool
 is_chunk a b = a.array == b.array && bytes_eq a.index b.index
 
@@ -34,6 +35,7 @@ abbrev pub in_array : List ℕ → List ℕ → List ℕ → List ℕ
 in_array (n ∷ chunk) (c ∷ place) (x ∷ index) = (c * n + x) ∷ in_array chunk place index
 in_array chunk place index = []
 
+-- the chunk of a cell of this array; where there is no array, its index has no dimension
 abbrev pub chunk_in : Option Known → Cell → Chunk
 chunk_in None x = record { array = x.array; index = [] }
 chunk_in (Some k) x = record { array = x.array; index = chunk_index (chunk_shape k.info) x.index }
@@ -72,6 +74,7 @@ home_text (N5 mount path meta) n = mount ++ 47 ∷ path ++ 47 ∷ []
 home_text (Zarr3 mount path meta) n = mount ++ 47 ∷ path ++ 47 ∷ []
 home_text (Local start) n = codes "array/" ++ decimal n ++ 47 ∷ []
 
+-- the text with which each key of an array of the run begins
 abbrev pub keys_text : Known → List ℕ
 keys_text k = home_text k.info.home k.opened
 
@@ -79,9 +82,11 @@ keys_text k = home_text k.info.home k.opened
 abbrev pub metadata_key : Known → Option (List ℕ)
 metadata_key k = option_map (λ name. keys_text k ++ name) (names.metadata_name (form_of k.info.home))
 
+-- the key of the chunk with this index
 abbrev pub chunk_key : Known → List ℕ → List ℕ
 chunk_key k index = keys_text k ++ names.chunk_name (form_of k.info.home) index
 
+-- the key of a chunk of this array, where there is one
 abbrev pub key_in : Option Known → Chunk → Option (List ℕ)
 key_in None c = None
 key_in (Some k) c = Some (chunk_key k c.index)

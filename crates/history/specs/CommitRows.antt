@@ -45,10 +45,11 @@ pub record IsPart (fixed : Fixed) (owner : ℕ) (before : History) (t : Transact
 abbrev pub left_by : ℕ → Transaction → Option Transaction
 left_by count t = if count == 0 then Some t else None
 
--- the commit's own events after n, and so many of them
+-- the events of a commit behind n events, with their numbers
 abbrev pub own_after : Fixed → ℕ → History → ℕ → Transaction → List Numbered
 own_after fixed owner events n t = numbered (n + 1) (commit_events fixed (take n events) owner t)
 
+-- the first so many of them
 abbrev pub own_part : Fixed → ℕ → History → ℕ → Transaction → ℕ → List Numbered
 own_part fixed owner events n t count = take count (own_after fixed owner events n t)
 

@@ -26,6 +26,7 @@ abbrev pub cut_to : Option Known → List ℕ → Cell → Option ℕ → Option
 cut_to None shape x word = word
 cut_to (Some k) shape x word = if is_inside shape x.index then word else word_outside k.info.home k.info.fill
 
+-- the present shape of an array; where there is none, it has no dimension
 abbrev pub present_shape : Option Known → List ℕ
 present_shape None = []
 present_shape (Some k) = k.shape
@@ -42,6 +43,7 @@ abbrev pub content_after : Contents → History → Content
 content_after start events x =
     after (λ before e word. if touches before e (chunk_of before x) then word_by start before e.kind x word else word) None events
 
+-- the word of a cell inside its array's present shape; any other cell has none
 abbrev pub world_in : Option Known → Cell → Option ℕ → Option ℕ
 world_in None x word = None
 world_in (Some k) x word = if is_inside k.shape x.index then word else None

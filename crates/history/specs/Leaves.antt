@@ -13,6 +13,7 @@ pub record Leaf : Type 0 where
   pub may_open : Bool
   pub may_create : Bool
 
+-- where the array lies that the leaf asks for: MOUNT/PATH
 abbrev pub location_of_leaf : Leaf → List ℕ
 location_of_leaf leaf = leaf.mount ++ 47 ∷ leaf.path
 
@@ -26,6 +27,7 @@ pub data Stored : Type 0 where
   unreadable : (bytes : List ℕ) → Stored
   readable : (meta : Form) → Stored
 
+-- the bytes that the store has are nothing, no metadata or this metadata, by the format that is asked
 abbrev pub IsStoredAs : Want → Option (List ℕ) → Stored → Type 0
 IsStoredAs want bytes nothing = bytes ≡ None
 IsStoredAs want bytes (unreadable text) = (bytes ≡ Some text) × ((meta : Form) → is_asked_form want meta ≡ true → ¬ SpellsMetadata meta text)

@@ -28,12 +28,14 @@ use Rattle.history.specs.Writes.{Content, written, read_values}
 use Rattle.history.specs.Content.{world_after}
 pub use Rattle.locations.specs.Paths.{begins}
 
+-- such an event brings in an array
 abbrev pub opens : Kind → Bool
 opens (Opened info) = true
 opens (Done line mode ops key) = false
 opens (Resized a shape) = false
 opens (Fault mount) = false
 
+-- the event brings in an array
 abbrev pub is_opening : Event → Bool
 is_opening e = opens e.kind
 
@@ -42,6 +44,7 @@ pub record AreApart (us vs : List ℕ) : Type 0 where
   pub first : begins us vs ≡ false
   pub second : begins vs us ≡ false
 
+-- the text and that of the keys of an array, where there is one, lie apart
 abbrev pub IsApartFrom : List ℕ → Option Known → Type 0
 IsApartFrom text None = Unit {0}
 IsApartFrom text (Some k) = AreApart text (keys_text k)
@@ -60,6 +63,7 @@ pub record IsAsCells (info : ArrayInfo) (cells : DenseCells) : Type 0 where
   pub dtype : info.dtype ≡ cells.dtype
   pub fill : info.fill ≡ 0
 
+-- an array is as the place says where it is kept: by its metadata, or a local one by its numbers
 abbrev pub IsAsKept : ArrayInfo → Home → Type 0
 IsAsKept info (Zarr mount path meta) = IsAsMetadata info (form_of (Zarr mount path meta))
 IsAsKept info (N5 mount path meta) = IsAsMetadata info (form_of (N5 mount path meta))
@@ -71,6 +75,7 @@ pub record IsMount (mount : List ℕ) : Type 0 where
   pub one_part : AllByRecursion (λ b. b ≢ 47) mount
   pub not_local : mount ≢ codes "array"
 
+-- a stored array lies on a mount with a valid name
 abbrev pub IsPlaced : Home → Type 0
 IsPlaced (Zarr mount path meta) = IsMount mount
 IsPlaced (N5 mount path meta) = IsMount mount
@@ -85,6 +90,7 @@ pub record IsLegalOpening (before : History) (info : ArrayInfo) : Type 0 where
   pub placed : IsPlaced info.home
   pub kept : IsAsKept info info.home
 
+-- the cell lies in the present shape of this array
 abbrev pub is_present_in : Option Known → Cell → Bool
 is_present_in None x = false
 is_present_in (Some k) x = is_inside k.shape x.index
@@ -93,14 +99,17 @@ is_present_in (Some k) x = is_inside k.shape x.index
 abbrev pub is_present : History → Cell → Bool
 is_present events x = is_present_in (known_after events x.array) x
 
+-- there is a target, and its cell lies in the present shape of its array
 abbrev pub HasTarget : History → Result Target TargetError → Type 0
 HasTarget events (Ok t) = IsTrue (is_present events t.cell)
 HasTarget events (Err e) = ⊥
 
+-- the view that an operation writes or reads
 abbrev pub viewed : Op → View
 viewed (Write view words) = view
 viewed (Read view words) = view
 
+-- the words that an operation writes or has read
 abbrev pub words_of : Op → List ℕ
 words_of (Write view words) = words
 words_of (Read view words) = words
@@ -123,6 +132,7 @@ AreReads content before [] = Unit {0}
 AreReads content before (Write view words ∷ ops) = AreReads content (before ++ Write view words ∷ []) ops
 AreReads content before (Read view words ∷ ops) = (map Some words ≡ read_values (written before content) view) × AreReads content (before ++ Read view words ∷ []) ops
 
+-- a commit's operations: each may follow, and each Read has the words that are there behind the operations before it
 pub record IsLegalDone (start : Contents) (before : History) (ops : List Op) : Type 0 where
   pub each : AllByRecursion (IsLegalOp before) ops
   pub reads : AreReads (world_after start before) [] ops
@@ -134,10 +144,12 @@ pub record MayTake (k : Known) (shape : List ℕ) : Type 0 where
   pub sizes : AllByRecursion (λ s. s ≤ 2 ^ 62 - 2) shape
   pub few : length (cut_chunks k shape) ≤ 65536
 
+-- there is an array, and it may take the shape
 abbrev pub IsLegalResize : Option Known → List ℕ → Type 0
 IsLegalResize None shape = ⊥
 IsLegalResize (Some k) shape = MayTake k shape
 
+-- what each kind of event owes to those before it; a failed store call owes nothing
 abbrev pub IsLegalKind : Contents → History → Kind → Type 0
 IsLegalKind start before (Opened info) = IsLegalOpening before info
 IsLegalKind start before (Done line mode ops key) = IsLegalDone start before ops

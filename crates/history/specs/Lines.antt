@@ -56,6 +56,7 @@ Build = List Reference → Result View (Text × BuildCause)
 abbrev pub Join : Type 0
 Join = List View → Result View JoinCause
 
+-- what a line asks for, by its command, or why it has no form
 pub data Line : Type 0 where
   refused : (error : FormError) → Line
   opening : (name : Text) → (leaves : List SpecLeaf) → (build : Build) → Line

@@ -37,10 +37,12 @@ pub data Outcome : Type 0 where
   -- a new array with this metadata
   made : (meta : Form) → Outcome
 
+-- the outcome where no member differs from what is asked; else the first that does
 abbrev pub unless_differs : Option (List ℕ) → Outcome → Outcome
 unless_differs None outcome = outcome
 unless_differs (Some member) outcome = mismatch member
 
+-- a new array with this metadata, or the member that isn't determined
 abbrev pub making_outcome : Result Form (List ℕ) → Outcome
 making_outcome (Ok meta) = made meta
 making_outcome (Err member) = bad_want member
@@ -56,6 +58,7 @@ abbrev pub outcome_at : Leaf → Stored → Option Known → Outcome
 outcome_at leaf stored None = outcome_in_store leaf stored
 outcome_at leaf stored (Some k) = if leaf.may_open then unless_differs (mismatch_of leaf.want (form_of k.info.home) k.shape) (there k) else exists
 
+-- the outcome where no array lies above or below; else the least location of one that does
 abbrev pub unless_taken : Option (List ℕ) → Outcome → Outcome
 unless_taken None outcome = outcome
 unless_taken (Some other) outcome = path_taken other

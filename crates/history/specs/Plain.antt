@@ -29,6 +29,7 @@ abbrev pub resized_word : Option (List ℕ) → List ℕ → ℕ → Cell → Op
 resized_word None new fill x word = None
 resized_word (Some old) new fill x word = if is_inside new x.index then (if is_inside old x.index then word else Some fill) else None
 
+-- the shape of an array after a resize, where there is one
 abbrev pub new_shape : Option (List ℕ) → List ℕ → Option (List ℕ)
 new_shape None new = None
 new_shape (Some old) new = Some new
@@ -48,6 +49,7 @@ plain_by (Resized b shape) arrays = record arrays {
 }
 plain_by (Fault mount) arrays = arrays
 
+-- no array, and no word at any cell
 abbrev pub no_arrays : PlainArrays
 no_arrays = record { shape = λ a. None; fill = λ a. 0; words = λ x. None }
 

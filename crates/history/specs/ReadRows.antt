@@ -23,6 +23,7 @@ abbrev pub with_read : Option Transaction → View → List ℕ → Marks → Op
 with_read None view words marks = None
 with_read (Some t) view words marks = Some (after_read t view words marks)
 
+-- the mount on which a stored array lies; a local one lies on none
 abbrev pub mount_of : Home → Option Text
 mount_of (Zarr mount path meta) = Some mount
 mount_of (N5 mount path meta) = Some mount

@@ -13,6 +13,7 @@ use Rattle.history.specs.Chunks.{Chunk, is_chunk, chunk_of}
 use Rattle.history.specs.Writes.{Put, puts_of, Content, written, read_values}
 use Rattle.history.specs.Content.{world_after}
 
+-- the cell of a target, if there is one
 abbrev pub target_cell : Result Target TargetError → Option Cell
 target_cell (Ok t) = Some t.cell
 target_cell (Err e) = None

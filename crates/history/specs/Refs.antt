@@ -13,6 +13,7 @@ pub record IsKnownRef (events : History) (ref : Reference) : Type 0 where
   pub known : known_after (take seen events) ref.number ≡ Some array
   pub same : ref ≡ ref_of array
 
+-- a leaf's own reference is known; any other view has none of its own
 abbrev pub HasKnownRef : History → View-F View → Type 0
 HasKnownRef events (View-F.Leaf array t) = IsKnownRef events array
 HasKnownRef events (View-F.Cast to base) = Unit {0}

@@ -31,6 +31,7 @@ was_outside events marks x = not (is_present (take (mark_at events marks x) even
 abbrev pub cells_outside : History → Marks → Transaction → View → List Cell
 cells_outside events marks t view = filter (was_outside events marks) (unwritten t.ops view)
 
+-- the metadata key of an array of the run; a local one has none
 abbrev pub key_of_array : Option Known → Option Key
 key_of_array None = None
 key_of_array (Some k) = metadata_key k
@@ -101,10 +102,11 @@ abbrev pub HasTooManyCut : Option Known → List ℕ → Type 0
 HasTooManyCut None shape = ⊥
 HasTooManyCut (Some k) shape = 65536 < length (cut_chunks k shape)
 
--- the keys that a resize changes: that of the metadata and those of the chunks with a cell that is cut
+-- the keys of the chunks with a cell that a new shape cuts
 abbrev pub resized_keys : Known → ℕ → List ℕ → List Key
 resized_keys k array shape = filter_map (λ index. key_in (Some k) (record { array = array; index = index })) (cut_chunks k shape)
 
+-- all keys that a resize changes: that of the metadata and those of the chunks
 abbrev pub all_resized_keys : Option Key → List Key → List Key
 all_resized_keys None keys = keys
 all_resized_keys (Some key) keys = key ∷ keys

@@ -20,9 +20,11 @@ pub record SessionState : Type 0 where
   pub seen : ℕ
   pub transaction : Option Transaction
 
+-- a session before its first line: no names, nothing seen and no transaction
 abbrev pub at_first : SessionState
 at_first = record { names = λ name. None; seen = 0; transaction = None }
 
+-- the flags of a transaction that asks for neither: its changes may be made one by one, and its reads aren't kept
 abbrev pub plain_mode : Mode
 plain_mode = record { atomic = false; repeatable_read = false }
 

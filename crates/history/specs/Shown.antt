@@ -28,5 +28,6 @@ pub record IsRead (fixed : Fixed) (events : History) (seen : ℕ) (t : Transacti
   pub marked : AreMarked events seen t view marks
   pub shown : map Some words ≡ visible_values fixed.start events (mark_of marks) t.ops view
 
+-- a transaction after a read: under repeatable read the words and the marks are kept
 abbrev pub after_read : Transaction → View → List ℕ → Marks → Transaction
 after_read t view words marks = if t.mode.repeatable_read then record t { ops = t.ops ++ Read view words ∷ []; marks = marks } else t

@@ -22,9 +22,11 @@ pub record Begun : Type 0 where
   pub own : List Numbered
   pub rest : List SpecLeaf
 
+-- opened leaves with an array of the history before them
 abbrev pub with_known : Known → Begun → Begun
 with_known k begun = record begun { refs = ref_of k ∷ begun.refs }
 
+-- opened leaves with a new array and its event before them
 abbrev pub with_new : ℕ → History → ArrayInfo → Begun → Begun
 with_new owner events info begun = record begun {
   refs = new_ref events info ∷ begun.refs;
@@ -35,6 +37,7 @@ with_new owner events info begun = record begun {
 abbrev pub opened_then : ℕ → History → ArrayInfo → (History → Begun) → Begun
 opened_then owner events info next = with_new owner events info (next (events ++ opened_event owner info ∷ []))
 
+-- no leaf is opened, and these are left
 abbrev pub refused_from : List SpecLeaf → Begun
 refused_from leaves = record { refs = []; own = []; rest = leaves }
 
@@ -50,6 +53,7 @@ by_outcome owner events leaf leaves next not_found = refused_from leaves
 by_outcome owner events leaf leaves next (bad_want member) = refused_from leaves
 by_outcome owner events leaf leaves next (made meta) = opened_then owner events (new_info (next_array events) leaf meta) next
 
+-- the leaves of a line, opened one after another up to the first that is refused
 abbrev pub leaves_from : ℕ → List SpecLeaf → History → Begun
 leaves_from owner [] events = refused_from []
 leaves_from owner (given numbers ∷ leaves) events = opened_then owner events (given_info (next_array events) numbers) (leaves_from owner leaves)

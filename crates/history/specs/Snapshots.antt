@@ -14,6 +14,7 @@ use Rattle.history.specs.Content.{content_after}
 abbrev pub box_in : Home → List ℕ → List ℕ
 box_in home shape = if is_local home then shape else chunk_shape_in home shape
 
+-- the cells that each chunk of an array has, by the shape with which it was opened
 abbrev pub chunk_box : ArrayInfo → List ℕ
 chunk_box info = box_in info.home info.shape
 

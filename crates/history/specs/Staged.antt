@@ -17,6 +17,7 @@ use Rattle.history.specs.Commit.{Transaction}
 use Rattle.history.specs.Lines.{Values, Line, refused, opening, viewing, joining, reading, writing, beginning, committing, aborting, resizing, resolving}
 use Rattle.history.specs.Legal.{viewed, words_of, AreWritten, AreReads, is_present}
 
+-- the cell has a target
 abbrev pub IsFound : Result Target TargetError → Type 0
 IsFound (Ok t) = Unit {0}
 IsFound (Err e) = ⊥

@@ -20,6 +20,7 @@ abbrev pub word_at_start : Contents → Known → Cell → Option ℕ
 word_at_start start k x =
     stored_word (form_of k.info.home) k.info.fill (finmap.get start (chunk_key k (chunk_index (chunk_shape k.info) x.index))) (within_chunk (chunk_shape k.info) x.index)
 
+-- a stored array has the word of the bytes at the start, and a local one its own
 abbrev pub opening_word_in : Contents → Known → Home → Cell → Option ℕ
 opening_word_in start k (Zarr mount path meta) x = word_at_start start k x
 opening_word_in start k (N5 mount path meta) x = word_at_start start k x

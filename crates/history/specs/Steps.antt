@@ -27,6 +27,7 @@ use Rattle.history.specs.Sessions.{Names, bind, SessionState, new_transaction, p
 use Rattle.history.specs.Shown.{IsRead}
 use Rattle.history.specs.Viewing.{opened_body, viewed_body, resolved_body, values_body}
 
+-- a transaction with one more Write
 abbrev pub with_write : Transaction → View → List ℕ → Transaction
 with_write t view words = record t { ops = t.ops ++ Write view words ∷ [] }
 
@@ -118,6 +119,7 @@ pub record SessionStep (fixed : Fixed) (owner : ℕ) (events : History) (s : Ses
   pub within : next.seen ≤ length events
   pub row : IsAnswered fixed owner (take next.seen events) s line (act_of s.names s.transaction asked) next.names next.transaction answer (own_events owner (s.seen + 1) (drop s.seen (take next.seen events)))
 
+-- the answer is want of memory
 abbrev pub is_memory : Body → Bool
 is_memory body.memory = true
 is_memory answer = false

@@ -40,6 +40,7 @@ pub record IsChanged (events : History) (k : Known) (c : Chunk) : Type 0 where
   pub valid : IsIndexOf k.info c.index
   pub touched : k.opened < generation_of events c
 
+-- the number of the last event that resizes the array, after one event more
 abbrev pub resized_step : ℕ → History → Kind → ℕ → ℕ
 resized_step a before (Opened info) n = n
 resized_step a before (Done line mode ops key) n = n
@@ -62,6 +63,7 @@ pub record HasMetadataKey (events : History) (a : ℕ) (k : Known) (key : List �
   pub known : known_after events a ≡ Some k
   pub named : metadata_key k ≡ Some key
 
+-- the store, which began with `start`, holds what the history says at each key
 pub record RepresentsHistory (store start : Contents) (events : History) : Type 0 where
   -- the metadata of each stored array is there
   pub metadata : (a : ℕ) (k : Known) (key : List ℕ) → HasMetadataKey events a k key → finmap.get store key ≡ metadata_bytes events a k (finmap.get start key)

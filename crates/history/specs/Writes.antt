@@ -38,6 +38,7 @@ put content p = λ x. if is_cell p.0 x then Some p.1 else content x
 abbrev pub written : List Op → Content → Content
 written ops content = fold put content (puts_of ops)
 
+-- the word at a target, taken outwards through its casts; none where there is no target
 abbrev pub shown_in : Content → Result Target TargetError → Option ℕ
 shown_in content (Ok t) = option_map (outwards t.casts) (content t.cell)
 shown_in content (Err e) = None
