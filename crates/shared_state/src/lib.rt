@@ -20,6 +20,7 @@ mod making;
 mod reshaping;
 mod state;
 
+pub use history::{ArrayInfo, Event, Home, Kind, Mode, Op, Ops};
 pub use state::{State, StateRefused};
 pub use state_laws::{
     AtStart, Bounds, ChangeError, Deed, FetchError, Fetched, HeldCells, Look, NewShape, OpenError,
