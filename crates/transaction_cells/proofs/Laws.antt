@@ -13,3 +13,8 @@ pub use Rattle.transaction_cells.proofs.LaterLaws.{staged_cell}
 -- there are as many sites as leaves of cells; what a table has under an id that is put in, and by which it is known
 pub use Rattle.transaction_cells.proofs.WrittenLaws.{count_of}
 pub use Rattle.transaction_cells.proofs.TableLaws.{found-insert}
+-- an index vector within its chunk lies inside it; the cells of sites are those that their targets name
+pub use Rattle.transaction_cells.proofs.PlaceLaws.{inside_within as inside_in_chunk}
+pub use Rattle.transaction_cells.proofs.OperationLaws.{named_cells}
+-- a read needs a cell of a piece outside a shape where the view names one there that no operation wrote
+pub use Rattle.transaction_cells.proofs.OutsideLaws.{outside_of_view}

@@ -15,3 +15,5 @@ pub mod CastLaws
 pub mod ShownLaws
 pub mod TypeLaws
 pub mod LaterLaws
+pub mod OutsideLaws
+pub mod TypedLaws

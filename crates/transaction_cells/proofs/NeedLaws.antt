@@ -58,7 +58,7 @@ run_in size [] k d all lt = absurd (omega (arith, lt))
 run_in size (r ∷ runs) zero d all lt = all.0
 run_in size (r ∷ runs) (suc k) d all lt = run_in size runs k d all.1 (omega (arith, lt))
 
-runs_in : (view size : ℕ) (runs : List Run) → AllByRecursion (λ run. IsRunInside run view size) runs → AllByRecursion (IsRunIn size) runs
+pub runs_in : (view size : ℕ) (runs : List Run) → AllByRecursion (λ run. IsRunInside run view size) runs → AllByRecursion (IsRunIn size) runs
 runs_in view size [] all = tt
 runs_in view size (r ∷ runs) all = ((view, all.0), runs_in view size runs all.1)
 

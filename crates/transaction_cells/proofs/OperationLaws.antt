@@ -260,7 +260,7 @@ typed_sites events v all has = by (all_landings v) refl
 
 -- an id tells the array
 module _ (events : History) (s : Site) (h : IsSiteIn events s) (array : ℕ) (index : List ℕ) (k : Known) (known : known_after events array ≡ Some k) where
-  of_id : bytes_eq s.id (array ∷ index) ≡ true → (s.target.cell.array ≡ array) × (chunk_index (chunk_shape h.array.info) s.target.cell.index ≡ index) × (h.array ≡ k)
+  pub of_id : bytes_eq s.id (array ∷ index) ≡ true → (s.target.cell.array ≡ array) × (chunk_index (chunk_shape h.array.info) s.target.cell.index ≡ index) × (h.array ≡ k)
   of_id e =
       let same : s.target.cell.array ∷ chunk_index (chunk_shape h.array.info) s.target.cell.index ≡ array ∷ index = sym h.id ∙ (bytes_eq-Decides s.id (array ∷ index)).0 e in
       let number : s.target.cell.array ≡ array = cc in
@@ -491,7 +491,7 @@ bare_sites id cells k (s ∷ sites) = told (bytes_eq s.id id) (bare_sites id cel
     told true e = ap (λ c. is_none (staged_at cells s.place) || c) e
     told false e = e
 
-any_kept : (keep test : Cell → Bool) (sites : List Site) → list_any test (filter keep (map (λ (s : Site). s.target.cell) sites)) ≡ list_any (λ (s : Site). keep s.target.cell && test s.target.cell) sites
+pub any_kept : (keep test : Cell → Bool) (sites : List Site) → list_any test (filter keep (map (λ (s : Site). s.target.cell) sites)) ≡ list_any (λ (s : Site). keep s.target.cell && test s.target.cell) sites
 any_kept keep test [] = refl
 any_kept keep test (s ∷ sites) = told (keep s.target.cell) (any_kept keep test sites)
   where
@@ -507,7 +507,7 @@ named_cells (s ∷ sites) = ap (λ xs. s.target.cell ∷ xs) (named_cells sites)
 
 -- a site is bare where no operation wrote its cell
 module _ (events : History) (ops : List Op) (chunks : List StagedChunk) (h : AreStaged events ops chunks) (id : List ℕ) where
-  bare_site : (s : Site) → IsSiteIn events s → (bytes_eq s.id id && is_none (staged_at (unwrap_or (staged_of chunks id) []) s.place)) ≡ (not (is_put (puts_of ops) s.target.cell) && bytes_eq (id_of (chunk_of events s.target.cell)) id)
+  pub bare_site : (s : Site) → IsSiteIn events s → (bytes_eq s.id id && is_none (staged_at (unwrap_or (staged_of chunks id) []) s.place)) ≡ (not (is_put (puts_of ops) s.target.cell) && bytes_eq (id_of (chunk_of events s.target.cell)) id)
   bare_site s is =
       let x = s.target.cell in
       let named : s.id ≡ id_of (chunk_of events x) = is.id ∙ sym (ap (λ o. id_of (chunk_in o x)) is.known) in

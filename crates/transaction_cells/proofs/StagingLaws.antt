@@ -1,7 +1,8 @@
 -- Staged cells of chunks after a write.
-use Rattle.std.proofs.Common.{◌≡◌, ◌∙◌, ℕ, zero, suc, ◌+◌, ◌<◌, Bool, true, false, cond, List, [], ◌∷◌, length, drop, set, get_or, replicate, Option, Some, None, refl, sym, ap, subst, unwrap_or}
+use Rattle.std.proofs.Common.{◌≡◌, ◌∙◌, ℕ, zero, suc, ◌+◌, ◌<◌, Bool, true, false, cond, List, [], ◌∷◌, length, map, drop, set, get_or, replicate, Option, Some, None, refl, sym, ap, subst, unwrap_or}
 use Rattle.std.specs.Prelude.{IsSome, is_some}
-use Rattle.std.specs.List.{AllByRecursion}
+use Rattle.std.specs.List.{AllByRecursion, IsDistinct}
+use Rattle.std.specs.Ordering.{eq_by_cmp}
 use Rattle.std.specs.Option.{option_map}
 use Rattle.std.specs.Str.{bytes_eq}
 use Rattle.std.proofs.lemmas.Slice.Eq.{bytes_eq-Decides}
@@ -9,8 +10,8 @@ use Rattle.cells.specs.declared.run.Run.{Run}
 use Rattle.cells.specs.Runs.{Pair, pairs_of, IsRunInside}
 use Rattle.rebase_writes.specs.Runs.{pairs_written}
 use Rattle.rebase_writes.specs.Staged.{staged_at}
-use Rattle.transaction_cells.specs.Found.{Id, found}
-use Rattle.transaction_cells.specs.Staging.{chunks_of, staged_of}
+use Rattle.transaction_cells.specs.Found.{Id, by_id, found}
+use Rattle.transaction_cells.specs.Staging.{StagedChunk, chunks_of, staged_of}
 use Rattle.transaction_cells.specs.Tables.{prepared, HasSameWords, runs_written, pieces_written, HasRoom, MayWrite}
 use Rattle.transaction_cells.specs.declared.view_cells.Piece.{Piece}
 use Rattle.std.proofs.lemmas.Map.Text.{is_eq-slice_cmp}
@@ -127,3 +128,14 @@ words_through one two three h g place = g place ∙ h place
 pub none_of : (o : Option (List (Option ℕ))) → is_some o ≡ false → o ≡ None
 none_of None is = refl
 none_of (Some cells) is = absurd (cc)
+
+-- ids that rise are distinct
+apart_behind : (id : Id) (es : List (Id × List (Option ℕ))) → AllByRecursion (λ y. eq_by_cmp by_id id y ≡ false) (map (λ (e : Id × List (Option ℕ)). e.0) es)
+    → AllByRecursion (λ other. bytes_eq id.items other ≡ false) (map (λ (c : StagedChunk). c.id) (chunks_of es))
+apart_behind id [] apart = tt
+apart_behind id (e ∷ es) apart = (sym (is_eq-slice_cmp id.items e.0.items) ∙ apart.0, apart_behind id es apart.1)
+
+pub apart_ids : (es : List (Id × List (Option ℕ))) → IsDistinct (eq_by_cmp by_id) (map (λ (e : Id × List (Option ℕ)). e.0) es) → IsDistinct bytes_eq (map (λ (c : StagedChunk). c.id) (chunks_of es))
+unfolding IsDistinct
+apart_ids [] distinct = tt
+apart_ids (e ∷ es) distinct = (apart_behind e.0 es distinct.0, apart_ids es distinct.1)

@@ -1,8 +1,9 @@
 -- The words that a view shows: what is staged, and what chunks have where nothing is staged.
-use Rattle.std.specs.Prelude.{◌≡◌, ℕ, List, [], ◌∷◌, length, fold, Option, Some, None, slice_index, unwrap_or, if◌then◌else◌}
+use Rattle.std.specs.Prelude.{◌≡◌, ℕ, List, [], ◌∷◌, length, fold, All, Option, Some, None, slice_index, unwrap_or, if◌then◌else◌}
 use Rattle.std.specs.List.{AllByRecursion}
 use Rattle.std.specs.Str.{bytes_eq}
 use Rattle.cells.specs.declared.run.Run.{Run}
+use Rattle.cells.specs.Numbers.{IsWord}
 use Rattle.cells.specs.Places.{c_place}
 use Rattle.cells.specs.Runs.{pairs_of, IsRunInside}
 use Rattle.chunk_cache.specs.Snapshot.{SnapshotCells}
@@ -27,6 +28,16 @@ abbrev pub AreChunksOf : List Piece → List (Option SnapshotCells) → Type 0
 AreChunksOf [] chunks = Unit {0}
 AreChunksOf (p ∷ pieces) [] = ⊥
 AreChunksOf (p ∷ pieces) (chunk ∷ chunks) = IsChunkOf p chunk × AreChunksOf pieces chunks
+
+-- the words of a piece's chunk are of the dtype of its array
+abbrev pub IsTypedChunk : History → Piece → Option SnapshotCells → Type 0
+IsTypedChunk events p None = Unit {0}
+IsTypedChunk events p (Some chunk) = (array : ℕ) (index : List ℕ) (k : Known) → p.id ≡ array ∷ index → known_after events array ≡ Some k → All (IsWord k.info.dtype) chunk.cells.words
+
+abbrev pub AreTypedChunks : History → List Piece → List (Option SnapshotCells) → Type 0
+AreTypedChunks events [] chunks = Unit {0}
+AreTypedChunks events (p ∷ pieces) [] = Unit {0}
+AreTypedChunks events (p ∷ pieces) (chunk ∷ chunks) = IsTypedChunk events p chunk × AreTypedChunks events pieces chunks
 
 -- the word that a chunk has at a place
 abbrev pub word_of : Option SnapshotCells → ℕ → Option ℕ

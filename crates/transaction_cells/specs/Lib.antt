@@ -9,3 +9,4 @@ pub mod Tables
 pub mod Operations
 pub mod Needs
 pub mod Gathered
+pub mod Outside

@@ -1,14 +1,16 @@
 // The words that a view shows.
 ghost use Rattle.std.specs.Prelude.{◌≡◌, ℕ, List, Some, length, map, replicate, IfOk};
 ghost use Rattle.std.specs.List.{AllByRecursion};
+ghost use Rattle.cells.specs.Numbers.{IsWord};
 ghost use Rattle.history.specs.History.{History};
 ghost use Rattle.history.specs.Reads.{unwritten};
 ghost use Rattle.history.specs.Writes.{Content, read_values, written};
 ghost use Rattle.history.specs.declared.event.Op.{Op};
+ghost use Rattle.stack_driver.specs.Views.{look_of};
 ghost use Rattle.stack_driver.specs.declared.view.View.{View};
 ghost use Rattle.stack_targets.specs.Landings.{leaves_of};
 ghost use Rattle.transaction_cells.specs.Found.{found};
-ghost use Rattle.transaction_cells.specs.Gathered.{AreChunksOf, shown_word, IsTold, runs_read, runs_shown, FitsChunk, FitsStaged, pieces_gathered, FitPieces};
+ghost use Rattle.transaction_cells.specs.Gathered.{AreChunksOf, AreTypedChunks, shown_word, IsTold, runs_read, runs_shown, FitsChunk, FitsStaged, pieces_gathered, FitPieces};
 ghost use Rattle.transaction_cells.specs.Operations.{AreStaged, HasSites, IsLeafIn};
 ghost use Rattle.transaction_cells.specs.Pieces.{AreCells};
 ghost use Rattle.transaction_cells.specs.Sites.{Site, sites_of};
@@ -38,6 +40,8 @@ impl Staging {
         ensures value { IfOk result (λ words. (sites : List Site) → AreCells sites cells.now → words.items ≡ map (shown_word self.now cells.now.pieces chunks.now) sites) }
         ensures history { IfOk result (λ words. (events : History) (v : View) (ops : List Op) (content : Content) → AllByRecursion (IsLeafIn events) (leaves_of v) → HasSites v → AreCells (sites_of v) cells.now
             → AreStaged events ops self.now → AllByRecursion (IsTold events content cells.now.pieces chunks.now) (unwritten ops v) → map Some words.items ≡ read_values (written ops content) v) }
+        ensures typed { IfOk result (λ words. (events : History) (v : View) (ops : List Op) → AllByRecursion (IsLeafIn events) (leaves_of v) → HasSites v → AreCells (sites_of v) cells.now → AreStaged events ops self.now → AreTypedChunks events cells.now.pieces chunks.now
+            → AllByRecursion (IsWord (look_of v).dtype) words.items) }
     {
         let mut words = vec![in alloc; 0; cells.leaves.items().len()]?;
         show(self, cells, chunks, &mut words);

@@ -9,6 +9,7 @@ mod gathering;
 mod lane;
 mod lanes;
 mod locating;
+mod outside;
 mod staging;
 mod view_cells;
 

@@ -1,5 +1,5 @@
-ghost use Rattle.std.specs.Prelude.{◌≡◌, ◌∷◌, ◌++◌, [], ℕ, List, Option, length, slice_index_or, ◌<◌, ◌≤◌, ◌^◌, pos, ◌≤ℤ◌, ◌<ℤ◌, OnOk, OnErr};
-ghost use Rattle.std.specs.List.{AllByRecursion, list_any};
+ghost use Rattle.std.specs.Prelude.{◌≡◌, ◌∷◌, ◌++◌, [], ℕ, List, Option, length, map, slice_index_or, ◌<◌, ◌≤◌, ◌^◌, pos, ◌≤ℤ◌, ◌<ℤ◌, OnOk, OnErr};
+ghost use Rattle.std.specs.List.{AllByRecursion, IsDistinct, list_any};
 ghost use Rattle.std.specs.Map.Iter.{ShowsInOrder, deref_pair};
 ghost use Rattle.std.specs.Str.{bytes_eq};
 ghost use Rattle.cells.specs.Numbers.{IsWord};
@@ -18,7 +18,7 @@ ghost use Rattle.transaction_cells.specs.Needs.{IsRunIn, is_bare, are_bare, need
 ghost use Rattle.transaction_cells.specs.declared.view_cells.Piece.{Piece};
 ghost use Rattle.transaction_cells.specs.Pieces.{AreCells};
 ghost use Rattle.transaction_cells.specs.Sites.{Site, sites_of, id_of};
-ghost use Rattle.transaction_cells.specs.Staging.{chunks_of, staged_of, word_in, written_at, CanStage};
+ghost use Rattle.transaction_cells.specs.Staging.{StagedChunk, chunks_of, staged_of, word_in, written_at, CanStage};
 ghost use Rattle.transaction_cells.specs.Tables.{prepared, HasSameWords, MayWrite, pieces_written, runs_written};
 
 use crate::view_cells::{Piece, ViewCells};
@@ -86,6 +86,7 @@ impl Staging {
     pub fn chunks(&self) -> Iter<'_, Vec<u64>, Staged>
         ensures rest { chunks_of result ≡ self.now }
         ensures runs { ShowsInOrder (deref_pair {K = Id} {X = List (Option ℕ)}) }
+        ensures apart { IsDistinct bytes_eq (map (λ (c : StagedChunk). c.id) self.now) }
     {
         self.table.iter()
     }
@@ -133,8 +134,8 @@ fn is_bare(staged: &Staged, run: &Run) -> bool
     false
 }
 
-// The place in the chunk of pair `k`.
-fn place_at(run: &Run, k: u32) -> usize
+/// The place in the chunk of pair `k`.
+pub(crate) fn place_at(run: &Run, k: u32) -> usize
     requires from_first { pos 0 ≤ℤ chunk_number run.now k }
     requires to_last { chunk_number run.now k <ℤ pos (2 ^ 63) }
     ensures { result ≡ chunk_place run.now k }
