@@ -15,8 +15,12 @@ use chunk_laying::lay;
 use rebase_writes::Staged;
 use std::alloc::{AllocError, Global};
 
-/// The bytes of a chunk with the staged words over a base's, or none where every cell has the fill.
-pub(crate) fn left_over(
+/// The bytes of a chunk with the staged words over a base's, or none where every cell has the fill. Without a base the fill stands where no
+/// word is staged; where the staged words cover the chunk, no such cell is in the shape. The form has the array's present shape.
+///
+/// # Errors
+/// Want of memory alone.
+pub fn left_over(
     alloc: Global,
     form: &Form,
     chunk: &[u64],

@@ -9,5 +9,6 @@ mod leaving;
 mod planning;
 mod write;
 
+pub use leaving::left_over;
 pub use planning::plan_write;
 pub use write::{ChunkWrite, Ready};
