@@ -21,7 +21,7 @@ same_byte : (u v : ℕ) → nat_cmp u v ≡ Equal → u ≡ v
 same_byte u v e = ap (λ xs. get_or xs 0 u) (equal_texts (u ∷ []) (v ∷ []) (ap (λ o. ordering_then o Equal) e))
 
 -- of two keys one stands before the other, or they are the same
-same_text : (k l : Key) → is_before k l ≡ false → is_before l k ≡ false → k ≡ l
+pub same_text : (k l : Key) → is_before k l ≡ false → is_before l k ≡ false → k ≡ l
 same_text k l a b = told (slice_cmp nat_cmp k l) refl
   where
     told : (o : Ordering) → slice_cmp nat_cmp k l ≡ o → k ≡ l

@@ -21,3 +21,5 @@ pub mod DoneLaws
 pub mod ByKeysLaws
 pub mod RowLaws
 pub mod ToldLaws
+pub mod AddedLaws
+pub mod Laws

@@ -26,6 +26,8 @@ use Rattle.commits.specs.Made.{whole_event}
 use Rattle.commits.specs.Planning.{HasFailedFor, IsFirstDamaged, write_arrays}
 use Rattle.commits.specs.Prepared.{IsPreparedFor, write_keys}
 use Rattle.commits.specs.Ways.{IsWay}
+use Rattle.commits.specs.declared.way.Way.{Way}
+use Rattle.commits.specs.declared.way.Way.TheVariants.{Whole, ByKeys}
 
 -- the answer of a session
 abbrev pub body_of : Result (List ℕ) CommitRefused → Body
@@ -77,21 +79,27 @@ KeepsByTransaction store log p next later =
 abbrev pub IsStateByTransaction : StoreSeen → Log → Prepared → Type 0
 IsStateByTransaction store log p = (opening : Opening) × (Agrees opening store log × ((start : Contents) → opening.store.contents ≡ Some start → (t : Transaction) × IsCommitted start log t p))
 
--- the events that a commit adds when it is made whole: one, or one for each key
-abbrev pub AreAll : ℕ → Prepared → List Event → Type 0
-AreAll owner p all = (all ≡ whole_event owner p ∷ []) ⊎ (all ≡ each_event owner p.line p.mode p.ops (write_keys p.writes.items))
+-- the events that a commit adds by a way: one, or one for each key
+abbrev pub all_of : ℕ → Prepared → Way → List Event
+all_of owner p Whole = whole_event owner p ∷ []
+all_of owner p ByKeys = each_event owner p.line p.mode p.ops (write_keys p.writes.items)
+
+-- nothing that was read, cut or can't be made together refuses the commit, and these are all the events that it adds then
+abbrev pub MayAdd : List (List ℕ) → Log → ℕ → Prepared → List Event → Type 0
+MayAdd prefixes log owner p all = (way : Way) × IsWay prefixes log p (Ok way) × (all ≡ all_of owner p way)
 
 -- what is told of the events and the store, whatever the store tells: a refusal for what was read, cut or can't be atomic comes where the log
--- says so, and changes nothing
+-- says so, and changes nothing; every other answer comes where none of these does
 abbrev pub IsTold : ℕ → StoreSeen → StoreSeen → Log → Log → Prepared → Result (List ℕ) CommitRefused → Type 0
 IsTold owner store next log later p (Ok numbers) =
-    (all : List Event) × AreAll owner p all × (later.events ≡ log.events ++ all) × (numbers ≡ numbers_of (numbered (length log.events + 1) all))
+    (all : List Event) × MayAdd store.prefixes log owner p all × (later.events ≡ log.events ++ all) × (numbers ≡ numbers_of (numbered (length log.events + 1) all))
 IsTold owner store next log later p (Err (refused.Conflict key read now)) = (next ≡ store) × (later ≡ log) × IsWay store.prefixes log p (Err (refused.Conflict key read now))
 IsTold owner store next log later p (Err (refused.Shrunk key now)) = (next ≡ store) × (later ≡ log) × IsWay store.prefixes log p (Err (refused.Shrunk key now))
 IsTold owner store next log later p (Err (refused.NotAtomic keys)) = (next ≡ store) × (later ≡ log) × IsWay store.prefixes log p (Err (refused.NotAtomic keys))
 IsTold owner store next log later p (Err (refused.Damaged key cause)) =
-    (later.events ≡ log.events) × ((step : ℕ) × IsFirstDamaged store log (length log.events + 1) step p.writes.items key cause)
+    ((all : List Event) × MayAdd store.prefixes log owner p all) × (later.events ≡ log.events) × ((step : ℕ) × IsFirstDamaged store log (length log.events + 1) step p.writes.items key cause)
 IsTold owner store next log later p (Err (refused.StoreFailed event done)) =
-    (all : List Event) × AreAll owner p all × (count : ℕ) × (count < length all) × (done ≡ numbers_of (numbered (length log.events + 1) (take count all)))
+    (all : List Event) × MayAdd store.prefixes log owner p all × (count : ℕ) × (count < length all) × (done ≡ numbers_of (numbered (length log.events + 1) (take count all)))
     × HasFailedFor owner (write_arrays p.writes.items) store next (log.events ++ take count all) later.events event
-IsTold owner store next log later p (Err refused.Memory) = (all : List Event) × AreAll owner p all × (count : ℕ) × (count < length all) × (later.events ≡ log.events ++ take count all)
+IsTold owner store next log later p (Err refused.Memory) =
+    (later.events ≡ log.events) ⊎ ((all : List Event) × MayAdd store.prefixes log owner p all × (count : ℕ) × (count < length all) × (later.events ≡ log.events ++ take count all))

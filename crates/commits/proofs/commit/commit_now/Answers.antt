@@ -1,4 +1,5 @@
-use Rattle.std.proofs.Common.{Ok, inl, inr, refl, subst}
+use Rattle.std.proofs.Common.{Ok, refl, subst}
+use Rattle.commits.specs.declared.way.Way.TheVariants.{Whole, ByKeys}
 use Rattle.state_laws.specs.Seen.{seen_of}
 use Rattle.commits.specs.Ways.{IsWay}
 use Rattle.commits.proofs.Reaching.{may_plan, sized_each}
@@ -48,7 +49,8 @@ returns-in-Ok-Whole-clause-row g c opening start t agrees told is =
 pub returns-in-Ok-Whole-clause-told : goal.returns-in-Ok-Whole-clause-told
 returns-in-Ok-Whole-clause-told g c =
     let seen = seen_of g.K.KvStore.contents g.K.KvStore.faults g.K.KvStore.prefixes g.K.KvStore.names g.K.KvStore.standing g.K.KvStore.change_count in
-    told_of_made c.args.owner (seen c.args.state.now.store) (seen c.commit_whole.new.state.store) c.args.state.now.log c.commit_whole.new.state.log c.args.p 0 _ c.commit_whole.result (inl refl) c.commit_whole.ensures.made
+    let way = subst (λ w. IsWay (g.K.KvStore.prefixes c.args.state.now.store) c.args.state.now.log c.args.p (Ok w)) c.in-Ok-Whole.field-0-is (subst (IsWay (g.K.KvStore.prefixes c.args.state.now.store) c.args.state.now.log c.args.p) c.in-Ok-Whole.is c.way_of.ensures) in
+    told_of_made c.args.owner (seen c.args.state.now.store) (seen c.commit_whole.new.state.store) c.args.state.now.log c.commit_whole.new.state.log c.args.p 0 _ c.commit_whole.result (Whole, way, refl) c.commit_whole.ensures.made
 
 pub returns-in-Ok-Whole-clause-kept : goal.returns-in-Ok-Whole-clause-kept
 returns-in-Ok-Whole-clause-kept g c opening agrees right =
@@ -66,7 +68,8 @@ returns-in-Ok-ByKeys-clause-row g c opening start t agrees told is =
 pub returns-in-Ok-ByKeys-clause-told : goal.returns-in-Ok-ByKeys-clause-told
 returns-in-Ok-ByKeys-clause-told g c =
     let seen = seen_of g.K.KvStore.contents g.K.KvStore.faults g.K.KvStore.prefixes g.K.KvStore.names g.K.KvStore.standing g.K.KvStore.change_count in
-    told_of_made c.args.owner (seen c.args.state.now.store) (seen c.commit_by_keys.new.state.store) c.args.state.now.log c.commit_by_keys.new.state.log c.args.p 1 _ c.commit_by_keys.result (inr refl) c.commit_by_keys.ensures.made
+    let way = subst (λ w. IsWay (g.K.KvStore.prefixes c.args.state.now.store) c.args.state.now.log c.args.p (Ok w)) c.in-Ok-ByKeys.field-0-is (subst (IsWay (g.K.KvStore.prefixes c.args.state.now.store) c.args.state.now.log c.args.p) c.in-Ok-ByKeys.is c.way_of.ensures) in
+    told_of_made c.args.owner (seen c.args.state.now.store) (seen c.commit_by_keys.new.state.store) c.args.state.now.log c.commit_by_keys.new.state.log c.args.p 1 _ c.commit_by_keys.result (ByKeys, way, refl) c.commit_by_keys.ensures.made
 
 pub returns-in-Ok-ByKeys-clause-kept : goal.returns-in-Ok-ByKeys-clause-kept
 returns-in-Ok-ByKeys-clause-kept g c opening agrees right =
