@@ -12,8 +12,7 @@ use Rattle.history.specs.History.{History}
 use Rattle.history.specs.Own.{fault}
 use Rattle.history.specs.Refusals.{IsDamagedResize}
 use Rattle.history.specs.Resizes.{cut_chunks, is_cut}
-use Rattle.history.proofs.AloneShrunk.{kept_among}
-use Rattle.history.proofs.Laws.{some_inj}
+use Rattle.history.proofs.Laws.{kept_among, some_inj}
 use Rattle.chunk_plans.specs.Writes.{IsSameButCache}
 use Rattle.state_laws.specs.Agreement.{KeepsAgreement}
 use Rattle.state_laws.specs.Log.{Log}

@@ -17,14 +17,7 @@ use Rattle.history.specs.Legal.{IsLegal}
 use Rattle.history.specs.Own.{resized_event}
 use Rattle.history.specs.Resizes.{cut_chunks, is_cut, is_cut_in, reaches_into, is_shorter}
 use Rattle.history.specs.Touch.{touches}
-use Rattle.history.proofs.AloneShrunk.{among_kept, kept_among}
-use Rattle.history.proofs.Apart.{no_metadata, one_chunk}
-use Rattle.history.proofs.Cuts.{first_cell, first_index, first_inside}
-use Rattle.history.proofs.Grids.{in_grid}
-use Rattle.history.proofs.Histories.{known_after-more}
-use Rattle.history.proofs.Known.{ArePositive, IsGood, good_positive, opened_le, some_inj}
-use Rattle.history.proofs.Shapes.{and_left, and_right, inside-from}
-use Rattle.history.proofs.Valid.{valid_of_cut}
+use Rattle.history.proofs.Laws.{ArePositive, IsGood, among_kept, and_left, and_right, first_cell, first_index, first_inside, good_positive, in_grid, inside-from, kept_among, known_after-more, no_metadata, one_chunk, opened_le, some_inj, valid_of_cut}
 use Rattle.chunk_plans.proofs.Laws.{valid_ranks}
 use Rattle.state_laws.proofs.Laws.{good_in, known-outline}
 use Rattle.state_laws.specs.Changing.{AreTouched, IsOneOf}

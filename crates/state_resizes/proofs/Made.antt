@@ -16,7 +16,7 @@ use Rattle.history.specs.Commit as commit
 use Rattle.history.specs.Own.{resized_event}
 use Rattle.history.specs.ReadRows.{mount_of}
 use Rattle.history.specs.Resizes.{cut_chunks}
-use Rattle.history.proofs.Known.{none_is_none, some_inj}
+use Rattle.history.proofs.Laws.{none_is_none, some_inj}
 use Rattle.state_laws.specs.Agreement.{IsState, TakesMount}
 use Rattle.state_laws.specs.Changing.{AreMade, AreTouched, IsNewShape}
 use Rattle.state_laws.specs.Log.{Log}

@@ -34,16 +34,7 @@ use Rattle.history.specs.Snapshots.{IsSnapshotOf}
 use Rattle.history.specs.Store.{IsChanged, IsChunkKept, metadata_bytes, resized_after, shape_when_touched}
 use Rattle.history.specs.Stored.{AreChangesOf, HasBytes}
 use Rattle.history.specs.Touch.{touches}
-use Rattle.history.proofs.Changing.{shape_now}
-use Rattle.history.proofs.Cuts.{cell_of_is_cut, first_cell, first_index, first_inside}
-use Rattle.history.proofs.Geometry.{chunk_index-in_array}
-use Rattle.history.proofs.Grids.{inside_zeros, zeros}
-use Rattle.history.proofs.Histories.{resized_after-more}
-use Rattle.history.proofs.Known.{opened_le, some_inj}
-use Rattle.history.proofs.Reading.{no_word_of_damaged}
-use Rattle.history.proofs.Shapes.{cut_of_cell, reaches_own}
-use Rattle.history.proofs.Touching.{content_of_resize}
-use Rattle.history.proofs.Untouched.{generation_touched}
+use Rattle.history.proofs.Laws.{cell_of_is_cut, chunk_index-in_array, content_of_resize, cut_of_cell, first_cell, first_index, first_inside, generation_touched, inside_zeros, no_word_of_damaged, opened_le, reaches_own, resized_after-more, shape_now, some_inj, zeros}
 use Rattle.chunk_laying.specs.Laid.{cut_word, laid_word, word_within}
 use Rattle.chunk_laying.proofs.Laws.{snapshot_of_cut}
 use Rattle.chunk_plans.proofs.Laws.{kept_of_bytes, shape_told, chunk_told, fill_told}
