@@ -1,0 +1,14 @@
+use Rattle.std.proofs.Common.{◌≡◌, ◌++◌}
+use Rattle.state_laws.specs.Seen.{seen_of}
+use Rattle.prepared_writes.proofs.AskLaws.{AreAskedSo}
+use Rattle.prepared_writes.proofs.asking.ask_all.Given as goal
+
+-- what was told of the parts so far, and the parts that are left
+abbrev pub invariant-loop-part : goal.invariant-loop-part
+invariant-loop-part g l =
+    let seen = seen_of g.K.KvStore.contents g.K.KvStore.faults g.K.KvStore.prefixes g.K.KvStore.names g.K.KvStore.standing g.K.KvStore.change_count in
+    record {
+      so : AreAskedSo (seen l.initial.state.store) (seen l.state.store) l.initial.state.log l.state.log l.yielded l.asked.items;
+      store : l.state.store ≡ l.initial.state.store;
+      rest : l.fn.parts.items ≡ l.yielded ++ l.part-iterator.rest.items;
+    }

@@ -1,0 +1,4 @@
+pub mod Laying
+pub mod Asking
+pub mod Readying
+pub mod Sorting
