@@ -1,3 +1,6 @@
 -- Laws that crates above rest on.
+
 -- what holds of a transaction beside some events holds as others' events follow
 pub use Rattle.transactions.proofs.TxnLaws.{txn_later}
+-- what it has recorded is recorded: when it is begun, behind a write, behind a read, and as others' events follow
+pub use Rattle.transactions.proofs.RecordLaws.{recorded_begun, recorded_written, recorded_read, recorded_later}

@@ -11,8 +11,7 @@ use Rattle.history.specs.Chunks.{IsIndexOf, chunk_index}
 use Rattle.history.specs.History.{History}
 use Rattle.history.specs.Legal.{IsLegal}
 use Rattle.history.specs.Refs.{HasKnownRefs}
-use Rattle.history.proofs.Laws.{IsLegal-front, WasInside, some_inj, targets_lie, valid_of_cell}
-use Rattle.history.proofs.Shrinks.{LiesOf}
+use Rattle.history.proofs.Laws.{IsLegal-front, LiesOf, WasInside, some_inj, targets_lie, valid_of_cell}
 use Rattle.stack_driver.specs.Targets.{Cell, Target}
 use Rattle.stack_driver.specs.declared.error.TargetError.{TargetError}
 use Rattle.stack_driver.specs.Views.{targets_of}
@@ -34,7 +33,7 @@ use Rattle.transactions.proofs.ViewLaws.{grows_in, leaves_of_known}
 
 module _ (events : History) (legal : IsLegal finmap.empty (outline events)) where
   -- the chunk of a cell that once was in its array's shape is one of the array's
-  was_index : (x : Cell) → WasInside events x → (k : Known) → known_after events x.array ≡ Some k → IsIndexOf k.info (chunk_index (chunk_shape k.info) x.index)
+  pub was_index : (x : Cell) → WasInside events x → (k : Known) → known_after events x.array ≡ Some k → IsIndexOf k.info (chunk_index (chunk_shape k.info) x.index)
   was_index x was k known =
       let front : IsLegal finmap.empty (take was.seen (outline events)) = IsLegal-front finmap.empty (take was.seen (outline events)) (drop was.seen (outline events)) (subst (IsLegal finmap.empty) (sym (take-append-drop was.seen (outline events))) legal) in
       let early : known_after (take was.seen (outline events)) x.array ≡ Some was.array = ap (λ h. known_after h x.array) (take-map outlined_event was.seen events) ∙ known-outline x.array (take was.seen events) ∙ was.known in
@@ -58,7 +57,7 @@ module _ (events : History) (legal : IsLegal finmap.empty (outline events)) wher
       by (s ∷ ss) all lies = (site_chunk s all.0 lies.0, by ss all.1 lies.1)
 
 -- a piece has a site
-has_site : (P : List ℕ → Type 0) (id : List ℕ) (k : ℕ) (sites : List Site) → pairs_at id k sites ≢ [] → AllByRecursion (λ (s : Site). P s.id) sites → P id
+pub has_site : (P : List ℕ → Type 0) (id : List ℕ) (k : ℕ) (sites : List Site) → pairs_at id k sites ≢ [] → AllByRecursion (λ (s : Site). P s.id) sites → P id
 has_site P id k [] some all = absurd (some refl)
 has_site P id k (s ∷ sites) some all = by (bytes_eq s.id id) refl (λ rest. has_site P id (k + 1) sites rest all.1)
   where

@@ -23,7 +23,7 @@ use Rattle.turn_book.proofs.Lists.{prefix_longer}
 pub past_of : (opening : Opening) (store : StoreSeen) (log : Log) → Agrees opening store log → IsPast opening log.events
 past_of opening store log agrees = record { outline = agrees.outline; legal = λ start told. (agrees.holds start told).legal }
 
-itself_is : (n : ℕ) → (n == n) ≡ true
+pub itself_is : (n : ℕ) → (n == n) ≡ true
 itself_is n = grind (arith, nat_tests)
 
 -- events of one owner are its own

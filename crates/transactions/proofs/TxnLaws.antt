@@ -36,7 +36,7 @@ pub err_and : {A E : Type 0} (P : E → Type 0) (r : Result A E) (x : E) → r �
 err_and P (Ok a) x is holds = absurd (let no_such : ⊥ = cc in no_such)
 err_and {A} {E} P (Err y) x is holds = subst (λ (r : Result A E). IsErrAnd r P) is holds
 
-all_with : {A : Type 0} (P : A → Type 0) (xs ys : List A) → AllByRecursion P xs → AllByRecursion P ys → AllByRecursion P (xs ++ ys)
+pub all_with : {A : Type 0} (P : A → Type 0) (xs ys : List A) → AllByRecursion P xs → AllByRecursion P ys → AllByRecursion P (xs ++ ys)
 all_with P [] ys all rest = rest
 all_with P (x ∷ xs) ys all rest = (all.0, all_with P xs ys all.1 rest)
 

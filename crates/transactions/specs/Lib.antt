@@ -5,4 +5,13 @@ pub mod Turns
 pub mod Looking
 pub mod Refusals
 pub mod Sources
+pub mod Recording
+pub mod Committing
+pub mod Marking
+pub mod Preparing
 pub mod Decoding
+pub mod Had
+pub mod Strays
+pub mod Fetching
+pub mod Reading
+pub mod Keeping

@@ -1,5 +1,5 @@
 -- What a pass has seen, and what a turn does to it.
-use Rattle.std.specs.Prelude.{◌≡◌, ℕ, List, [], ◌∷◌, ◌++◌, Some}
+use Rattle.std.specs.Prelude.{◌≡◌, ◌⊎◌, ℕ, List, [], ◌∷◌, ◌++◌, Some}
 use Rattle.std.specs.FinMap as finmap
 use mathlib.Core.List.{IsPrefix}
 use Rattle.kv_face.specs.Store.{Contents}
@@ -37,5 +37,8 @@ pub record HasFailedTurn (book : BookView Opening) (old new : PassView Event Ope
   pub before : History
   pub grown : IsPrefix old.seen before
   pub failed : HasFailedAmong old.number pieces before new.seen event
-  pub mount : List ℕ
-  pub turned : HasTurned book old new (fault old.number mount ∷ [])
+  pub turned : (mount : List ℕ) → new.seen ≡ before ++ fault old.number mount ∷ [] → HasTurned book old new (fault old.number mount ∷ [])
+
+-- a pass that took no turn, or gave all of them back; these events of its own are new
+abbrev pub HasPassed : BookView Opening → PassView Event Opening → PassView Event Opening → List Event → Type 0
+HasPassed book old new added = (new ≡ old) ⊎ HasTurned book old new added

@@ -1,5 +1,6 @@
 -- What a contract sees of a transaction.
 use Rattle.std.specs.Prelude.{◌≡◌, ℕ, ◌+◌, List, [], ◌∷◌, map, Option, Some, None, if◌then◌else◌}
+use Rattle.std.specs.List.{slice_get}
 use Rattle.std.specs.Str.{bytes_eq}
 use Rattle.history.specs.Chunks.{Chunk}
 use Rattle.history.specs.Commit.{Transaction}
@@ -17,6 +18,11 @@ pub record TxnSeen : Type 0 where
   pub ops : List Op
   pub staged : List StagedChunk
   pub kept : List Kept
+
+-- the operations that a commit which failed had shared, none where there was no such commit
+abbrev pub shared_ops : Option (List Op) → List Op
+shared_ops None = []
+shared_ops (Some ops) = ops
 
 -- the chunk of an id: its array's number, and behind it the chunk's index
 abbrev pub chunk_at : List ℕ → Chunk
@@ -36,6 +42,15 @@ abbrev pub place_from : ℕ → List Kept → List ℕ → Option ℕ
 place_from n [] id = None
 place_from n (k ∷ kept) id = if bytes_eq id k.id then Some n else place_from (n + 1) kept id
 
--- a table tells the places of the chunks that are kept
+-- a place counts for an id where the chunk there has the id
+abbrev pub if_named : Option Kept → List ℕ → ℕ → Option ℕ
+if_named None id place = None
+if_named (Some k) id place = if bytes_eq id k.id then Some place else None
+
+abbrev pub counting : List Kept → List ℕ → Option ℕ → Option ℕ
+counting kept id None = None
+counting kept id (Some place) = if_named (slice_get kept place) id place
+
+-- a table tells the places of the chunks that are kept, as far as its entries count
 abbrev pub ArePlaces : List (Id × ℕ) → List Kept → Type 0
-ArePlaces entries kept = (id : List ℕ) → found entries id ≡ place_from 0 kept id
+ArePlaces entries kept = (id : List ℕ) → counting kept id (found entries id) ≡ place_from 0 kept id

@@ -1,7 +1,9 @@
 ghost use Rattle.std.specs.Prelude.{◌≡◌};
 
+use crate::txn::Txn;
 use cells::Name;
 use chunk_forms::Damage;
+use commits::CommitRefused;
 use std::alloc::{AllocError, AllocFailed};
 
 /// Why a view may not be read or written.
@@ -93,5 +95,26 @@ impl<T: Drop> From<AllocFailed<T>> for ReadError {
 
     fn from(_: AllocFailed<T>) -> Self {
         ReadError::Memory
+    }
+}
+
+/// Why a transaction wasn't committed, and the transaction where it stands on.
+#[derive(Drop)]
+pub struct CommitError {
+    pub why: CommitRefused,
+    pub left: Option<Txn>,
+}
+
+impl From<AllocError> for CommitError {
+    ghost use Rattle.std.specs.Prelude.{None};
+    ghost use Rattle.commits.specs.declared.refused.CommitRefused.TheVariants as refused;
+
+    ghost from_gives = { λ _ e. e ≡ record { why = refused.Memory; left = None } };
+
+    fn from(_: AllocError) -> Self {
+        CommitError {
+            why: CommitRefused::Memory,
+            left: None,
+        }
     }
 }

@@ -83,19 +83,20 @@ fn unlooked(e: FetchError) -> LookError
     }
 }
 
-/// Looks at the chunks that are to be fetched, in order.
+/// Looks at the chunks that are to be fetched, in order, with the number of events by then.
 pub(crate) fn look_all<K: KvStore>(
     alloc: Global,
     state: &mut State<K>,
     owner: u32,
     pieces: &[Piece],
     sources: &[Source],
-) -> Result<Vec<Looked>, LookError>
+) -> Result<(Vec<Looked>, u64), LookError>
     requires agrees { let seen = seen_of K.contents K.faults K.prefixes K.names K.standing K.change_count in IsState (seen state.old.store) state.old.log }
     requires count { length sources.now ≡ length pieces.now }
     requires chunks { AreChunks state.old.log.events (new_pieces sources.now pieces.now) }
     ensures looked { let seen = seen_of K.contents K.faults K.prefixes K.names K.standing K.change_count in
-        IfOk result (λ looks. (opening : Opening) → Agrees opening (seen state.old.store) state.old.log → AreLookedAt opening state.old.log.events (new_pieces sources.now pieces.now) looks.items) }
+        IfOk result (λ seen_at. (opening : Opening) → Agrees opening (seen state.old.store) state.old.log → AreLookedAt opening state.old.log.events (new_pieces sources.now pieces.now) seen_at.0.items) }
+    ensures mark { IfOk result (λ seen_at. seen_at.1 ≡ length state.new.log.events) }
     ensures events { OnOk result (state.new.log.events ≡ state.old.log.events) }
     ensures failed { (event : ℕ) → result ≡ Err (look_error.StoreFailed event) → HasFailedAmong owner (new_pieces sources.now pieces.now) state.old.log.events state.new.log.events event }
     ensures memory { result ≡ Err look_error.Memory → state.new.log.events ≡ state.old.log.events }
@@ -108,5 +109,6 @@ pub(crate) fn look_all<K: KvStore>(
             looks.push(look)?;
         }
     }
-    Ok(looks)
+    let mark = state.events().len() as u64;
+    Ok((looks, mark))
 }

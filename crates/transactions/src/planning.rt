@@ -1,11 +1,15 @@
 // Where a read has the chunks of a view's pieces from.
-ghost use Rattle.std.specs.Prelude.{◌≡◌, ◌<◌, IfOk, length, slice_index_or};
+ghost use Rattle.std.specs.Prelude.{◌≡◌, ◌<◌, ℕ, List, Some, IfOk, length, slice_index_or};
+ghost use Rattle.std.specs.List.{AllByRecursion};
+ghost use Rattle.std.specs.Option.{option_copied};
+ghost use Rattle.cells.specs.Dense.{IsDense};
 ghost use Rattle.transaction_cells.specs.Staging.{CanStage};
 ghost use Rattle.transaction_cells.specs.declared.view_cells.Piece.{Piece as PieceOf};
-ghost use Rattle.transactions.specs.Sources.{source_of, sources_of, count_new, chunk_of, chunks_from};
+ghost use Rattle.transactions.specs.Had.{IsDenseOrNone, had_from, had_of, snapshot_of, snapshots_of};
+ghost use Rattle.transactions.specs.Sources.{source_of, sources_of, count_new};
+ghost use Rattle.transactions.specs.Txn.{counting, place_from};
 
 use crate::kept::Kept;
-use crate::looked::Fresh;
 use crate::source::Source;
 use crate::txn::Txn;
 use chunk_cache::Snapshot;
@@ -37,32 +41,51 @@ impl Txn {
         if !self.staging.needs(cells, piece) {
             return Source::Covered;
         }
-        match self.places.get(cells.pieces.items()[piece].id.items()) {
-            Some(place) => Source::Old { place: *place },
+        match self.place(cells.pieces.items()[piece].id.items()) {
+            Some(place) => Source::Old { place },
             None => Source::New,
+        }
+    }
+
+    // The place of the chunk that is kept under an id.
+    fn place(&self, id: &[u64]) -> Option<u64>
+        ensures { result ≡ place_from 0 self.now.kept id.now }
+    {
+        match self.places.get(id) {
+            Some(place) => counted(&self.kept, id, *place),
+            None => None,
         }
     }
 }
 
-/// The chunks of pieces, by their sources: those that are kept, and those that were fetched, in order.
-pub(crate) fn chunks_from(
-    alloc: Global,
-    sources: &[Source],
-    kept: &[Kept],
-    fresh: &[Fresh],
-) -> Result<Vec<Option<Snapshot>>, AllocError>
-    ensures { IfOk result (λ chunks. chunks.items ≡ chunks_from sources.now kept.now fresh.now 0) }
+// The place, where the chunk there has the id.
+fn counted(kept: &[Kept], id: &[u64], place: u64) -> Option<u64>
+    ensures { result ≡ counting kept.now id.now (Some place) }
 {
-    let mut chunks = Vec::new(alloc);
-    let mut next = 0;
-    for source in sources {
-        chunks.push(chunk_of(*source, kept, fresh, next)?)?;
-        next += count_new(*source);
+    match kept.get(place as usize) {
+        Some(k) if id == k.id.items() => Some(place),
+        _ => None,
     }
-    Ok(chunks)
 }
 
-fn count_new(source: Source) -> usize
+/// The chunk of one piece, where so many were fetched for those before it.
+pub(crate) fn had_of<'a>(
+    source: Source,
+    kept: &'a [Kept],
+    fetched: &'a [Kept],
+    next: usize,
+) -> Option<&'a Kept>
+    ensures { option_copied result ≡ had_of source kept.now fetched.now next }
+{
+    match source {
+        Source::Covered => None,
+        Source::Old { place } => kept.get(place as usize),
+        Source::New => fetched.get(next),
+    }
+}
+
+/// How many chunks are fetched for a piece.
+pub(crate) fn count_new(source: Source) -> usize
     ensures { result ≡ count_new source }
 {
     match source {
@@ -72,24 +95,39 @@ fn count_new(source: Source) -> usize
     }
 }
 
-// The chunk of one piece, where so many were fetched for those before it.
-fn chunk_of(
-    source: Source,
+/// The cells of the chunks of pieces, by their sources: of those that are kept, and of those that were fetched, in order.
+pub(crate) fn chunks_from(
+    alloc: Global,
+    sources: &[Source],
     kept: &[Kept],
-    fresh: &[Fresh],
-    next: usize,
-) -> Result<Option<Snapshot>, AllocError>
-    ensures { IfOk result (λ chunk. chunk ≡ chunk_of source kept.now fresh.now next) }
+    fetched: &[Kept],
+) -> Result<Vec<Option<Snapshot>>, AllocError>
+    ensures value { IfOk result (λ chunks. chunks.items ≡ snapshots_of (had_from sources.now kept.now fetched.now 0)) }
+    ensures dense { IfOk result (λ chunks. AllByRecursion IsDenseOrNone chunks.items) }
 {
-    match source {
-        Source::Covered => Ok(None),
-        Source::Old { place } => match kept.get(place as usize) {
-            Some(k) => Ok(Some(k.snapshot.share()?)),
-            None => Ok(None),
-        },
-        Source::New => match fresh.get(next) {
-            Some(f) => Ok(Some(f.snapshot.share()?)),
-            None => Ok(None),
-        },
+    let mut chunks = Vec::new(alloc);
+    let mut next = 0;
+    for source in sources {
+        chunks.push(shared(had_of(*source, kept, fetched, next))?)?;
+        next += count_new(*source);
     }
+    Ok(chunks)
+}
+
+fn shared(had: Option<&Kept>) -> Result<Option<Snapshot>, AllocError>
+    ensures value { IfOk result (λ chunk. chunk ≡ snapshot_of (option_copied had.entry)) }
+    ensures dense { IfOk result IsDenseOrNone }
+{
+    match had {
+        Some(k) => Ok(Some(share(&k.snapshot)?)),
+        None => Ok(None),
+    }
+}
+
+fn share(snapshot: &Snapshot) -> Result<Snapshot, AllocError>
+    ensures value { IfOk result (λ s. s ≡ snapshot.now) }
+    ensures dense { IfOk result (λ s. IsDense s.cells) }
+{
+    let _ = snapshot.cells().words();
+    snapshot.share()
 }

@@ -23,7 +23,7 @@ use std::sync::Wait;
 use transaction_cells::Piece;
 use turn_book::{Pass, TurnBook};
 
-/// Looks in one turn at the chunks that are to be fetched.
+/// Looks in one turn at the chunks that are to be fetched, with the number of events by then.
 pub(crate) fn look_in_turn<K: KvStore, R: Wait>(
     alloc: Global,
     rt: &R,
@@ -31,11 +31,12 @@ pub(crate) fn look_in_turn<K: KvStore, R: Wait>(
     pass: &mut Pass<State<K>>,
     pieces: &[Piece],
     sources: &[Source],
-) -> Result<Vec<Looked>, LookError>
+) -> Result<(Vec<Looked>, u64), LookError>
     requires pass { IsIdle book.now pass.old }
     requires count { length sources.now ≡ length pieces.now }
     requires chunks { (events : History) → IsPrefix pass.old.seen events → IsLegal finmap.empty (outline events) → AreChunks events (new_pieces sources.now pieces.now) }
-    ensures looked { IfOk result (λ looks. AreLookedAt book.now.fixed pass.new.seen (new_pieces sources.now pieces.now) looks.items) }
+    ensures looked { IfOk result (λ seen_at. AreLookedAt book.now.fixed pass.new.seen (new_pieces sources.now pieces.now) seen_at.0.items) }
+    ensures mark { IfOk result (λ seen_at. seen_at.1 ≡ length pass.new.seen) }
     ensures ok { OnOk result (HasTurned book.now pass.old pass.new []) }
     ensures failed { (event : ℕ) → result ≡ Err (look_error.StoreFailed event) → HasFailedTurn book.now pass.old pass.new (new_pieces sources.now pieces.now) event }
     ensures memory { result ≡ Err look_error.Memory → HasTurned book.now pass.old pass.new [] }

@@ -3,6 +3,7 @@ ghost use Rattle.std.specs.List.{AllByRecursion};
 ghost use Rattle.cells.specs.Numbers.{IsWord};
 ghost use Rattle.history.specs.History.{History};
 ghost use Rattle.history.specs.Refs.{HasKnownRefs};
+ghost use Rattle.history.specs.Staged.{IsStaged};
 ghost use Rattle.history.specs.declared.event.Op.TheVariants as op;
 ghost use Rattle.index_transform.specs.Cells.{count_answer};
 ghost use Rattle.stack_driver.specs.Conditions.{IsView};
@@ -21,7 +22,7 @@ use crate::error::WriteError;
 use crate::kept::Kept;
 use crate::located::located;
 use cells::Words;
-use history::{Mode, Op};
+use history::{Mode, Op, Ops};
 use stack_driver::{View, copy};
 use std::alloc::{AllocError, Global};
 use std::collections::BTreeMap;
@@ -34,6 +35,9 @@ use transaction_cells::{Staging, ViewCells};
 pub struct Txn {
     pub(crate) line: u64,
     pub(crate) mode: Mode,
+    /// The operations of a commit that failed, if there was one.
+    pub(crate) shared: Option<Ops>,
+    /// Those since.
     pub(crate) ops: Vec<Op>,
     pub(crate) staging: Staging,
     pub(crate) kept: Vec<Kept>,
@@ -44,13 +48,14 @@ pub struct Txn {
 impl Model for Txn {
     ghost use Rattle.std.specs.Coded.{codes};
     ghost use Rattle.stack_driver.specs.contracts.view.View as view_type;
-    ghost use Rattle.transactions.specs.Txn.{TxnSeen, ArePlaces};
+    ghost use Rattle.std.specs.Prelude.{◌++◌};
+    ghost use Rattle.transactions.specs.Txn.{TxnSeen, ArePlaces, shared_ops};
 
     ghost Value = { TxnSeen };
 
     ghost coded = { Prim.hlevel (codes, view_type.the_row.coded) };
 
-    ghost view = { λ t. record { line = t.line; mode = t.mode; ops = t.ops.items; staged = t.staging; kept = t.kept.items } };
+    ghost view = { λ t. record { line = t.line; mode = t.mode; ops = shared_ops t.shared ++ t.ops.items; staged = t.staging; kept = t.kept.items } };
 
     ghost invariant = { λ t. ArePlaces t.places.entries t.kept.items };
 }
@@ -63,6 +68,7 @@ impl Txn {
         Txn {
             line,
             mode,
+            shared: None,
             ops: Vec::new(alloc),
             staging: Staging::new(alloc),
             kept: Vec::new(alloc),
@@ -82,6 +88,7 @@ impl Txn {
         requires typed { AllByRecursion (IsWord (look_of v.now).dtype) words.now }
         ensures ok { OnOk result ((self.new.ops ≡ self.old.ops ++ op.Write v.now words.now ∷ []) × (self.new ≡ record self.old { ops = self.new.ops; staged = self.new.staged })) }
         ensures txn { OnOk result ((opening : Opening) (events : History) → IsTxnIn opening events self.old → HasKnownRefs events v.now → IsTxnIn opening events self.new) }
+        ensures whole { OnOk result (IsStaged (op.Write v.now words.now)) }
         ensures err { IfErr result (IsLocateFault v.now) }
         ensures same { OnErr result (result ≢ Err write.Memory → self.new ≡ self.old) }
         ensures memory { OnErr result (self.new ≡ record self.old { staged = self.new.staged }) }

@@ -1,10 +1,13 @@
-use Rattle.std.proofs.Common.{◌∙◌, ◌∷◌, [], ℕ, sym, subst, refl, append-nil}
+use Rattle.std.proofs.Common.{◌∙◌, ◌∷◌, [], ℕ, sym, ap, subst, refl, append-nil}
+use Rattle.history.specs.declared.event.Event.{Event}
+use Rattle.state_laws.specs.Agreement.{Opening}
+use Rattle.turn_book.specs.Passes.{PassView}
 use Rattle.history.specs.Own.{fault}
 use Rattle.transactions.specs.Looking.{HasFailedAmong}
 use Rattle.transactions.specs.Sources.{new_pieces}
 use Rattle.transactions.specs.Turns.{owner_of}
 use Rattle.turn_book.specs.History.{Continues}
-use Rattle.transactions.proofs.TurnLaws.{past_of, own_one, has_turned, failed_adds, look_continues, on_ok_map}
+use Rattle.transactions.proofs.TurnLaws.{past_of, own_one, has_turned, look_continues, on_ok_map}
 use Rattle.transactions.proofs.turns.look_in_turn.Goals as goal
 
 pub give-requires-clause-agrees : goal.give-requires-clause-agrees
@@ -42,14 +45,12 @@ returns-clause-failed c d event is =
     let h = d.state.result.now.log.events in
     let later = d.look_all-looks.new.state.log.events in
     let failed = subst (λ (n : ℕ). HasFailedAmong n pieces h later event) d.number-owner.ensures (d.look_all-looks.ensures.failed event is) in
-    let adds = failed_adds d.args.pass.now.number pieces h later event failed in
     record {
       before = h;
       grown = rw d.state.ensures.value d.take-held.ensures.before;
       failed = rw (d.give.ensures.pass) failed;
-      mount = adds.0;
-      turned =
-          has_turned d.args.book.now d.args.pass.now d.take-held.new.pass d.give.new.pass h later (fault d.args.pass.now.number adds.0 ∷ []) d.requires.pass (rw d.state.ensures.value d.take-held.ensures.pass) d.give.ensures.pass
+      turned = λ mount added.
+          has_turned d.args.book.now d.args.pass.now d.take-held.new.pass d.give.new.pass h later (fault d.args.pass.now.number mount ∷ []) d.requires.pass (rw d.state.ensures.value d.take-held.ensures.pass) d.give.ensures.pass
           (rw d.state.ensures.value d.take-held.ensures.before) (rw d.state.ensures.value d.take-held.ensures.mine)
-          adds.1 (own_one d.args.pass.now.number adds.0) (past_of d.args.book.now.fixed _ d.look_all-looks.new.state.log (d.look_all-looks.ensures.kept d.args.book.now.fixed (rw d.state.ensures.value d.take-held.ensures.agrees)));
+          (sym (ap (λ (p : PassView Event Opening). p.seen) d.give.ensures.pass) ∙ added) (own_one d.args.pass.now.number mount) (past_of d.args.book.now.fixed _ d.look_all-looks.new.state.log (d.look_all-looks.ensures.kept d.args.book.now.fixed (rw d.state.ensures.value d.take-held.ensures.agrees)));
     }

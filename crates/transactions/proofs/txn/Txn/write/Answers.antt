@@ -4,6 +4,7 @@ use Rattle.transaction_cells.specs.Staging.{CanStage}
 use Rattle.transaction_cells.proofs.Laws.{can_stage, count_of}
 use Rattle.transactions.proofs.ViewLaws.{alike_known, leaves_of_known}
 use Rattle.transactions.specs.Txn.{TxnSeen}
+use Rattle.transactions.proofs.StagedLaws.{on_ok_any, write_staged}
 use Rattle.transactions.proofs.TxnLaws.{on_ok_two, txn_written}
 use Rattle.transactions.proofs.txn.Txn.write.Goals as goal
 
@@ -24,3 +25,9 @@ pub returns-clause-txn : goal.returns-clause-txn
 returns-clause-txn c =
     on_ok_two c.stage.result c.stage.ensures.ok c.stage.ensures.staged
     (λ is staged opening events txn refs. txn_written opening events c.args.self.now c.stage.new.self c.args.v.now c.args.words.now txn refs is.0 (ap (λ (t : TxnSeen). t.kept) is.1) (staged events))
+
+pub returns-clause-whole : goal.returns-clause-whole
+returns-clause-whole c =
+    let cells = c.in_ok-cells.cells in
+    let count : length c.args.words.now ≡ length cells.leaves = c.requires.words (length cells.leaves) c.in_ok-cells.ensures.count in
+    on_ok_any c.stage.result (write_staged c.args.v.now cells c.args.words.now c.in_ok-cells.ensures.sites c.in_ok-cells.ensures.cells c.in_ok-cells.ensures.count count c.requires.typed)

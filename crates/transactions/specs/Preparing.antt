@@ -1,0 +1,36 @@
+-- What a transaction prepares for its commit.
+use Rattle.std.specs.Prelude.{ℕ, List, [], ◌∷◌, Option}
+use Rattle.chunk_plans.specs.declared.write.ChunkWrite.{ChunkWrite}
+use Rattle.history.specs.Chunks.{Chunk}
+use Rattle.history.specs.declared.event.Mode.{Mode}
+use Rattle.history.specs.declared.event.Op.{Op}
+use Rattle.prepared_writes.specs.Asking.{chunk_of_part}
+use Rattle.prepared_writes.specs.Laying.{MayReady}
+use Rattle.prepared_writes.specs.Readying.{IsWriteFor}
+use Rattle.prepared_writes.specs.declared.asked.Asked.{Asked}
+use Rattle.prepared_writes.specs.declared.asked.Part.{Part}
+use Rattle.transaction_cells.specs.Staging.{StagedChunk}
+use Rattle.transactions.specs.Txn.{TxnSeen, chunk_at}
+use Rattle.transactions.specs.declared.kept.Kept.{Kept}
+
+-- the transaction of these parts
+abbrev pub txn_of : ℕ → Mode → List Op → List StagedChunk → List Kept → TxnSeen
+txn_of line mode ops staged kept = record { line = line; mode = mode; ops = ops; staged = staged; kept = kept }
+
+-- a chunk and the words that are staged for it
+abbrev pub seen_chunk : StagedChunk → Chunk × List (Option ℕ)
+seen_chunk c = (chunk_at c.id, c.cells)
+
+abbrev pub seen_part : Part → Chunk × List (Option ℕ)
+seen_part p = (chunk_of_part p, p.staged.now)
+
+-- bytes may be prepared of the chunk
+abbrev pub MayWriteOf : Asked → Type 0
+MayWriteOf a = MayReady a.form a.part.chunk.now a.part.staged.now a.under
+
+-- a write for each chunk that was asked for, in order
+abbrev pub AreWritesFor : List Asked → List ChunkWrite → Type 0
+AreWritesFor [] [] = Unit {0}
+AreWritesFor [] (w ∷ writes) = ⊥
+AreWritesFor (a ∷ asked) [] = ⊥
+AreWritesFor (a ∷ asked) (w ∷ writes) = IsWriteFor a w × AreWritesFor asked writes
