@@ -1,0 +1,5 @@
+//! What a line of a script means to the history of a run.
+//!
+//! A session above does what a command asks. It rests on one definition: `line_of` is the command in the history's words, of which
+//! `act_of` and the rows of a session's step speak.
+#![tactic(auto)]
