@@ -1,0 +1,10 @@
+pub mod StoredLaws
+pub mod FoundLaws
+pub mod OpenedLaws
+pub mod OwnLaws
+pub mod OpenLaws
+pub mod RefusedLaws
+pub mod RefLaws
+pub mod NameLaws
+pub mod TurnLaws
+pub mod Laws
