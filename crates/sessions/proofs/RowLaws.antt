@@ -1,0 +1,64 @@
+-- Rows of lines that take a turn.
+use Rattle.std.proofs.Common.{◌≡◌, ◌∙◌, ℕ, ◌+◌, List, length, Option, Result, Ok, Err, refl, sym, ap, subst}
+use Rattle.answer_text.specs.declared.answer.Body.{Body}
+use Rattle.history.specs.declared.event.Event.{Event}
+use Rattle.history.specs.Acts.{resizes, act_of}
+use Rattle.history.specs.Answers.{Text}
+use Rattle.history.specs.Commit.{Transaction}
+use Rattle.history.specs.Lines.{Line, resizing}
+use Rattle.history.specs.Own.{numbered}
+use Rattle.history.specs.Sessions.{Names, SessionState}
+use Rattle.history.specs.Steps.{IsAnswered}
+use Rattle.line_answers.specs.Bodies.{body_of}
+use Rattle.sessions.specs.Bodies.{resized_answer}
+use Rattle.sessions.specs.Standing.{session_state, transaction_in}
+use Rattle.sessions.specs.Told.{IsTold, IsToldAlone, IsAnswerTo, IsToldBy}
+use Rattle.session_turns.specs.Turns.{IsRested, added_by, IsResizeTurn}
+use Rattle.session_turns.proofs.Laws.{own_of_turn, none_added, same_rest}
+use Rattle.sessions.proofs.ToldLaws.{told_refused}
+use Rattle.state_laws.specs.Agreement.{Opening}
+use Rattle.state_resizes.specs.Answers.{fixed_by}
+use Rattle.state_resizes.specs.declared.error.ResizeError.{ResizeError}
+use Rattle.state_resizes.specs.declared.error.ResizeError.TheVariants as error
+use Rattle.state_resizes.proofs.Laws.{HasRow, resize_row}
+use Rattle.state_resizes.proofs.Laws as resizes_laws
+use Rattle.stack_driver.specs.References.{Reference}
+use Rattle.transactions.specs.Txn.{TxnSeen}
+use Rattle.turn_book.specs.Passes.{BookView, PassView}
+
+module _ (book : BookView Opening) (old : PassView Event Opening) where
+  -- what takes no turn adds no event
+  pub told_alone : (s : SessionState) (line : ℕ) (asked : Line) (names : Names) (t : Option Transaction) (answer : Body) → IsToldAlone s line asked names t answer → IsToldBy book old old s line asked names t answer
+  told_alone s line asked names t answer told start is =
+      subst (IsTold (fixed_by book.fixed start) old.number old.seen s line asked names t answer) (sym (none_added old)) (told (fixed_by book.fixed start) old.number old.seen)
+
+  -- a refusal without a turn
+  pub told_without : (s : SessionState) (line : ℕ) (asked : Line) (answer : Body) → IsAnswerTo (act_of s.names s.transaction asked) answer → IsToldBy book old old s line asked s.names s.transaction answer
+  told_without s line asked answer refused = told_alone s line asked s.names s.transaction answer (λ fixed owner events. told_refused fixed owner events s line asked answer refused)
+
+same_answer : (r : Result ℕ ResizeError) → resizes_laws.body_of r ≡ resized_answer r
+same_answer (Ok n) = refl
+same_answer (Err (error.TooManyChunks at)) = refl
+same_answer (Err (error.NotAtomic keys)) = refl
+same_answer (Err (error.Damaged key cause)) = refl
+same_answer (Err (error.StoreFailed event)) = refl
+same_answer (Err error.Memory) = refl
+
+-- a resize in a turn
+pub told_resized : (book : BookView Opening) (before_pass new : PassView Event Opening) (names : Names) (t : Option TxnSeen) (line : ℕ) (name : Text) (shape : List ℕ) (r : Reference) (answer : Result ℕ ResizeError) → IsRested book before_pass
+    → act_of names (transaction_in t) (resizing name shape) ≡ Ok (resizes r shape) → IsResizeTurn book before_pass new r.number shape answer
+    → IsToldBy book before_pass new (session_state names (length before_pass.seen) t) line (resizing name shape) names (transaction_in t) (body_of (resized_answer answer))
+told_resized book pass new names t line name shape r answer rested act turn start is =
+    let fixed = fixed_by book.fixed start in
+    let s = session_state names (length pass.seen) t in
+    let row = resize_row fixed pass.number turn.before new.seen s line r shape answer (turn.answer start is) in
+    let own : row.own ≡ turn.added = same_rest turn.before row.own turn.added (sym row.added ∙ turn.turn.later) in
+    let numbers : numbered (length turn.before + 1) row.own ≡ added_by pass new = ap (numbered (length turn.before + 1)) own ∙ sym (own_of_turn book pass new turn.before turn.added rested turn.turn) in
+    record {
+      body = resized_answer answer;
+      printed = refl;
+      row =
+          subst (λ a. IsAnswered fixed pass.number new.seen s line a names (transaction_in t) (resized_answer answer) (added_by pass new)) (sym act)
+          (subst (λ b. IsAnswered fixed pass.number new.seen s line (Ok (resizes r shape)) names (transaction_in t) b (added_by pass new)) (same_answer answer)
+          (subst (IsAnswered fixed pass.number new.seen s line (Ok (resizes r shape)) names (transaction_in t) (resizes_laws.body_of answer)) numbers row.row));
+    }

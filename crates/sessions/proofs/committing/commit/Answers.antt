@@ -1,0 +1,23 @@
+use Rattle.std.proofs.Common.{None, sym, subst}
+use Rattle.answer_text.specs.declared.answer.Body.TheVariants.{NoTransaction}
+use Rattle.sessions.specs.Commits.{HasSoundTxn, IsCommitTold}
+use Rattle.sessions.proofs.CommitRows.{commit_without, committed_sound, committed_told}
+use Rattle.sessions.proofs.committing.commit.Goals as goal
+
+pub returns-in-Some-clause-told : goal.returns-in-Some-clause-told
+returns-in-Some-clause-told g c =
+    let old = c.args.pass.now in
+    let new = c.committed.new.pass in
+    subst (λ o. IsCommitTold c.args.book.now old new o c.committed.new.txn c.committed.result) c.in-Some.ensures.value
+    (committed_told c.args.book.now old new c.in-Some.t c.committed.new.txn c.committed.result c.requires.pass c.committed.ensures)
+
+pub returns-in-Some-clause-txn : goal.returns-in-Some-clause-txn
+returns-in-Some-clause-txn g c =
+    committed_sound c.args.book.now c.args.pass.now c.committed.new.pass c.in-Some.t c.committed.new.txn c.committed.result c.requires.pass
+    (subst (HasSoundTxn c.args.book.now.fixed c.args.pass.now.seen) (sym c.in-Some.ensures.value) c.requires.txn) c.committed.ensures
+
+pub returns-in-None-clause-told : goal.returns-in-None-clause-told
+returns-in-None-clause-told g c =
+    let old = c.args.pass.now in
+    subst (λ o. IsCommitTold c.args.book.now old old o c.take.new.self NoTransaction) c.in-None.ensures.value
+    (subst (λ o. IsCommitTold c.args.book.now old old None o NoTransaction) (sym c.in-None.ensures.after) (commit_without c.args.book.now old))

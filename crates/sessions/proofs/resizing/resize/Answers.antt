@@ -1,0 +1,25 @@
+use Rattle.std.proofs.Common.{length, sym, subst}
+use Rattle.history.specs.Lines.{resizing}
+use Rattle.indexmap.specs.IndexMap.{get_by_text}
+use Rattle.session_turns.specs.Turns.{IsResizeTurn}
+use Rattle.sessions.specs.Standing.{session_state, transaction_in}
+use Rattle.sessions.specs.Told.{IsToldBy}
+use Rattle.sessions.proofs.RowLaws.{told_resized, told_without}
+use Rattle.sessions.proofs.resizing.resize.Goals as goal
+
+pub resize_in_turn-requires-clause-asked : goal.resize_in_turn-requires-clause-asked
+resize_in_turn-requires-clause-asked g c = λ events grown legal. c.in-Ok.ensures.asked c.args.pass.now.seen events c.requires.known grown legal
+
+pub returns-in-Ok-clause-told : goal.returns-in-Ok-clause-told
+returns-in-Ok-clause-told g c = λ line.
+    let names = get_by_text c.args.names.now in
+    let old = c.args.pass.now in
+    let new = c.resize_in_turn.new.pass in
+    let p = c.in-Ok.ensures.array in
+    subst (IsToldBy c.args.book.now old new (session_state names (length old.seen) c.args.txn.now) line (resizing c.args.name.now c.args.shape.now) names (transaction_in c.args.txn.now)) (sym c.resized_body.ensures)
+    (told_resized c.args.book.now old new names c.args.txn.now line c.args.name.now c.args.shape.now p.0 c.resize_in_turn.result c.requires.pass p.2
+    (subst (λ n. IsResizeTurn c.args.book.now old new n c.args.shape.now c.resize_in_turn.result) (sym p.1) c.resize_in_turn.ensures))
+
+pub returns-in-Err-clause-told : goal.returns-in-Err-clause-told
+returns-in-Err-clause-told g c = λ line.
+    told_without c.args.book.now c.args.pass.now (session_state (get_by_text c.args.names.now) (length c.args.pass.now.seen) c.args.txn.now) line (resizing c.args.name.now c.args.shape.now) c.in-Err.body c.in-Err.ensures.err

@@ -1,0 +1,17 @@
+use Rattle.std.proofs.Common.{None, Some, refl}
+use Rattle.history.specs.Lines.{writing}
+use Rattle.indexmap.specs.IndexMap.{get_by_text}
+use Rattle.line_meanings.specs.Changes.{changes_of}
+use Rattle.line_meanings.specs.Numbers.{values_of}
+use Rattle.serde_json.specs.View.{view}
+use Rattle.sessions.proofs.StageLaws.{unstaged_told}
+use Rattle.sessions.proofs.staging.stage.Goals as goal
+use Rattle.transactions.specs.Txn.{transaction_of}
+
+pub returns-in-Ok-clause-txn : goal.returns-in-Ok-clause-txn
+returns-in-Ok-clause-txn c opening events known was printed = c.staged.ensures.txn opening events (c.in-Ok.ensures.refs events known) was printed
+
+pub returns-in-Err-clause-told : goal.returns-in-Err-clause-told
+returns-in-Err-clause-told c seen line =
+    unstaged_told c.args.t.now c.args.t.now (get_by_text c.args.names.now) seen line (writing c.args.name.now (changes_of None c.args.steps.now) (values_of (view c.args.values.now))) c.in-Err.body refl
+    (c.in-Err.ensures.err (Some (transaction_of c.args.t.now)))

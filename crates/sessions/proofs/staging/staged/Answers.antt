@@ -1,0 +1,31 @@
+use Rattle.std.proofs.Common.{◌≡◌, ℕ, List, Ok, Some, length, sym, ap, subst}
+use Rattle.answer_text.specs.declared.answer.Body.TheVariants.{Staged}
+use Rattle.history.specs.Acts.{Asked, stages}
+use Rattle.sessions.specs.Commits.{HasSoundTxn}
+use Rattle.sessions.specs.Standing.{session_state}
+use Rattle.sessions.specs.Told.{IsAnswerTo, IsToldAlone}
+use Rattle.sessions.proofs.FaultLaws.{found_all}
+use Rattle.sessions.proofs.StageLaws.{more_sound, staged_told, unstaged_told}
+use Rattle.sessions.proofs.staging.staged.Goals as goal
+use Rattle.transactions.specs.Txn.{TxnSeen, transaction_of}
+use Rattle.transactions.specs.declared.error.WriteError.TheVariants as write
+
+pub returns-in-Ok-clause-told : goal.returns-in-Ok-clause-told
+returns-in-Ok-clause-told c names seen line asked act =
+    let v = c.args.w.now.view in
+    subst (λ (ws : List ℕ). IsToldAlone (session_state names seen (Some c.args.t.now)) line asked names (Some (transaction_of c.write.new.self)) (Staged (length ws))) (sym c.items-in-Ok.ensures)
+    (staged_told c.args.t.now c.write.new.self v c.args.w.now.words c.items.result.now c.items.ensures c.in-Ok.ensures.ok names seen line asked (found_all v c.in-Ok.ensures.whole.targets) act)
+
+pub returns-in-Ok-clause-txn : goal.returns-in-Ok-clause-txn
+returns-in-Ok-clause-txn c opening events refs was printed =
+    more_sound c.args.t.now c.write.new.self c.args.w.now.view c.args.w.now.words c.items.result.now c.items.ensures c.in-Ok.ensures.ok opening events (c.in-Ok.ensures.txn opening events was.0 refs) c.requires.view c.in-Ok.ensures.whole was
+
+pub returns-in-Err-clause-told : goal.returns-in-Err-clause-told
+returns-in-Err-clause-told c names seen line asked act =
+    unstaged_told c.args.t.now c.write.new.self names seen line asked c.unwritten.result (ap transaction_of c.in-Err.ensures.memory)
+    (subst (λ (a : Asked). IsAnswerTo a c.unwritten.result) (sym act) (c.unwritten.ensures.answer (Ok (stages (transaction_of c.args.t.now) c.args.w.now.view c.args.w.now.words))))
+
+pub returns-in-Err-clause-txn : goal.returns-in-Err-clause-txn
+returns-in-Err-clause-txn c opening events refs was printed =
+    subst (λ (t : TxnSeen). HasSoundTxn opening events (Some t))
+    (sym (c.in-Err.ensures.same (λ is. printed (c.unwritten.ensures.memory (let same : c.in-Err.e ≡ write.Memory = cc in same))))) was

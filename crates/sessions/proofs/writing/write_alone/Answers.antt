@@ -1,0 +1,14 @@
+use Rattle.std.proofs.Common.{None, length}
+use Rattle.history.specs.Lines.{writing}
+use Rattle.indexmap.specs.IndexMap.{get_by_text}
+use Rattle.line_meanings.specs.Changes.{changes_of}
+use Rattle.line_meanings.specs.Numbers.{values_of}
+use Rattle.serde_json.specs.View.{view}
+use Rattle.sessions.specs.Standing.{session_state}
+use Rattle.sessions.proofs.RowLaws.{told_without}
+use Rattle.sessions.proofs.writing.write_alone.Goals as goal
+
+pub returns-in-Err-clause-told : goal.returns-in-Err-clause-told
+returns-in-Err-clause-told g c =
+    told_without c.args.book.now c.args.pass.now (session_state (get_by_text c.args.names.now) (length c.args.pass.now.seen) None) c.args.line
+    (writing c.args.name.now (changes_of None c.args.steps.now) (values_of (view c.args.values.now))) c.in-Err.body (c.in-Err.ensures.err None)

@@ -1,0 +1,22 @@
+use Rattle.std.proofs.Common.{ℕ, List, None, Ok, length, sym, subst}
+use Rattle.history.specs.Acts.{Asked, writes}
+use Rattle.sessions.specs.Standing.{session_state}
+use Rattle.sessions.specs.Told.{IsAnswerTo}
+use Rattle.sessions.specs.Writes.{IsWrittenAs}
+use Rattle.sessions.proofs.RowLaws.{told_without}
+use Rattle.sessions.proofs.WriteLaws.{written_told}
+use Rattle.sessions.proofs.writing.written.Goals as goal
+use Rattle.transactions.specs.Txn.{transaction_of}
+
+pub committed-requires-clause-sound : goal.committed-requires-clause-sound
+committed-requires-clause-sound g c = c.in-Ok.ensures.sound c.args.book.now.fixed c.args.pass.now.seen c.requires.pass.past.outline c.requires.refs
+
+pub returns-in-Ok-clause-told : goal.returns-in-Ok-clause-told
+returns-in-Ok-clause-told g c names asked act =
+    written_told c.args.book.now c.args.pass.now c.committed.new.pass c.args.line c.args.w.now.view c.args.w.now.words c.in-Ok.t c.in-Ok.ensures.alone c.committed.result c.requires.pass
+    (subst (λ (ws : List ℕ). IsWrittenAs c.args.book.now c.args.pass.now c.committed.new.pass (transaction_of c.in-Ok.t) (length ws) c.committed.result) c.items.ensures c.committed.ensures) names asked c.in-Ok.ensures.found act
+
+pub returns-in-Err-clause-told : goal.returns-in-Err-clause-told
+returns-in-Err-clause-told g c names asked act =
+    told_without c.args.book.now c.args.pass.now (session_state names (length c.args.pass.now.seen) None) c.args.line asked c.in-Err.body
+    (subst (λ (a : Asked). IsAnswerTo a c.in-Err.body) (sym act) (c.in-Err.ensures.err (Ok (writes c.args.w.now.view c.args.w.now.words))))

@@ -1,0 +1,5 @@
+pub mod Standing
+pub mod Told
+pub mod Bodies
+pub mod Commits
+pub mod Writes

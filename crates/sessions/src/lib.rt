@@ -1,0 +1,24 @@
+//! The lines of a session: what each command does, and its answer.
+//!
+//! Crates above rest on one relation, `IsTold`: what a line is answered is the printed answer of a row of the history's session.
+#![tactic(auto)]
+
+mod beginning;
+mod causes;
+mod cell_faults;
+mod changing;
+mod committing;
+mod joining;
+mod names;
+mod resizing;
+mod staging;
+mod viewing;
+mod writing;
+
+pub use beginning::{abort, begin};
+pub use committing::commit;
+pub use joining::join;
+pub use names::Names;
+pub use resizing::resize;
+pub use staging::write;
+pub use viewing::view;

@@ -1,0 +1,124 @@
+// New shapes of stored arrays.
+ghost use Rattle.std.specs.Prelude.{◌≡◌, ℕ, false, Ok, Err, Some, IfOk, IfErr, length};
+ghost use Rattle.std.specs.FinMap as finmap;
+ghost use mathlib.Core.List.{IsPrefix};
+ghost use Rattle.cells.specs.Shapes.{IsShape};
+ghost use Rattle.history.specs.Acts.{resizes, on_leaf, on_stored, act_of};
+ghost use Rattle.history.specs.Bound.{AreKnownNames};
+ghost use Rattle.history.specs.History.{History};
+ghost use Rattle.history.specs.Legal.{IsLegal};
+ghost use Rattle.history.specs.Lines.{resizing};
+ghost use Rattle.indexmap.specs.IndexMap.{get_by_text};
+ghost use Rattle.line_answers.specs.Bodies.{body_of};
+ghost use Rattle.sessions.specs.Bodies.{resized_answer};
+ghost use Rattle.sessions.specs.Standing.{session_state, transaction_in};
+ghost use Rattle.sessions.specs.Told.{IsAnswerTo, IsToldBy};
+ghost use Rattle.session_turns.specs.Turns.{IsRested, HasPassed};
+ghost use Rattle.stack_driver.specs.References.{Reference};
+ghost use Rattle.stack_driver.specs.Renewed.{array_of};
+ghost use Rattle.state_laws.specs.Outline.{outline};
+ghost use Rattle.state_resizes.specs.Conditions.{IsAsked};
+
+use crate::names::{Names, unknown};
+use answer_text::Body;
+use cells::List;
+use kv_face::KvStore;
+use line_answers::damaged;
+use session_turns::resize_in_turn;
+use shared_state::State;
+use stack_driver::{View, array_of};
+use state_resizes::ResizeError;
+use std::alloc::Global;
+use std::sync::Wait;
+use transactions::Txn;
+use transform_composition::ComposeError;
+use turn_book::{Pass, TurnBook};
+
+/// Gives the stored array of a view another shape, by one turn.
+pub fn resize<K: KvStore, R: Wait>(
+    alloc: Global,
+    rt: &R,
+    book: &TurnBook<State<K>>,
+    pass: &mut Pass<State<K>>,
+    names: &Names,
+    txn: &Option<Txn>,
+    name: &str,
+    shape: &[u64],
+) -> Body
+    requires pass { IsRested book.now pass.old }
+    requires known { AreKnownNames pass.old.seen (get_by_text names.now) }
+    requires sizes { IsShape shape.now }
+    ensures told { (line : ℕ) → IsToldBy book.now pass.old pass.new (session_state (get_by_text names.now) (length pass.old.seen) txn.now) line (resizing name.now shape.now) (get_by_text names.now) (transaction_in txn.now) result }
+    ensures passed { HasPassed book.now pass.old pass.new }
+{
+    match array_asked(alloc, names, txn, name, shape) {
+        Ok(array) => resized_body(alloc, resize_in_turn(alloc, rt, book, pass, array, shape)),
+        Err(body) => body,
+    }
+}
+
+// The number of the array that is to have a shape, or the answer to what refuses it.
+fn array_asked(
+    alloc: Global,
+    names: &Names,
+    txn: &Option<Txn>,
+    name: &str,
+    shape: &[u64],
+) -> Result<u64, Body>
+    requires sizes { IsShape shape.now }
+    ensures array { IfOk result (λ n. (r : Reference) × (r.number ≡ n) × (act_of (get_by_text names.now) (transaction_in txn.now) (resizing name.now shape.now) ≡ Ok (resizes r shape.now))) }
+    ensures asked { IfOk result (λ n. (early events : History) → AreKnownNames early (get_by_text names.now) → IsPrefix early events → IsLegal finmap.empty (outline events) → IsAsked events n shape.now) }
+    ensures err { IfErr result (λ b. IsAnswerTo (act_of (get_by_text names.now) (transaction_in txn.now) (resizing name.now shape.now)) b) }
+{
+    if txn.is_some() {
+        return Err(Body::InTransaction);
+    }
+    match names.get(name) {
+        Some(view) => stored_array(view, shape),
+        None => Err(unknown(alloc, name)),
+    }
+}
+
+fn stored_array(view: &View, shape: &[u64]) -> Result<u64, Body>
+    ensures array { IfOk result (λ n. (r : Reference) × (array_of view.now ≡ Some r) × (r.number ≡ n) × (r.local ≡ false) × (length shape.now ≡ length r.shape)) }
+    ensures err { IfErr result (λ b. IsAnswerTo (on_leaf (array_of view.now) (λ r. on_stored r shape.now)) b) }
+{
+    let Some(array) = array_of(view) else {
+        return Err(Body::NotArray);
+    };
+    if array.local {
+        return Err(Body::NotArray);
+    }
+    if array.shape.items().len() != shape.len() {
+        return Err(Body::RefusedView {
+            cause: ComposeError::Rank,
+        });
+    }
+    Ok(array.number)
+}
+
+// The answer to a resize.
+fn resized_body(alloc: Global, resized: Result<u64, ResizeError>) -> Body
+    ensures { result ≡ body_of (resized_answer resized) }
+{
+    match resized {
+        Ok(event) => Body::Resized { event },
+        Err(e) => unresized_body(alloc, e),
+    }
+}
+
+fn unresized_body(alloc: Global, e: ResizeError) -> Body
+    ensures { result ≡ body_of (resized_answer (Err e)) }
+{
+    match e {
+        ResizeError::TooManyChunks { at } => Body::TooManyChunks { at },
+        ResizeError::NotAtomic { keys } => Body::NotAtomic { keys },
+        ResizeError::Damaged { key, cause } => damaged(key, cause),
+        ResizeError::StoreFailed { event } => Body::StoreFailed {
+            event,
+            done: List::wrap(Vec::new(alloc)),
+            events: None,
+        },
+        ResizeError::Memory => Body::Memory,
+    }
+}

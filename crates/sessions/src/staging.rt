@@ -1,0 +1,107 @@
+// Writes.
+ghost use Rattle.std.specs.Prelude.{◌≡◌, ◌≢◌, ℕ, Ok, None, Some, All, length};
+ghost use Rattle.std.specs.List.{AllByRecursion};
+ghost use Rattle.answer_text.specs.declared.answer.Body.TheVariants as printed;
+ghost use Rattle.cells.specs.Numbers.{IsWord};
+ghost use Rattle.history.specs.Acts.{stages, without, act_of};
+ghost use Rattle.history.specs.Bound.{AreKnownNames};
+ghost use Rattle.history.specs.History.{History};
+ghost use Rattle.history.specs.Lines.{Line, writing};
+ghost use Rattle.history.specs.Refs.{HasKnownRefs};
+ghost use Rattle.history.specs.Sessions.{Names as NamesOf};
+ghost use Rattle.history.specs.Viewing.{cell_fault};
+ghost use Rattle.index_transform.specs.Cells.{count_answer};
+ghost use Rattle.indexmap.specs.IndexMap.{get_by_text};
+ghost use Rattle.line_meanings.specs.Changes.{changes_of};
+ghost use Rattle.line_meanings.specs.Numbers.{values_of};
+ghost use Rattle.serde_json.specs.View.{view as data_in};
+ghost use Rattle.session_turns.specs.Turns.{IsRested, HasPassed};
+ghost use Rattle.sessions.specs.Commits.{HasSoundTxn};
+ghost use Rattle.sessions.specs.Standing.{session_state, transaction_in, AreViews};
+ghost use Rattle.sessions.specs.Told.{IsToldAlone, IsToldBy};
+ghost use Rattle.stack_driver.specs.Conditions.{IsView};
+ghost use Rattle.stack_driver.specs.Views.{look_of};
+ghost use Rattle.state_laws.specs.Agreement.{Opening};
+ghost use Rattle.step_forms.specs.Given.{IsGiven};
+ghost use Rattle.transactions.specs.Conditions.{IsTxnIn, MayUse};
+ghost use Rattle.transactions.specs.Txn.{transaction_of};
+
+use crate::names::Names;
+use crate::writing::{Worded, asked_write, unwritten, write_alone};
+use answer_text::Body;
+use kv_face::KvStore;
+use serde_json::Value;
+use shared_state::State;
+use std::alloc::Global;
+use std::sync::Wait;
+use step_forms::Step;
+use transactions::{Gate, Txn};
+use turn_book::{Pass, TurnBook};
+
+/// Writes values to a view: they are staged in the transaction that stands, and are a transaction of their own where none does.
+pub fn write<K: KvStore, R: Wait, G: Gate>(
+    alloc: Global,
+    rt: &R,
+    book: &TurnBook<State<K>>,
+    pass: &mut Pass<State<K>>,
+    names: &Names,
+    line: u64,
+    txn: &mut Option<Txn>,
+    name: &str,
+    steps: &[Step],
+    values: &Value,
+    gate: &G,
+) -> Body
+    requires pass { IsRested book.now pass.old }
+    requires given { All IsGiven steps.now }
+    requires views { AreViews (get_by_text names.now) }
+    requires known { AreKnownNames pass.old.seen (get_by_text names.now) }
+    requires txn { HasSoundTxn book.now.fixed pass.old.seen txn.old }
+    ensures told { IsToldBy book.now pass.old pass.new (session_state (get_by_text names.now) (length pass.old.seen) txn.old) line (writing name.now (changes_of None steps.now) (values_of (data_in values.now))) (get_by_text names.now) (transaction_in txn.new) result }
+    ensures passed { HasPassed book.now pass.old pass.new }
+    ensures txn { result ≢ printed.Memory → HasSoundTxn book.now.fixed pass.new.seen txn.new }
+{
+    match txn {
+        Some(t) => stage(alloc, names, t, name, steps, values),
+        None => write_alone(
+            alloc, rt, book, pass, names, line, name, steps, values, gate,
+        ),
+    }
+}
+
+// Stages values in a transaction. No turn is taken.
+fn stage(
+    alloc: Global,
+    names: &Names,
+    t: &mut Txn,
+    name: &str,
+    steps: &[Step],
+    values: &Value,
+) -> Body
+    requires given { All IsGiven steps.now }
+    requires views { AreViews (get_by_text names.now) }
+    requires txn { (opening : Opening) × (events : History) × IsTxnIn opening events t.old × AreKnownNames events (get_by_text names.now) }
+    ensures told { (seen line : ℕ) → IsToldAlone (session_state (get_by_text names.now) seen (Some t.old)) line (writing name.now (changes_of None steps.now) (values_of (data_in values.now))) (get_by_text names.now) (Some (transaction_of t.new)) result }
+    ensures txn { (opening : Opening) (events : History) → AreKnownNames events (get_by_text names.now) → HasSoundTxn opening events (Some t.old) → result ≢ printed.Memory → HasSoundTxn opening events (Some t.new) }
+{
+    match asked_write(alloc, names, name, steps, values) {
+        Ok(w) => staged(alloc, t, &w),
+        Err(body) => body,
+    }
+}
+
+fn staged(alloc: Global, t: &mut Txn, w: &Worded) -> Body
+    requires view { IsView w.now.view }
+    requires may { MayUse w.now.view t.old }
+    requires count { count_answer (look_of w.now.view).dims ≡ Ok (length w.now.words) }
+    requires typed { AllByRecursion (IsWord (look_of w.now.view).dtype) w.now.words }
+    ensures told { (names : NamesOf) (seen line : ℕ) (asked : Line) → act_of names (Some (transaction_of t.old)) asked ≡ without (cell_fault w.now.view) (Ok (stages (transaction_of t.old) w.now.view w.now.words)) → IsToldAlone (session_state names seen (Some t.old)) line asked names (Some (transaction_of t.new)) result }
+    ensures txn { (opening : Opening) (events : History) → HasKnownRefs events w.now.view → HasSoundTxn opening events (Some t.old) → result ≢ printed.Memory → HasSoundTxn opening events (Some t.new) }
+{
+    match t.write(alloc, &w.view, w.words.items()) {
+        Ok(()) => Body::Staged {
+            cells: w.words.items().len() as u64,
+        },
+        Err(e) => unwritten(alloc, &w.view, e),
+    }
+}
