@@ -22,12 +22,12 @@ use Rattle.history.specs.Reads.{Marks, mark_of, visible_values}
 use Rattle.history.specs.Refusals.{IsDamagedRead}
 use Rattle.history.specs.Shown.{AreMarked, after_read}
 use Rattle.history.specs.Own.{fault}
-use Rattle.history.specs.Staged.{IsStaged}
+use Rattle.history.specs.Staged.{IsFound, IsStaged}
 use Rattle.history.specs.declared.event.Event.{Event}
 use Rattle.history.specs.declared.event.Op.TheVariants.{Read}
 use Rattle.index_transform.specs.Cells.{count_answer}
 use Rattle.kv_face.specs.Store.{Contents}
-use Rattle.stack_driver.specs.Views.{look_of}
+use Rattle.stack_driver.specs.Views.{look_of, targets_of}
 use Rattle.stack_driver.specs.declared.view.View.{View}
 use Rattle.state_laws.specs.Agreement.{Opening}
 use Rattle.turn_book.specs.Passes.{BookView, PassView}
@@ -73,6 +73,14 @@ IsReadError book old new t v (read.Damaged key cause) =
     HasTurned book old new [] × ((fixed : Fixed) → book.fixed.store.contents ≡ Some fixed.start → IsDamagedRead fixed new.seen (transaction_of t) v key cause)
 IsReadError book old new t v (read.Shrunk key now) = HasTurned book old new [] × IsShrunkBy new.seen (length old.seen) (transaction_of t) v key now
 IsReadError book old new t v read.Memory = HasPassed book old new []
+
+-- each cell of the view has a target, but where the view was refused for what is wrong with it, or memory was wanting
+abbrev pub IsFoundUnless : View → ReadError → Type 0
+IsFoundUnless v (read.View fault) = Unit {0}
+IsFoundUnless v (read.StoreFailed event) = AllByRecursion IsFound (targets_of v)
+IsFoundUnless v (read.Damaged key cause) = AllByRecursion IsFound (targets_of v)
+IsFoundUnless v (read.Shrunk key now) = AllByRecursion IsFound (targets_of v)
+IsFoundUnless v read.Memory = Unit {0}
 
 -- a view that a transaction reads beside these events, and its cells
 pub record IsReadOf (opening : Opening) (events : History) (t : TxnSeen) (v : View) (cells : ViewCells) : Type 0 where

@@ -25,7 +25,7 @@ ghost use Rattle.transactions.specs.Conditions.{IsTxnIn};
 ghost use Rattle.transactions.specs.Faults.{IsLocateFault};
 ghost use Rattle.transactions.specs.Had.{IsDenseOrNone, had_from, snapshots_of};
 ghost use Rattle.transactions.specs.Keeping.{AreNewTo, with_read};
-ghost use Rattle.transactions.specs.Reading.{as_read_fault, HasRead, IsReadBy, IsReadError, IsReadOf, IsStoredIn, IsStrayRefusal, had_by, strays_by};
+ghost use Rattle.transactions.specs.Reading.{as_read_fault, HasRead, IsFoundUnless, IsReadBy, IsReadError, IsReadOf, IsStoredIn, IsStrayRefusal, had_by, strays_by};
 ghost use Rattle.transactions.specs.Sources.{sources_of};
 ghost use Rattle.transactions.specs.Strays.{AreFitting, HasLeastKey};
 ghost use Rattle.transactions.specs.Turns.{HasPassed, HasTurned};
@@ -82,6 +82,7 @@ impl Txn {
         ensures turned { OnOk result (HasPassed book.now pass.old pass.new []) }
         ensures txn { IsTxnIn book.now.fixed pass.new.seen self.new }
         ensures errors { IfErr result (IsReadError book.now pass.old pass.new self.old v.now) }
+        ensures found { IfErr result (IsFoundUnless v.now) }
         ensures same { OnErr result (self.new ≡ self.old) }
     {
         match located(alloc, v) {
