@@ -12,3 +12,5 @@ pub mod WriteLaws
 pub mod StageLaws
 pub mod SoundLaws
 pub mod EndLaws
+pub mod ReadRows
+pub mod ReadLaws

@@ -3,3 +3,4 @@ pub mod Told
 pub mod Bodies
 pub mod Commits
 pub mod Writes
+pub mod Reads

@@ -1,0 +1,17 @@
+use Rattle.std.proofs.Common.{None}
+use Rattle.history.specs.Lines.{reading}
+use Rattle.indexmap.specs.IndexMap.{get_by_text}
+use Rattle.line_meanings.specs.Changes.{changes_of}
+use Rattle.line_meanings.specs.Numbers.{downsampling_of}
+use Rattle.sessions.specs.Standing.{transaction_in}
+use Rattle.sessions.proofs.ReadRows.{refused_before}
+use Rattle.sessions.proofs.reading.read.Goals as goal
+
+pub returns-in-Ok-clause-told : goal.returns-in-Ok-clause-told
+returns-in-Ok-clause-told g c =
+    c.answered.ensures.told (get_by_text c.args.names.now) (reading c.args.name.now (changes_of None c.args.steps.now) (downsampling_of c.args.down.now)) (c.in-Ok.ensures.act (transaction_in c.args.txn.now))
+
+pub returns-in-Err-clause-told : goal.returns-in-Err-clause-told
+returns-in-Err-clause-told g c =
+    refused_before c.args.book.now c.args.pass.now (get_by_text c.args.names.now) c.args.txn.now c.args.line (reading c.args.name.now (changes_of None c.args.steps.now) (downsampling_of c.args.down.now)) c.in-Err.body
+    (c.in-Err.ensures.err (transaction_in c.args.txn.now))
