@@ -32,16 +32,16 @@ use Rattle.history.proofs.AloneSteps.{bare_act, bare_asked}
 use Rattle.history.proofs.AloneWanting.{Grows, grows_asked, opened_events, leaves_begin, run_grows}
 
 -- no refusal of a leaf is want of memory
-refusal_good : (leaf : Leaf) (at : ℕ) (numbers : List ℕ) (outcome : Outcome) (answer : Body) → IsRefusal leaf at numbers outcome answer → is_memory answer ≡ false
-refusal_good leaf at numbers (path_taken other) answer is = ap is_memory is
-refusal_good leaf at numbers (bad_metadata bytes) answer is = ap is_memory is.2
-refusal_good leaf at numbers exists answer is = ap is_memory is
-refusal_good leaf at numbers (mismatch member) answer is = ap is_memory is
-refusal_good leaf at numbers (there k) answer is = absurd is
-refusal_good leaf at numbers (found meta) answer is = absurd is
-refusal_good leaf at numbers not_found answer is = ap is_memory is
-refusal_good leaf at numbers (bad_want member) answer is = ap is_memory is
-refusal_good leaf at numbers (made meta) answer is = absurd is
+refusal_good : (node : Text) (leaf : Leaf) (at : ℕ) (numbers : List ℕ) (outcome : Outcome) (answer : Body) → IsRefusal node leaf at numbers outcome answer → is_memory answer ≡ false
+refusal_good node leaf at numbers (path_taken other) answer is = ap is_memory is
+refusal_good node leaf at numbers (bad_metadata bytes) answer is = ap is_memory is.2
+refusal_good node leaf at numbers exists answer is = ap is_memory is
+refusal_good node leaf at numbers (mismatch member) answer is = ap is_memory is
+refusal_good node leaf at numbers (there k) answer is = absurd is
+refusal_good node leaf at numbers (found meta) answer is = absurd is
+refusal_good node leaf at numbers not_found answer is = ap is_memory is
+refusal_good node leaf at numbers (bad_want member) answer is = ap is_memory is
+refusal_good node leaf at numbers (made meta) answer is = absurd is
 
 -- a commit that wants memory has done nothing, since its changes go together
 none_done : (mount : Text) (owner : ℕ) (now : History) (t : Transaction) (left : Option Transaction) (answer : Body) (own : List Numbered) → IsLegal finmap.empty now → AreOnMount mount now → is_memory answer ≡ true → IsCommit (single_store mount) owner now t left answer own → own ≡ []
@@ -77,7 +77,7 @@ module _ (mount : Text) (owner : ℕ) (now : History) (s : SessionState) (line :
   row_begins : (act : Act) (names : Names) (left : Option Transaction) (answer : Body) (own : List Numbered) → IsAloneHere mount owner s now own → is_memory answer ≡ true → IsRow (single_store mount) owner now s line act names left answer own
       → Begins (act_alone (single_store mount) owner (single_at s (take s.seen now)) line (bare_act act)) now
   row_begins act names left answer own here want (open_done opened is) = absurd (cc)
-  row_begins act names left answer own here want (open_refused {leaf = leaf} opened refused) = let clash : true ≡ false = sym want ∙ refusal_good leaf refused.at (numbers_of own) refused.outcome answer refused.answered in absurd (cc)
+  row_begins act names left answer own here want (open_refused {node = node} {leaf = leaf} opened refused) = let clash : true ≡ false = sym want ∙ refusal_good node leaf refused.at (numbers_of own) refused.outcome answer refused.answered in absurd (cc)
   row_begins act names left answer own here want (open_unbuilt opened is) = absurd (cc)
   row_begins act names left answer own here want (open_failed before opened failed) = absurd (cc)
   row_begins act names left answer own here want (open_wanting {name = name} {leaves = leaves} {rest = rest} {build = build} opened) =

@@ -20,7 +20,7 @@ use Rattle.history.specs.Answers.{Body, Text}
 use Rattle.history.specs.Arrays.{Known, ref_of, form_of}
 use Rattle.history.specs.Leaves.{Leaf, nothing, location_of_leaf, metadata_key_asked}
 use Rattle.history.specs.Legal.{IsLegal, IsMount}
-use Rattle.history.specs.Lines.{SpecLeaf, given, stored}
+use Rattle.history.specs.Lines.{SpecLeaf, given, stored, member_of_node}
 use Rattle.history.specs.OpenRows.{AreOpened, no_leaf, known_leaf, new_leaf, given_leaf, IsNew, made_here, IsRefusal, IsRefusedLeaf, next_array, new_ref, given_info}
 use Rattle.history.specs.Outcomes.{Outcome, path_taken, bad_metadata, exists, mismatch, there, found, not_found, bad_want, made, IsOutcome, unless_differs, making_outcome, outcome_at, unless_taken, home_of, new_info}
 use Rattle.history.specs.Own.{Numbered, numbered, opened_event}
@@ -114,7 +114,7 @@ made_at mount path (want.Zarr3 w) meta = by w.shape w.dtype
 abbrev pub IsStopped : History → List SpecLeaf → Type 0
 IsStopped events [] = Unit {0}
 IsStopped events (given numbers ∷ rest) = ⊥
-IsStopped events (stored leaf ∷ rest) = (numbers : List ℕ) → (answer : Body) × IsRefusedLeaf finmap.empty events (length events) leaf numbers answer × (is_memory answer ≡ false)
+IsStopped events (stored node leaf ∷ rest) = (numbers : List ℕ) → (answer : Body) × IsRefusedLeaf finmap.empty events (length events) node leaf numbers answer × (is_memory answer ≡ false)
 
 -- leaves behind some events: the events that they add, the arrays, and the leaves that are left from the first refused one on
 pub record CanOpen (owner : ℕ) (past : History) (leaves : List SpecLeaf) : Type 0 where
@@ -142,8 +142,8 @@ nothing_opened owner past leaves stops = record {
   few = omega arith;
 }
 
-stops_here : (events : History) (leaf : Leaf) (rest : List SpecLeaf) (outcome : Outcome) → outcome_alone events leaf ≡ outcome → ((numbers : List ℕ) → (answer : Body) × IsRefusal leaf (length events) numbers outcome answer × (is_memory answer ≡ false)) → IsStopped events (stored leaf ∷ rest)
-stops_here events leaf rest outcome is refusal numbers =
+stops_here : (events : History) (node : Text) (leaf : Leaf) (rest : List SpecLeaf) (outcome : Outcome) → outcome_alone events leaf ≡ outcome → ((numbers : List ℕ) → (answer : Body) × IsRefusal node leaf (length events) numbers outcome answer × (is_memory answer ≡ false)) → IsStopped events (stored node leaf ∷ rest)
+stops_here events node leaf rest outcome is refusal numbers =
     let r = refusal numbers in
     (r.0, record { at = length events; not_older = omega arith; within = omega arith; outcome = outcome; comes = subst (λ h. IsOutcome finmap.empty h leaf outcome) (sym (take-length events)) (is_outcome events leaf outcome is); answered = r.1 }, r.2)
 
@@ -154,12 +154,12 @@ in_front past e new = append_assoc past (e ∷ []) new
 past_is : (past : History) (es : List Event) → take (length past) (past ++ es) ≡ past
 past_is past es = take-append_seam past es
 
-new_opened : {owner : ℕ} {leaf : Leaf} {leaves rest : List SpecLeaf} {refs : List Reference} {own : List Numbered} {now : ℕ} (events past : History) (meta : Form) → take (length past) events ≡ past → length past ≤ length events → IsNew finmap.empty past leaf meta
+new_opened : {owner : ℕ} {node : Text} {leaf : Leaf} {leaves rest : List SpecLeaf} {refs : List Reference} {own : List Numbered} {now : ℕ} (events past : History) (meta : Form) → take (length past) events ≡ past → length past ≤ length events → IsNew finmap.empty past leaf meta
     → AreOpened finmap.empty owner events (length past + 1) leaves refs own now rest
-    → AreOpened finmap.empty owner events (length past) (stored leaf ∷ leaves) (new_ref past (new_info (next_array past) leaf meta) ∷ refs) (record { number = length past + 1; event = opened_event owner (new_info (next_array past) leaf meta) } ∷ own) now rest
-new_opened {owner} {leaf} {leaves} {rest} {refs} {own} {now} events past meta is low new more =
+    → AreOpened finmap.empty owner events (length past) (stored node leaf ∷ leaves) (new_ref past (new_info (next_array past) leaf meta) ∷ refs) (record { number = length past + 1; event = opened_event owner (new_info (next_array past) leaf meta) } ∷ own) now rest
+new_opened {owner} {node} {leaf} {leaves} {rest} {refs} {own} {now} events past meta is low new more =
     subst
-    (λ h. AreOpened finmap.empty owner events (length past) (stored leaf ∷ leaves) (new_ref h (new_info (next_array h) leaf meta) ∷ refs) (record { number = length past + 1; event = opened_event owner (new_info (next_array h) leaf meta) } ∷ own) now rest)
+    (λ h. AreOpened finmap.empty owner events (length past) (stored node leaf ∷ leaves) (new_ref h (new_info (next_array h) leaf meta) ∷ refs) (record { number = length past + 1; event = opened_event owner (new_info (next_array h) leaf meta) } ∷ own) now rest)
     is (new_leaf (length past) meta (omega arith) low (subst (λ h. IsNew finmap.empty h leaf meta) (sym is) new) more)
 
 given_opened : {owner : ℕ} {numbers : DenseCells} {leaves rest : List SpecLeaf} {refs : List Reference} {own : List Numbered} {now : ℕ} (events past : History) → take (length past) events ≡ past → length past ≤ length events
@@ -201,14 +201,14 @@ one_more owner past leaf leaves info opens keeps more =
     }
 
 -- a leaf that asks for a stored array, by what comes of it
-module _ (owner : ℕ) (past : History) (leaf : Leaf) (leaves : List SpecLeaf) (placed : IsMount leaf.mount) (sound : IsLeafSound (stored leaf)) (next : (h : History) → CanOpen owner h leaves) where
-  can_stored : (o : Outcome) → outcome_alone past leaf ≡ o → CanOpen owner past (stored leaf ∷ leaves)
-  can_stored (path_taken other) is = nothing_opened owner past (stored leaf ∷ leaves) (stops_here past leaf leaves (path_taken other) is (λ numbers. (body.path_taken (length past) other numbers, refl, refl)))
+module _ (owner : ℕ) (past : History) (node : Text) (leaf : Leaf) (leaves : List SpecLeaf) (placed : IsMount leaf.mount) (sound : IsLeafSound (stored node leaf)) (next : (h : History) → CanOpen owner h leaves) where
+  can_stored : (o : Outcome) → outcome_alone past leaf ≡ o → CanOpen owner past (stored node leaf ∷ leaves)
+  can_stored (path_taken other) is = nothing_opened owner past (stored node leaf ∷ leaves) (stops_here past node leaf leaves (path_taken other) is (λ numbers. (body.path_taken (length past) other numbers, refl, refl)))
   can_stored (bad_metadata bytes) is = absurd (never_bad past leaf bytes is)
-  can_stored exists is = nothing_opened owner past (stored leaf ∷ leaves) (stops_here past leaf leaves exists is (λ numbers. (body.exists (length past) (location_of_leaf leaf) numbers, refl, refl)))
-  can_stored (mismatch member) is = nothing_opened owner past (stored leaf ∷ leaves) (stops_here past leaf leaves (mismatch member) is (λ numbers. (body.mismatch (length past) member (location_of_leaf leaf) numbers, refl, refl)))
-  can_stored not_found is = nothing_opened owner past (stored leaf ∷ leaves) (stops_here past leaf leaves not_found is (λ numbers. (body.not_found (length past) (location_of_leaf leaf) numbers, refl, refl)))
-  can_stored (bad_want member) is = nothing_opened owner past (stored leaf ∷ leaves) (stops_here past leaf leaves (bad_want member) is (λ numbers. (body.bad_spec member (Some numbers), refl, refl)))
+  can_stored exists is = nothing_opened owner past (stored node leaf ∷ leaves) (stops_here past node leaf leaves exists is (λ numbers. (body.exists (length past) (location_of_leaf leaf) numbers, refl, refl)))
+  can_stored (mismatch member) is = nothing_opened owner past (stored node leaf ∷ leaves) (stops_here past node leaf leaves (mismatch member) is (λ numbers. (body.mismatch (length past) member (location_of_leaf leaf) numbers, refl, refl)))
+  can_stored not_found is = nothing_opened owner past (stored node leaf ∷ leaves) (stops_here past node leaf leaves not_found is (λ numbers. (body.not_found (length past) (location_of_leaf leaf) numbers, refl, refl)))
+  can_stored (bad_want member) is = nothing_opened owner past (stored node leaf ∷ leaves) (stops_here past node leaf leaves (bad_want member) is (λ numbers. (body.bad_spec (member_of_node node member) (Some numbers), refl, refl)))
   can_stored (found meta) is = absurd (never_found past leaf meta is)
   can_stored (there k) is =
       let more = next past in
@@ -226,7 +226,7 @@ module _ (owner : ℕ) (past : History) (leaf : Leaf) (leaves : List SpecLeaf) (
   can_stored (made meta) is =
       let info : ArrayInfo = new_info (next_array past) leaf meta in
       let asked : form_made leaf.want ≡ Ok meta = made_is past leaf meta is in
-      one_more owner past (stored leaf) leaves info (λ rest refs own now events front low more. new_opened events past meta front low (made_here (is_outcome past leaf (made meta) is)) more)
+      one_more owner past (stored node leaf) leaves info (λ rest refs own now events front low more. new_opened events past meta front low (made_here (is_outcome past leaf (made meta) is)) more)
       (λ small legal. opening_legal finmap.empty past owner leaf meta legal (free_of_made past leaf nothing meta is) placed (sound meta asked) (made_at leaf.mount leaf.path leaf.want meta asked)) (next (past ++ opened_event owner info ∷ []))
 
 -- leaves on one mount, what is asked of each being sound
@@ -237,5 +237,5 @@ can_open mount owner (given numbers ∷ leaves) past placed on sound =
     one_more owner past (given numbers) leaves info (λ rest refs own now events is low more. given_opened events past is low more)
     (λ small legal. legal_more finmap.empty past (opened_event owner info) legal (local_opening finmap.empty past info numbers legal small refl refl (record { valid = sound.0; shape = refl; dtype = refl; fill = refl })))
     (can_open mount owner leaves (past ++ opened_event owner info ∷ []) placed on.1 sound.1)
-can_open mount owner (stored leaf ∷ leaves) past placed on sound =
-    can_stored owner past leaf leaves (subst IsMount (sym on.0) placed) sound.0 (λ h. can_open mount owner leaves h placed on.1 sound.1) (outcome_alone past leaf) refl
+can_open mount owner (stored node leaf ∷ leaves) past placed on sound =
+    can_stored owner past node leaf leaves (subst IsMount (sym on.0) placed) sound.0 (λ h. can_open mount owner leaves h placed on.1 sound.1) (outcome_alone past leaf) refl

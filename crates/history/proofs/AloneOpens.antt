@@ -12,7 +12,7 @@ use Rattle.stack_driver.specs.References.{Reference}
 use Rattle.history.specs.declared.array.ArrayInfo.{ArrayInfo}
 use Rattle.history.specs.declared.event.Event.{Event}
 use Rattle.history.specs.History.{History}
-use Rattle.history.specs.Answers.{Body}
+use Rattle.history.specs.Answers.{Text, Body}
 use Rattle.history.specs.Arrays.{Known, form_of}
 use Rattle.history.specs.Leaves.{Leaf, Stored, nothing, unreadable, readable, IsStoredAs, location_of_leaf, metadata_key_asked}
 use Rattle.history.specs.Lines.{SpecLeaf, given, stored}
@@ -62,16 +62,16 @@ abbrev pub IsStopped : History → List SpecLeaf → Type 0
 IsStopped events [] = Unit {0}
 IsStopped events (leaf ∷ rest) = (owner : ℕ) → leaves_from owner (leaf ∷ rest) events ≡ refused_from (leaf ∷ rest)
 
-pub refused_stops : (owner at : ℕ) (events : History) (leaf : Leaf) (leaves : List SpecLeaf) (numbers : List ℕ) (answer : Body) (next : History → Begun) (outcome : Outcome) → IsRefusal leaf at numbers outcome answer → by_outcome owner events leaf leaves next outcome ≡ refused_from leaves
-refused_stops owner at events leaf leaves numbers answer next (path_taken other) is = refl
-refused_stops owner at events leaf leaves numbers answer next (bad_metadata bytes) is = refl
-refused_stops owner at events leaf leaves numbers answer next exists is = refl
-refused_stops owner at events leaf leaves numbers answer next (mismatch member) is = refl
-refused_stops owner at events leaf leaves numbers answer next (there k) is = absurd is
-refused_stops owner at events leaf leaves numbers answer next (found meta) is = absurd is
-refused_stops owner at events leaf leaves numbers answer next not_found is = refl
-refused_stops owner at events leaf leaves numbers answer next (bad_want member) is = refl
-refused_stops owner at events leaf leaves numbers answer next (made meta) is = absurd is
+pub refused_stops : (owner at : ℕ) (events : History) (node : Text) (leaf : Leaf) (leaves : List SpecLeaf) (numbers : List ℕ) (answer : Body) (next : History → Begun) (outcome : Outcome) → IsRefusal node leaf at numbers outcome answer → by_outcome owner events leaf leaves next outcome ≡ refused_from leaves
+refused_stops owner at events node leaf leaves numbers answer next (path_taken other) is = refl
+refused_stops owner at events node leaf leaves numbers answer next (bad_metadata bytes) is = refl
+refused_stops owner at events node leaf leaves numbers answer next exists is = refl
+refused_stops owner at events node leaf leaves numbers answer next (mismatch member) is = refl
+refused_stops owner at events node leaf leaves numbers answer next (there k) is = absurd is
+refused_stops owner at events node leaf leaves numbers answer next (found meta) is = absurd is
+refused_stops owner at events node leaf leaves numbers answer next not_found is = refl
+refused_stops owner at events node leaf leaves numbers answer next (bad_want member) is = refl
+refused_stops owner at events node leaf leaves numbers answer next (made meta) is = absurd is
 
 stopped : (owner : ℕ) (now : History) (cur : ℕ) (rest : List SpecLeaf) → IsStopped now rest → take cur now ≡ now → leaves_from owner rest (take cur now) ≡ refused_from rest
 stopped owner now cur [] stops all = refl
@@ -108,27 +108,27 @@ new_at owner now at leaf leaves rest refs own info (y ∷ ys) left within opens 
     opens ∙ ap (with_new owner h info) inner ∙ ap (λ n. record { refs = new_ref h info ∷ refs; own = record { number = n + 1; event = e } ∷ own; rest = rest }) size
 
 -- the first leaf gives a new array
-pub opens_new : (start : Contents) (owner : ℕ) (events : History) (leaf : Leaf) (leaves : List SpecLeaf) (meta : Form) → start ≡ finmap.empty → IsNew start events leaf meta
-    → leaves_from owner (stored leaf ∷ leaves) events ≡ opened_then owner events (new_info (next_array events) leaf meta) (leaves_from owner leaves)
-opens_new start owner events leaf leaves meta empty (read_there is) = ap (by_outcome owner events leaf (stored leaf ∷ leaves) (leaves_from owner leaves)) (outcome_is start events leaf (found meta) empty is)
-opens_new start owner events leaf leaves meta empty (made_here is) = ap (by_outcome owner events leaf (stored leaf ∷ leaves) (leaves_from owner leaves)) (outcome_is start events leaf (made meta) empty is)
+pub opens_new : (start : Contents) (owner : ℕ) (events : History) (node : Text) (leaf : Leaf) (leaves : List SpecLeaf) (meta : Form) → start ≡ finmap.empty → IsNew start events leaf meta
+    → leaves_from owner (stored node leaf ∷ leaves) events ≡ opened_then owner events (new_info (next_array events) leaf meta) (leaves_from owner leaves)
+opens_new start owner events node leaf leaves meta empty (read_there is) = ap (by_outcome owner events leaf (stored node leaf ∷ leaves) (leaves_from owner leaves)) (outcome_is start events leaf (found meta) empty is)
+opens_new start owner events node leaf leaves meta empty (made_here is) = ap (by_outcome owner events leaf (stored node leaf ∷ leaves) (leaves_from owner leaves)) (outcome_is start events leaf (made meta) empty is)
 
 -- the leaves are those that the session alone opens
 pub leaves_same : {start : Contents} {owner : ℕ} {now : History} {cur fin : ℕ} {leaves rest : List SpecLeaf} {refs : List Reference} {own : List Numbered} → start ≡ finmap.empty → AreOpened start owner now cur leaves refs own fin rest → cur ≤ length now
     → own ≡ numbered (cur + 1) (drop cur now) → IsStopped now rest → leaves_from owner leaves (take cur now) ≡ record { refs = refs; own = own; rest = rest }
 leaves_same {owner = owner} {now = now} {cur = cur} {leaves = leaves} empty no_leaf low is stops = stopped owner now cur leaves stops (take_to_end cur now (nothing_left (cur + 1) (drop cur now) is))
-leaves_same {start = start} {owner = owner} {now = now} {cur = cur} {own = own} empty (known_leaf {leaf = leaf} {leaves = leaves} at k up within is_found rest) low is stops =
+leaves_same {start = start} {owner = owner} {now = now} {cur = cur} {own = own} empty (known_leaf {node = node} {leaf = leaf} {leaves = leaves} at k up within is_found rest) low is stops =
     let here : at ≡ cur = first_after cur rest up within is in
     let h : History = take at now in
     let inner = leaves_same empty rest within (subst (λ n. own ≡ numbered (n + 1) (drop n now)) (sym here) is) stops in
-    ap (λ n. leaves_from owner (stored leaf ∷ leaves) (take n now)) (sym here) ∙ ap (by_outcome owner h leaf (stored leaf ∷ leaves) (leaves_from owner leaves)) (outcome_is start h leaf (there k) empty is_found) ∙ ap (with_known k) inner
-leaves_same {start = start} {owner = owner} {now = now} {cur = cur} {rest = last} {own = own} empty (new_leaf {leaf = leaf} {leaves = leaves} {refs = refs} {own = others} at meta up within is_new rest) low is stops =
+    ap (λ n. leaves_from owner (stored node leaf ∷ leaves) (take n now)) (sym here) ∙ ap (by_outcome owner h leaf (stored node leaf ∷ leaves) (leaves_from owner leaves)) (outcome_is start h leaf (there k) empty is_found) ∙ ap (with_known k) inner
+leaves_same {start = start} {owner = owner} {now = now} {cur = cur} {rest = last} {own = own} empty (new_leaf {node = node} {leaf = leaf} {leaves = leaves} {refs = refs} {own = others} at meta up within is_new rest) low is stops =
     let next : at + 1 ≡ cur + 1 = number_first _ _ (cur + 1) (drop cur now) is in
     let here : at ≡ cur = omega arith in
     let is_at = subst (λ n. own ≡ numbered (n + 1) (drop n now)) (sym here) is in
     let room : at + 1 ≤ length now = room_for at now is_at within in
-    ap (λ n. leaves_from owner (stored leaf ∷ leaves) (take n now)) (sym here)
-    ∙ new_at owner now at (stored leaf) leaves last refs others (new_info (next_array (take at now)) leaf meta) (drop at now) refl within (opens_new start owner (take at now) leaf leaves meta empty is_new) is_at (λ more. leaves_same empty rest room more stops)
+    ap (λ n. leaves_from owner (stored node leaf ∷ leaves) (take n now)) (sym here)
+    ∙ new_at owner now at (stored node leaf) leaves last refs others (new_info (next_array (take at now)) leaf meta) (drop at now) refl within (opens_new start owner (take at now) node leaf leaves meta empty is_new) is_at (λ more. leaves_same empty rest room more stops)
 leaves_same {owner = owner} {now = now} {cur = cur} {rest = last} {own = own} empty (given_leaf {numbers = numbers} {leaves = leaves} {refs = refs} {own = others} at up within rest) low is stops =
     let next : at + 1 ≡ cur + 1 = number_first _ _ (cur + 1) (drop cur now) is in
     let here : at ≡ cur = omega arith in
@@ -161,16 +161,16 @@ last_is {now = now} {cur = cur} {own = own} (given_leaf at up within rest) low i
     last_is rest (room_for at now is_at within) (rest_at at now is_at)
 
 -- the answer to a leaf that is refused is its answer alone
-pub refusal_is : (leaf : Leaf) (at : ℕ) (numbers : List ℕ) (outcome : Outcome) (answer : Body) → ((bytes : List ℕ) → outcome ≢ bad_metadata bytes) → IsRefusal leaf at numbers outcome answer → refusal_of leaf at numbers outcome ≡ Some answer
-refusal_is leaf at numbers (path_taken other) answer good is = ap Some (sym is)
-refusal_is leaf at numbers (bad_metadata bytes) answer good is = absurd (good bytes refl)
-refusal_is leaf at numbers exists answer good is = ap Some (sym is)
-refusal_is leaf at numbers (mismatch member) answer good is = ap Some (sym is)
-refusal_is leaf at numbers (there k) answer good is = absurd is
-refusal_is leaf at numbers (found meta) answer good is = absurd is
-refusal_is leaf at numbers not_found answer good is = ap Some (sym is)
-refusal_is leaf at numbers (bad_want member) answer good is = ap Some (sym is)
-refusal_is leaf at numbers (made meta) answer good is = absurd is
+pub refusal_is : (node : Text) (leaf : Leaf) (at : ℕ) (numbers : List ℕ) (outcome : Outcome) (answer : Body) → ((bytes : List ℕ) → outcome ≢ bad_metadata bytes) → IsRefusal node leaf at numbers outcome answer → refusal_of node leaf at numbers outcome ≡ Some answer
+refusal_is node leaf at numbers (path_taken other) answer good is = ap Some (sym is)
+refusal_is node leaf at numbers (bad_metadata bytes) answer good is = absurd (good bytes refl)
+refusal_is node leaf at numbers exists answer good is = ap Some (sym is)
+refusal_is node leaf at numbers (mismatch member) answer good is = ap Some (sym is)
+refusal_is node leaf at numbers (there k) answer good is = absurd is
+refusal_is node leaf at numbers (found meta) answer good is = absurd is
+refusal_is node leaf at numbers not_found answer good is = ap Some (sym is)
+refusal_is node leaf at numbers (bad_want member) answer good is = ap Some (sym is)
+refusal_is node leaf at numbers (made meta) answer good is = absurd is
 
 -- no bytes are bad where the store starts empty
 pub never_bad : (events : History) (leaf : Leaf) (bytes : List ℕ) → outcome_alone events leaf ≢ bad_metadata bytes

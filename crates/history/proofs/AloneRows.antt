@@ -117,9 +117,9 @@ module _ (mount : Text) (owner : ℕ) (s : SessionState) (now : History) (name :
       → open_leaves (single_at s (take s.seen now)) name build (leaves_from owner leaves (take s.seen now)) ≡ built (single_at s (take s.seen now)) name own r
   opened_line r here opened is = ap (open_leaves (single_at s (take s.seen now)) name build) (leaves_same refl opened here.within here.in_order tt) ∙ ap (built (single_at s (take s.seen now)) name own) is
 
-  refused_line : (rest : List SpecLeaf) (leaf : Leaf) (answer : Body) → IsAloneHere mount owner s now own → AreOpened finmap.empty owner now s.seen leaves refs own fin (stored leaf ∷ rest) → IsRefusedLeaf finmap.empty now fin leaf (numbers_of own) answer
+  refused_line : (rest : List SpecLeaf) (node : Text) (leaf : Leaf) (answer : Body) → IsAloneHere mount owner s now own → AreOpened finmap.empty owner now s.seen leaves refs own fin (stored node leaf ∷ rest) → IsRefusedLeaf finmap.empty now fin node leaf (numbers_of own) answer
       → open_leaves (single_at s (take s.seen now)) name build (leaves_from owner leaves (take s.seen now)) ≡ record { after = single_at s now; body = answer }
-  refused_line rest leaf answer here opened refused =
+  refused_line rest node leaf answer here opened refused =
       let x : Single = single_at s (take s.seen now) in
       let last : fin ≡ length now = last_is opened here.within here.in_order in
       let low = refused.not_older in
@@ -128,11 +128,11 @@ module _ (mount : Text) (owner : ℕ) (s : SessionState) (now : History) (name :
       let whole : take refused.at now ≡ now = ap (λ n. take n now) at ∙ take-length now in
       let comes : outcome_alone now leaf ≡ refused.outcome = outcome_is finmap.empty now leaf refused.outcome refl (subst (λ h. IsOutcome finmap.empty h leaf refused.outcome) whole refused.comes) in
       let good : (bytes : List ℕ) → refused.outcome ≢ bad_metadata bytes = λ bytes is. never_bad now leaf bytes (comes ∙ is) in
-      let answered : refusal_of leaf (length now) (numbers_of own) (outcome_alone now leaf) ≡ Some answer =
-      ap (refusal_of leaf (length now) (numbers_of own)) comes ∙ ap (λ n. refusal_of leaf n (numbers_of own) refused.outcome) (sym at) ∙ refusal_is leaf refused.at (numbers_of own) refused.outcome answer good refused.answered in
-      let stops : IsStopped now (stored leaf ∷ rest) = λ o. ap (by_outcome o now leaf (stored leaf ∷ rest) (leaves_from o rest)) comes ∙ refused_stops o refused.at now leaf (stored leaf ∷ rest) (numbers_of own) answer (leaves_from o rest) refused.outcome refused.answered in
+      let answered : refusal_of node leaf (length now) (numbers_of own) (outcome_alone now leaf) ≡ Some answer =
+      ap (refusal_of node leaf (length now) (numbers_of own)) comes ∙ ap (λ n. refusal_of node leaf n (numbers_of own) refused.outcome) (sym at) ∙ refusal_is node leaf refused.at (numbers_of own) refused.outcome answer good refused.answered in
+      let stops : IsStopped now (stored node leaf ∷ rest) = λ o. ap (by_outcome o now leaf (stored node leaf ∷ rest) (leaves_from o rest)) comes ∙ refused_stops o refused.at now node leaf (stored node leaf ∷ rest) (numbers_of own) answer (leaves_from o rest) refused.outcome refused.answered in
       ap (open_leaves x name build) (leaves_same refl opened here.within here.in_order stops)
-      ∙ ap (λ (h : History). record { after = single_at s h; body = unwrap_or (refusal_of leaf (length h) (numbers_of own) (outcome_alone h leaf)) body.memory }) (events_are mount owner s now own here)
+      ∙ ap (λ (h : History). record { after = single_at s h; body = unwrap_or (refusal_of node leaf (length h) (numbers_of own) (outcome_alone h leaf)) body.memory }) (events_are mount owner s now own here)
       ∙ ap (λ o. record { after = single_at s now; body = unwrap_or o body.memory }) answered
 
 plain_written : (cells : ℕ) (answer : Body) → is_memory (as_written cells answer) ≡ false → is_memory answer ≡ false
@@ -166,8 +166,8 @@ pub row_line : (mount : Text) (owner : ℕ) (now : History) (s : SessionState) (
     → IsRow (single_store mount) owner now s line act names left answer own → IsDoneTo (act_alone (single_store mount) owner (single_at s (take s.seen now)) line (bare_act act)) names now left answer
 row_line mount owner now s line act names left answer own here fits known good (open_done {name = name} {leaves = leaves} {build = build} {refs = refs} {now = fin} {view = view} opened is) =
     (opened_line mount owner s now name leaves build refs own fin (Ok view) here opened is ∙ ap (λ h. record { after = record { names = bind s.names name view; events = h; transaction = bare_of s.transaction }; body = opened_body name view (numbers_of own) }) (events_are mount owner s now own here), no_marks now s.transaction fits)
-row_line mount owner now s line act names left answer own here fits known good (open_refused {name = name} {leaves = leaves} {rest = rest} {build = build} {refs = refs} {now = fin} {leaf = leaf} opened refused) =
-    (refused_line mount owner s now name leaves build refs own fin rest leaf answer here opened refused, no_marks now s.transaction fits)
+row_line mount owner now s line act names left answer own here fits known good (open_refused {name = name} {leaves = leaves} {rest = rest} {build = build} {refs = refs} {now = fin} {node = node} {leaf = leaf} opened refused) =
+    (refused_line mount owner s now name leaves build refs own fin rest node leaf answer here opened refused, no_marks now s.transaction fits)
 row_line mount owner now s line act names left answer own here fits known good (open_unbuilt {name = name} {leaves = leaves} {build = build} {refs = refs} {now = fin} {path = path} {cause = cause} opened is) =
     (opened_line mount owner s now name leaves build refs own fin (Err (path, cause)) here opened is ∙ ap (λ h. record { after = single_at s h; body = body.refused_spec path cause (numbers_of own) }) (events_are mount owner s now own here), no_marks now s.transaction fits)
 row_line mount owner now s line act names left answer own here fits known good (open_failed {own = added} {leaf = leaf} before opened failed) = absurd (no_fault owner (take s.seen now) now added (before + 1) leaf.mount (grown_of mount owner s now own here))

@@ -438,9 +438,9 @@ module _ (mount : Text) (owner : ℕ) (h : History) (s : SessionState) (line : �
       by [] is (Ok view) e = answered (bind s.names name view) (opened_body name view (numbers_of (numbered (length h + 1) c.new))) refl (open_done (opened [] is) e)
       by [] is (Err (path, cause)) e = answered s.names (body.refused_spec path cause (numbers_of (numbered (length h + 1) c.new))) refl (open_unbuilt (opened [] is) e)
       by (given numbers ∷ rest) is r e = absurd (subst (IsStopped (h ++ c.new)) is c.stops)
-      by (stored leaf ∷ rest) is r e =
+      by (stored node leaf ∷ rest) is r e =
           let stop = subst (IsStopped (h ++ c.new)) is c.stops (numbers_of (numbered (length h + 1) c.new)) in
-          answered s.names stop.0 stop.2 (open_refused (opened (stored leaf ∷ rest) is) stop.1)
+          answered s.names stop.0 stop.2 (open_refused (opened (stored node leaf ∷ rest) is) stop.1)
 
   -- each act has an answer
   pub can_act : (act : Act) → IsMount mount → IsActIn s.transaction act → IsActOn mount act → IsActStored h act → IsActSound act → IsActWhole act → IsActKnown h act → HasAnswer mount owner h s line (Ok act)

@@ -114,18 +114,18 @@ begins_at owner now at leaf leaves own tail info (y ∷ ys) left within starts i
 pub leaves_begin : {start : Contents} {owner : ℕ} {now : History} {cur fin : ℕ} {leaves rest : List SpecLeaf} {refs : List Reference} {own : List Numbered} → start ≡ finmap.empty → AreOpened start owner now cur leaves refs own fin rest → cur ≤ length now
     → own ≡ numbered (cur + 1) (drop cur now) → (leaves_from owner leaves (take cur now)).own ≡ own ++ (leaves_from owner rest now).own
 leaves_begin {owner = owner} {now = now} {cur = cur} {leaves = leaves} empty no_leaf low is = ap (λ h. (leaves_from owner leaves h).own) (take_to_end cur now (nothing_left (cur + 1) (drop cur now) is))
-leaves_begin {start = start} {owner = owner} {now = now} {cur = cur} {own = own} empty (known_leaf {leaf = leaf} {leaves = leaves} at k up within is_found rest) low is =
+leaves_begin {start = start} {owner = owner} {now = now} {cur = cur} {own = own} empty (known_leaf {node = node} {leaf = leaf} {leaves = leaves} at k up within is_found rest) low is =
     let here : at ≡ cur = first_after cur rest up within is in
     let h : History = take at now in
     let inner = leaves_begin empty rest within (subst (λ n. own ≡ numbered (n + 1) (drop n now)) (sym here) is) in
-    ap (λ n. (leaves_from owner (stored leaf ∷ leaves) (take n now)).own) (sym here) ∙ ap (λ o. (by_outcome owner h leaf (stored leaf ∷ leaves) (leaves_from owner leaves) o).own) (outcome_is start h leaf (there k) empty is_found) ∙ inner
-leaves_begin {start = start} {owner = owner} {now = now} {cur = cur} {rest = last} {own = own} empty (new_leaf {leaf = leaf} {leaves = leaves} {own = others} at meta up within is_new rest) low is =
+    ap (λ n. (leaves_from owner (stored node leaf ∷ leaves) (take n now)).own) (sym here) ∙ ap (λ o. (by_outcome owner h leaf (stored node leaf ∷ leaves) (leaves_from owner leaves) o).own) (outcome_is start h leaf (there k) empty is_found) ∙ inner
+leaves_begin {start = start} {owner = owner} {now = now} {cur = cur} {rest = last} {own = own} empty (new_leaf {node = node} {leaf = leaf} {leaves = leaves} {own = others} at meta up within is_new rest) low is =
     let next : at + 1 ≡ cur + 1 = number_first _ _ (cur + 1) (drop cur now) is in
     let here : at ≡ cur = omega arith in
     let is_at = subst (λ n. own ≡ numbered (n + 1) (drop n now)) (sym here) is in
     let room : at + 1 ≤ length now = room_for at now is_at within in
-    ap (λ n. (leaves_from owner (stored leaf ∷ leaves) (take n now)).own) (sym here)
-    ∙ begins_at owner now at (stored leaf) leaves others (leaves_from owner last now).own (new_info (next_array (take at now)) leaf meta) (drop at now) refl within (opens_new start owner (take at now) leaf leaves meta empty is_new) is_at (λ more. leaves_begin empty rest room more)
+    ap (λ n. (leaves_from owner (stored node leaf ∷ leaves) (take n now)).own) (sym here)
+    ∙ begins_at owner now at (stored node leaf) leaves others (leaves_from owner last now).own (new_info (next_array (take at now)) leaf meta) (drop at now) refl within (opens_new start owner (take at now) node leaf leaves meta empty is_new) is_at (λ more. leaves_begin empty rest room more)
 leaves_begin {owner = owner} {now = now} {cur = cur} {rest = last} {own = own} empty (given_leaf {numbers = numbers} {leaves = leaves} {own = others} at up within rest) low is =
     let next : at + 1 ≡ cur + 1 = number_first _ _ (cur + 1) (drop cur now) is in
     let here : at ≡ cur = omega arith in

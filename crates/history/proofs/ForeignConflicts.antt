@@ -129,7 +129,7 @@ commit_conflict fixed owner events t s left answer own key read now was is (is_w
 row_conflict : (fixed : Fixed) (owner : ℕ) (events : History) (s : SessionState) (line : ℕ) (act : Act) (names : Names) (left : Option Transaction) (answer : Body) (own : List Numbered) (key : Key) (read now : ℕ) → IsActIn s.transaction act → answer ≡ body.conflict key read now
     → IsRow fixed owner events s line act names left answer own → IsCommitConflict events left s.transaction key read now own
 row_conflict fixed owner events s line act names left answer own key read now fits is (open_done opened built) = absurd (cc)
-row_conflict fixed owner events s line act names left answer own key read now fits is (open_refused {own = added} {leaf = leaf} opened refused) = absurd (subst IsSettled is (refusal_settled leaf refused.at _ refused.outcome answer refused.answered))
+row_conflict fixed owner events s line act names left answer own key read now fits is (open_refused {own = added} {node = node} {leaf = leaf} opened refused) = absurd (subst IsSettled is (refusal_settled node leaf refused.at _ refused.outcome answer refused.answered))
 row_conflict fixed owner events s line act names left answer own key read now fits is (open_unbuilt opened built) = absurd (cc)
 row_conflict fixed owner events s line act names left answer own key read now fits is (open_failed before opened failed) = absurd (cc)
 row_conflict fixed owner events s line act names left answer own key read now fits is (open_wanting opened) = absurd (cc)

@@ -132,13 +132,13 @@ act_of-settled names t aborting = inside_settled t (λ u. aborts)
 act_of-settled names t (resizing name shape) = outside_settled t _ (named_settled name (names name) _ (λ v. leaf_settled (array_of v) _ (λ array. cond_settled array.local _ _ tt (cond_settled (length shape == length array.shape) _ _ tt tt))))
 act_of-settled names t (resolving name) = outside_settled t _ (named_settled name (names name) _ (λ v. leaf_settled (array_of v) (λ array. Ok (resolves name v array)) (λ array. tt)))
 
-pub refusal_settled : (leaf : Leaf) (at : ℕ) (numbers : List ℕ) (outcome : Outcome) (answer : Body) → IsRefusal leaf at numbers outcome answer → IsSettled answer
-refusal_settled leaf at numbers (path_taken other) answer is = subst IsSettled (sym is) tt
-refusal_settled leaf at numbers (bad_metadata bytes) answer is = subst IsSettled (sym is.2) tt
-refusal_settled leaf at numbers exists answer is = subst IsSettled (sym is) tt
-refusal_settled leaf at numbers (mismatch member) answer is = subst IsSettled (sym is) tt
-refusal_settled leaf at numbers (there array) answer is = absurd is
-refusal_settled leaf at numbers (found meta) answer is = absurd is
-refusal_settled leaf at numbers not_found answer is = subst IsSettled (sym is) tt
-refusal_settled leaf at numbers (bad_want member) answer is = subst IsSettled (sym is) tt
-refusal_settled leaf at numbers (made meta) answer is = absurd is
+pub refusal_settled : (node : Text) (leaf : Leaf) (at : ℕ) (numbers : List ℕ) (outcome : Outcome) (answer : Body) → IsRefusal node leaf at numbers outcome answer → IsSettled answer
+refusal_settled node leaf at numbers (path_taken other) answer is = subst IsSettled (sym is) tt
+refusal_settled node leaf at numbers (bad_metadata bytes) answer is = subst IsSettled (sym is.2) tt
+refusal_settled node leaf at numbers exists answer is = subst IsSettled (sym is) tt
+refusal_settled node leaf at numbers (mismatch member) answer is = subst IsSettled (sym is) tt
+refusal_settled node leaf at numbers (there array) answer is = absurd is
+refusal_settled node leaf at numbers (found meta) answer is = absurd is
+refusal_settled node leaf at numbers not_found answer is = subst IsSettled (sym is) tt
+refusal_settled node leaf at numbers (bad_want member) answer is = subst IsSettled (sym is) tt
+refusal_settled node leaf at numbers (made meta) answer is = absurd is

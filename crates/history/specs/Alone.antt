@@ -39,7 +39,7 @@ AreOnMount mount events = (a : ℕ) (k : Known) → known_after events a ≡ Som
 -- a leaf that asks for a stored array asks for one on the mount
 abbrev pub IsLeafOn : Text → SpecLeaf → Type 0
 IsLeafOn mount (given numbers) = Unit {0}
-IsLeafOn mount (stored leaf) = leaf.mount ≡ mount
+IsLeafOn mount (stored node leaf) = leaf.mount ≡ mount
 
 -- so does each leaf of a line
 abbrev pub IsLineOn : Text → Line → Type 0
@@ -63,7 +63,7 @@ IsOn mount (Some line) = IsLineOn mount line
 -- what is asked of a leaf would make valid metadata, and numbers of its own are valid
 abbrev pub IsLeafSound : SpecLeaf → Type 0
 IsLeafSound (given numbers) = IsDense numbers
-IsLeafSound (stored leaf) = (meta : Form) → form_made leaf.want ≡ Ok meta → IsMetadata meta
+IsLeafSound (stored node leaf) = (meta : Form) → form_made leaf.want ≡ Ok meta → IsMetadata meta
 
 -- each part of a line is as its form gives it: leaves, values that fit, sizes that an array may have
 abbrev pub IsLineSound : Line → Type 0

@@ -1,5 +1,6 @@
 -- A line of a script whose form was read. What a part of it means stands for the part: a step is what it makes of a view.
-use Rattle.std.specs.Prelude.{ℕ, ℤ, List, Option, Result}
+use Rattle.std.specs.Prelude.{ℕ, ℤ, List, [], ◌∷◌, ◌++◌, codes, Option, Result, if◌then◌else◌}
+use Rattle.std.specs.Str.{bytes_eq}
 use Rattle.cells.specs.Dense.{DenseCells}
 use Rattle.cells.specs.declared.dtype.Dtype.{Dtype}
 use Rattle.index_intervals.specs.Bounds.{Bounds}
@@ -43,10 +44,19 @@ pub record Downsampling : Type 0 where
   pub rank : ℕ
   pub printed : List Bounds → Dtype → List ℕ → Printed
 
--- a leaf of a Spec: an array with numbers of its own, or a stored one
+-- a leaf of a Spec: an array with numbers of its own, or a stored one, which the node at a path of the Spec asks for
 pub data SpecLeaf : Type 0 where
   given : (numbers : DenseCells) → SpecLeaf
-  stored : (leaf : Leaf) → SpecLeaf
+  stored : (node : Text) → (leaf : Leaf) → SpecLeaf
+
+-- where a Spec names a member of an array: its dtype by itself, each other below the metadata
+abbrev pub named_at : Text → Text
+named_at member = if bytes_eq member (codes "dtype") then member else codes "metadata/" ++ member
+
+-- the same behind the path of the Spec's node
+abbrev pub member_of_node : Text → Text → Text
+member_of_node [] member = named_at member
+member_of_node (c ∷ node) member = c ∷ node ++ 47 ∷ named_at member
 
 -- the view over the arrays of a Spec's leaves, or the node that is refused
 abbrev pub Build : Type 0

@@ -16,9 +16,9 @@ use Rattle.history.specs.History.{History}
 use Rattle.history.specs.Arrays.{Known, ref_of}
 use Rattle.history.specs.Legal.{is_opening}
 use Rattle.history.specs.Answers as body
-use Rattle.history.specs.Answers.{Body}
+use Rattle.history.specs.Answers.{Text, Body}
 use Rattle.history.specs.Leaves.{Leaf, location_of_leaf, metadata_key_asked}
-use Rattle.history.specs.Lines.{SpecLeaf, given, stored}
+use Rattle.history.specs.Lines.{SpecLeaf, given, stored, member_of_node}
 use Rattle.history.specs.Outcomes.{Outcome, path_taken, bad_metadata, exists, mismatch, there, found, not_found, bad_want, made, IsOutcome, new_info}
 use Rattle.history.specs.Own.{Numbered, opened_event}
 use Rattle.history.specs.Places.{IsFree}
@@ -45,12 +45,12 @@ pub data IsNew (start : Contents) (events : History) (leaf : Leaf) : Form → Ty
 pub data AreOpened (start : Contents) (owner : ℕ) (events : History) : ℕ → List SpecLeaf → List Reference → List Numbered → ℕ → List SpecLeaf → Type 0 where
   no_leaf : {seen : ℕ} {leaves : List SpecLeaf} → AreOpened start owner events seen leaves [] [] seen leaves
   -- an array of the run
-  known_leaf : {seen now : ℕ} {leaf : Leaf} {leaves rest : List SpecLeaf} {refs : List Reference} {own : List Numbered} (at : ℕ) (k : Known) → seen ≤ at → at ≤ length events → IsOutcome start (take at events) leaf (there k)
-      → AreOpened start owner events at leaves refs own now rest → AreOpened start owner events seen (stored leaf ∷ leaves) (ref_of k ∷ refs) own now rest
+  known_leaf : {seen now : ℕ} {node : Text} {leaf : Leaf} {leaves rest : List SpecLeaf} {refs : List Reference} {own : List Numbered} (at : ℕ) (k : Known) → seen ≤ at → at ≤ length events → IsOutcome start (take at events) leaf (there k)
+      → AreOpened start owner events at leaves refs own now rest → AreOpened start owner events seen (stored node leaf ∷ leaves) (ref_of k ∷ refs) own now rest
   -- a new stored one, which is the event behind those that were seen
-  new_leaf : {seen now : ℕ} {leaf : Leaf} {leaves rest : List SpecLeaf} {refs : List Reference} {own : List Numbered} (at : ℕ) (meta : Form) → seen ≤ at → at ≤ length events → IsNew start (take at events) leaf meta
+  new_leaf : {seen now : ℕ} {node : Text} {leaf : Leaf} {leaves rest : List SpecLeaf} {refs : List Reference} {own : List Numbered} (at : ℕ) (meta : Form) → seen ≤ at → at ≤ length events → IsNew start (take at events) leaf meta
       → AreOpened start owner events (at + 1) leaves refs own now rest
-      → AreOpened start owner events seen (stored leaf ∷ leaves) (new_ref (take at events) (new_info (next_array (take at events)) leaf meta) ∷ refs) (record { number = at + 1; event = opened_event owner (new_info (next_array (take at events)) leaf meta) } ∷ own) now rest
+      → AreOpened start owner events seen (stored node leaf ∷ leaves) (new_ref (take at events) (new_info (next_array (take at events)) leaf meta) ∷ refs) (record { number = at + 1; event = opened_event owner (new_info (next_array (take at events)) leaf meta) } ∷ own) now rest
   -- one with numbers of its own
   given_leaf : {seen now : ℕ} {numbers : DenseCells} {leaves rest : List SpecLeaf} {refs : List Reference} {own : List Numbered} (at : ℕ) → seen ≤ at → at ≤ length events
       → AreOpened start owner events (at + 1) leaves refs own now rest
@@ -62,26 +62,26 @@ IsBadFor (want.Zarr w) bytes why = zarr.metadata_of bytes ≡ Err why
 IsBadFor (want.N5 w) bytes why = n5.metadata_of bytes ≡ Err why
 IsBadFor (want.Zarr3 w) bytes why = zarr3.metadata_of bytes ≡ Err why
 
--- the answer to a leaf that is refused after `at` events, the line having added those numbered so
-abbrev pub IsRefusal : Leaf → ℕ → List ℕ → Outcome → Body → Type 0
-IsRefusal leaf at numbers (path_taken other) answer = answer ≡ body.path_taken at other numbers
-IsRefusal leaf at numbers (bad_metadata bytes) answer = (why : MetaError) × IsBadFor leaf.want bytes why × (answer ≡ body.bad_metadata (metadata_key_asked leaf) why numbers)
-IsRefusal leaf at numbers exists answer = answer ≡ body.exists at (location_of_leaf leaf) numbers
-IsRefusal leaf at numbers (mismatch member) answer = answer ≡ body.mismatch at member (location_of_leaf leaf) numbers
-IsRefusal leaf at numbers (there array) answer = ⊥
-IsRefusal leaf at numbers (found meta) answer = ⊥
-IsRefusal leaf at numbers not_found answer = answer ≡ body.not_found at (location_of_leaf leaf) numbers
-IsRefusal leaf at numbers (bad_want member) answer = answer ≡ body.bad_spec member (Some numbers)
-IsRefusal leaf at numbers (made meta) answer = ⊥
+-- the answer to a leaf of a node that is refused after `at` events, the line having added those numbered so
+abbrev pub IsRefusal : Text → Leaf → ℕ → List ℕ → Outcome → Body → Type 0
+IsRefusal node leaf at numbers (path_taken other) answer = answer ≡ body.path_taken at other numbers
+IsRefusal node leaf at numbers (bad_metadata bytes) answer = (why : MetaError) × IsBadFor leaf.want bytes why × (answer ≡ body.bad_metadata (metadata_key_asked leaf) why numbers)
+IsRefusal node leaf at numbers exists answer = answer ≡ body.exists at (location_of_leaf leaf) numbers
+IsRefusal node leaf at numbers (mismatch member) answer = answer ≡ body.mismatch at member (location_of_leaf leaf) numbers
+IsRefusal node leaf at numbers (there array) answer = ⊥
+IsRefusal node leaf at numbers (found meta) answer = ⊥
+IsRefusal node leaf at numbers not_found answer = answer ≡ body.not_found at (location_of_leaf leaf) numbers
+IsRefusal node leaf at numbers (bad_want member) answer = answer ≡ body.bad_spec (member_of_node node member) (Some numbers)
+IsRefusal node leaf at numbers (made meta) answer = ⊥
 
 -- a leaf is refused after `at` events
-pub record IsRefusedLeaf (start : Contents) (events : History) (now : ℕ) (leaf : Leaf) (numbers : List ℕ) (answer : Body) : Type 0 where
+pub record IsRefusedLeaf (start : Contents) (events : History) (now : ℕ) (node : Text) (leaf : Leaf) (numbers : List ℕ) (answer : Body) : Type 0 where
   pub at : ℕ
   pub not_older : now ≤ at
   pub within : at ≤ length events
   pub outcome : Outcome
   pub comes : IsOutcome start (take at events) leaf outcome
-  pub answered : IsRefusal leaf at numbers outcome answer
+  pub answered : IsRefusal node leaf at numbers outcome answer
 
 -- a store call for a leaf fails behind `before` events: no array of these lies at its place, above or below it
 pub record IsFailedLeaf (events : History) (now : ℕ) (leaf : Leaf) (before : ℕ) : Type 0 where

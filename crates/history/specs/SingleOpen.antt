@@ -5,9 +5,9 @@ use Rattle.history.specs.declared.array.ArrayInfo.{ArrayInfo}
 use Rattle.history.specs.History.{History}
 use Rattle.history.specs.Arrays.{Known, ref_of}
 use Rattle.history.specs.Answers as body
-use Rattle.history.specs.Answers.{Body}
+use Rattle.history.specs.Answers.{Text, Body}
 use Rattle.history.specs.Leaves.{Leaf, location_of_leaf, nothing}
-use Rattle.history.specs.Lines.{SpecLeaf, given, stored}
+use Rattle.history.specs.Lines.{SpecLeaf, given, stored, member_of_node}
 use Rattle.history.specs.OpenRows.{next_array, given_info, new_ref}
 use Rattle.history.specs.Outcomes.{Outcome, path_taken, bad_metadata, exists, mismatch, there, found, not_found, bad_want, made, opening_outcome, new_info}
 use Rattle.history.specs.Own.{Numbered, numbers_of, opened_event}
@@ -57,19 +57,19 @@ by_outcome owner events leaf leaves next (made meta) = opened_then owner events 
 abbrev pub leaves_from : ℕ → List SpecLeaf → History → Begun
 leaves_from owner [] events = refused_from []
 leaves_from owner (given numbers ∷ leaves) events = opened_then owner events (given_info (next_array events) numbers) (leaves_from owner leaves)
-leaves_from owner (stored leaf ∷ leaves) events = by_outcome owner events leaf (stored leaf ∷ leaves) (leaves_from owner leaves) (outcome_alone events leaf)
+leaves_from owner (stored node leaf ∷ leaves) events = by_outcome owner events leaf (stored node leaf ∷ leaves) (leaves_from owner leaves) (outcome_alone events leaf)
 
--- the answer to a leaf that is refused after `at` events, the line having added those numbered so
-abbrev pub refusal_of : Leaf → ℕ → List ℕ → Outcome → Option Body
-refusal_of leaf at numbers (path_taken other) = Some (body.path_taken at other numbers)
-refusal_of leaf at numbers (bad_metadata bytes) = None
-refusal_of leaf at numbers exists = Some (body.exists at (location_of_leaf leaf) numbers)
-refusal_of leaf at numbers (mismatch member) = Some (body.mismatch at member (location_of_leaf leaf) numbers)
-refusal_of leaf at numbers (there k) = None
-refusal_of leaf at numbers (found meta) = None
-refusal_of leaf at numbers not_found = Some (body.not_found at (location_of_leaf leaf) numbers)
-refusal_of leaf at numbers (bad_want member) = Some (body.bad_spec member (Some numbers))
-refusal_of leaf at numbers (made meta) = None
+-- the answer to a leaf of a node that is refused after `at` events, the line having added those numbered so
+abbrev pub refusal_of : Text → Leaf → ℕ → List ℕ → Outcome → Option Body
+refusal_of node leaf at numbers (path_taken other) = Some (body.path_taken at other numbers)
+refusal_of node leaf at numbers (bad_metadata bytes) = None
+refusal_of node leaf at numbers exists = Some (body.exists at (location_of_leaf leaf) numbers)
+refusal_of node leaf at numbers (mismatch member) = Some (body.mismatch at member (location_of_leaf leaf) numbers)
+refusal_of node leaf at numbers (there k) = None
+refusal_of node leaf at numbers (found meta) = None
+refusal_of node leaf at numbers not_found = Some (body.not_found at (location_of_leaf leaf) numbers)
+refusal_of node leaf at numbers (bad_want member) = Some (body.bad_spec (member_of_node node member) (Some numbers))
+refusal_of node leaf at numbers (made meta) = None
 
 -- the events behind those that were there
 abbrev pub with_own : History → List Numbered → History
@@ -78,4 +78,4 @@ with_own events own = events ++ map (λ (o : Numbered). o.event) own
 -- the answer to the first leaf that is refused; one with numbers of its own never is
 abbrev pub leaf_refusal : History → List Numbered → SpecLeaf → Option Body
 leaf_refusal events own (given numbers) = None
-leaf_refusal events own (stored leaf) = refusal_of leaf (length events) (numbers_of own) (outcome_alone events leaf)
+leaf_refusal events own (stored node leaf) = refusal_of node leaf (length events) (numbers_of own) (outcome_alone events leaf)

@@ -46,13 +46,13 @@ pub data IsRow (fixed : Fixed) (owner : ℕ) (events : History) (s : SessionStat
   open_done : {name : Text} {leaves : List SpecLeaf} {build : Build} {refs : List Reference} {own : List Numbered} {now : ℕ} {view : View} → AreOpened fixed.start owner events s.seen leaves refs own now [] → build refs ≡ Ok view
       → IsRow fixed owner events s line (opens name leaves build) (bind s.names name view) s.transaction (opened_body name view (numbers_of own)) own
   -- open, the first leaf that is refused
-  open_refused : {name : Text} {leaves rest : List SpecLeaf} {build : Build} {refs : List Reference} {own : List Numbered} {now : ℕ} {leaf : Leaf} {answer : Body} → AreOpened fixed.start owner events s.seen leaves refs own now (stored leaf ∷ rest)
-      → IsRefusedLeaf fixed.start events now leaf (numbers_of own) answer → IsRow fixed owner events s line (opens name leaves build) s.names s.transaction answer own
+  open_refused : {name : Text} {leaves rest : List SpecLeaf} {build : Build} {refs : List Reference} {own : List Numbered} {now : ℕ} {node : Text} {leaf : Leaf} {answer : Body} → AreOpened fixed.start owner events s.seen leaves refs own now (stored node leaf ∷ rest)
+      → IsRefusedLeaf fixed.start events now node leaf (numbers_of own) answer → IsRow fixed owner events s line (opens name leaves build) s.names s.transaction answer own
   -- open, refused: the view isn't built
   open_unbuilt : {name : Text} {leaves : List SpecLeaf} {build : Build} {refs : List Reference} {own : List Numbered} {now : ℕ} {path : Text} {cause : BuildCause} → AreOpened fixed.start owner events s.seen leaves refs own now []
       → build refs ≡ Err (path, cause) → IsRow fixed owner events s line (opens name leaves build) s.names s.transaction (body.refused_spec path cause (numbers_of own)) own
   -- open, StoreFailed
-  open_failed : {name : Text} {leaves rest : List SpecLeaf} {build : Build} {refs : List Reference} {own : List Numbered} {now : ℕ} {leaf : Leaf} (before : ℕ) → AreOpened fixed.start owner events s.seen leaves refs own now (stored leaf ∷ rest)
+  open_failed : {name : Text} {leaves rest : List SpecLeaf} {build : Build} {refs : List Reference} {own : List Numbered} {now : ℕ} {node : Text} {leaf : Leaf} (before : ℕ) → AreOpened fixed.start owner events s.seen leaves refs own now (stored node leaf ∷ rest)
       → IsFailedLeaf events now leaf before → IsRow fixed owner events s line (opens name leaves build) s.names s.transaction (body.store_failed (before + 1) [] (Some (numbers_of own))) (own ++ fault_at (before + 1) owner leaf.mount)
   -- open, Memory
   open_wanting : {name : Text} {leaves rest : List SpecLeaf} {build : Build} {refs : List Reference} {own : List Numbered} {now : ℕ} → AreOpened fixed.start owner events s.seen leaves refs own now rest

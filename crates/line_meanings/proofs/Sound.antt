@@ -1,5 +1,5 @@
 -- What holds of the line of each command that is read.
-use Rattle.std.proofs.Common.{◌≡◌, ◌<◌, ◌≤◌, ◌^◌, ◌-◌, ℕ, suc, List, [], ◌∷◌, length, map, get_or, Option, Some, None, Result, Ok, Err, refl, subst, arith}
+use Rattle.std.proofs.Common.{◌≡◌, ◌<◌, ◌≤◌, ◌^◌, ◌-◌, ℕ, suc, List, [], ◌∷◌, length, get_or, Option, Some, None, unwrap_or, Result, Ok, Err, refl, subst, arith}
 use Rattle.std.specs.List.{AllByRecursion}
 use Rattle.std.proofs.lemmas.List.Elements.{recursion_from_All}
 use Rattle.serde_json.specs.Data.{Data}
@@ -18,6 +18,7 @@ use Rattle.spec_forms.specs.Leaves.{IsSoundLeaf}
 use Rattle.spec_forms.specs.declared.leaf.SpecLeaf.{SpecLeaf}
 use Rattle.spec_forms.specs.declared.leaf.SpecLeaf.TheVariants.{Zarr, N5, Zarr3, Given}
 use Rattle.spec_open.proofs.Laws.{among-keeps}
+use Rattle.spec_open.specs.declared.tree.Tree.{Tree}
 use Rattle.line_forms.specs.Form.{form_of, IsSound}
 use Rattle.line_forms.specs.Form as forms
 use Rattle.line_forms.specs.declared.command.Command.{Command}
@@ -29,7 +30,7 @@ use Rattle.history.specs.Staged.{AreFitting, HasFittingValues}
 use Rattle.line_meanings.specs.Conditions.{HasRules, HaveRules}
 use Rattle.line_meanings.specs.Meanings.{line_of}
 use Rattle.line_meanings.specs.Numbers.{values_of}
-use Rattle.line_meanings.specs.Openings.{leaf_of}
+use Rattle.line_meanings.specs.Openings.{leaf_of, node_of, leaves_from}
 use Rattle.line_meanings.proofs.KnownBuilt.{build_within}
 use Rattle.line_meanings.proofs.KnownJoined.{join_within}
 use Rattle.line_meanings.proofs.KnownUnder.{changes_within}
@@ -65,18 +66,18 @@ line_within names (Resize name shape) sound = tt
 line_within names (Resolve name) sound = tt
 
 -- with one name of a mount, each array that is asked of a store is asked of that mount
-leaf_on : (mount : List ℕ) (leaf : SpecLeaf) → IsSoundLeaf (mount ∷ []) leaf → IsLeafOn mount (leaf_of leaf)
-leaf_on mount (Zarr name path asked may_open may_create) sound = among-keeps (λ n. n ≡ mount) (mount ∷ []) name (refl, tt) (search (sound.mounted))
-leaf_on mount (N5 name path asked may_open may_create) sound = among-keeps (λ n. n ≡ mount) (mount ∷ []) name (refl, tt) (search (sound.mounted))
-leaf_on mount (Zarr3 name path asked may_open may_create) sound = among-keeps (λ n. n ≡ mount) (mount ∷ []) name (refl, tt) (search (sound.mounted))
-leaf_on mount (Given numbers) sound = tt
+leaf_on : (mount node : List ℕ) (leaf : SpecLeaf) → IsSoundLeaf (mount ∷ []) leaf → IsLeafOn mount (leaf_of node leaf)
+leaf_on mount node (Zarr name path asked may_open may_create) sound = among-keeps (λ n. n ≡ mount) (mount ∷ []) name (refl, tt) (search (sound.mounted))
+leaf_on mount node (N5 name path asked may_open may_create) sound = among-keeps (λ n. n ≡ mount) (mount ∷ []) name (refl, tt) (search (sound.mounted))
+leaf_on mount node (Zarr3 name path asked may_open may_create) sound = among-keeps (λ n. n ≡ mount) (mount ∷ []) name (refl, tt) (search (sound.mounted))
+leaf_on mount node (Given numbers) sound = tt
 
-leaves_on : (mount : List ℕ) (leaves : List SpecLeaf) → AllByRecursion (IsSoundLeaf (mount ∷ [])) leaves → AllByRecursion (IsLeafOn mount) (map leaf_of leaves)
-leaves_on mount [] all = tt
-leaves_on mount (leaf ∷ leaves) all = (leaf_on mount leaf all.0, leaves_on mount leaves all.1)
+leaves_on : (mount : List ℕ) (tree : Tree) (number : ℕ) (leaves : List SpecLeaf) → AllByRecursion (IsSoundLeaf (mount ∷ [])) leaves → AllByRecursion (IsLeafOn mount) (leaves_from tree number leaves)
+leaves_on mount tree number [] all = tt
+leaves_on mount tree number (leaf ∷ leaves) all = (leaf_on mount (unwrap_or (node_of number tree) []) leaf all.0, leaves_on mount tree (suc number) leaves all.1)
 
 pub line_on : (mount : List ℕ) (command : Command) → IsSound (mount ∷ []) command → IsLineOn mount (line_of (form_of command))
-line_on mount (Open name plan) sound = leaves_on mount plan.leaves sound.each
+line_on mount (Open name plan) sound = leaves_on mount plan.tree 0 plan.leaves sound.each
 line_on mount (View name of transform steps) sound = tt
 line_on mount (Join name kind layers transform steps) sound = tt
 line_on mount (Read name steps down) sound = tt
@@ -116,15 +117,15 @@ zarr3_sound w rules meta e = by w.shape w.dtype refl refl e
     by (Some shape) None s d given = absurd (cc)
     by (Some shape) (Some dtype) s d given = made _ _ meta (λ sizes is. zarr3_rules w _ shape sizes dtype rules s d is) given
 
-leaf_sound : (names : List (List ℕ)) (leaf : SpecLeaf) → IsSoundLeaf names leaf → HasRules leaf → IsLeafSound (leaf_of leaf)
-leaf_sound names (Zarr mount path asked may_open may_create) sound rules = zarr_sound asked rules
-leaf_sound names (N5 mount path asked may_open may_create) sound rules = n5_sound asked rules
-leaf_sound names (Zarr3 mount path asked may_open may_create) sound rules = zarr3_sound asked rules
-leaf_sound names (Given numbers) sound rules = sound.dense
+leaf_sound : (names : List (List ℕ)) (node : List ℕ) (leaf : SpecLeaf) → IsSoundLeaf names leaf → HasRules leaf → IsLeafSound (leaf_of node leaf)
+leaf_sound names node (Zarr mount path asked may_open may_create) sound rules = zarr_sound asked rules
+leaf_sound names node (N5 mount path asked may_open may_create) sound rules = n5_sound asked rules
+leaf_sound names node (Zarr3 mount path asked may_open may_create) sound rules = zarr3_sound asked rules
+leaf_sound names node (Given numbers) sound rules = sound.dense
 
-leaves_sound : (names : List (List ℕ)) (leaves : List SpecLeaf) → AllByRecursion (IsSoundLeaf names) leaves → AllByRecursion HasRules leaves → AllByRecursion IsLeafSound (map leaf_of leaves)
-leaves_sound names [] all rules = tt
-leaves_sound names (leaf ∷ leaves) all rules = (leaf_sound names leaf all.0 rules.0, leaves_sound names leaves all.1 rules.1)
+leaves_sound : (names : List (List ℕ)) (tree : Tree) (number : ℕ) (leaves : List SpecLeaf) → AllByRecursion (IsSoundLeaf names) leaves → AllByRecursion HasRules leaves → AllByRecursion IsLeafSound (leaves_from tree number leaves)
+leaves_sound names tree number [] all rules = tt
+leaves_sound names tree number (leaf ∷ leaves) all rules = (leaf_sound names (unwrap_or (node_of number tree) []) leaf all.0 rules.0, leaves_sound names tree (suc number) leaves all.1 rules.1)
 
 all_sizes : (most : ℕ) (shape : List ℕ) → ((k : ℕ) → k < length shape → get_or shape k 0 ≤ most) → AllByRecursion (λ s. s ≤ most) shape
 all_sizes most [] each = tt
@@ -132,7 +133,7 @@ all_sizes most (s ∷ shape) each = (each 0 (omega arith), all_sizes most shape 
 
 -- each part of a line is as its form gives it
 pub line_sound : (names : List (List ℕ)) (command : Command) → IsSound names command → HaveRules command → IsLineSound (line_of (form_of command))
-line_sound names (Open name plan) sound rules = leaves_sound names plan.leaves sound.each rules
+line_sound names (Open name plan) sound rules = leaves_sound names plan.tree 0 plan.leaves sound.each rules
 line_sound names (View name of transform steps) sound rules = tt
 line_sound names (Join name kind layers transform steps) sound rules = tt
 line_sound names (Read name steps down) sound rules = tt

@@ -1,5 +1,5 @@
 -- What a line means to the history.
-use Rattle.std.specs.Prelude.{ℕ, List, [], map, Option, Some, None, Result, Ok, Err}
+use Rattle.std.specs.Prelude.{ℕ, List, [], Option, Some, None, Result, Ok, Err}
 use Rattle.history.specs.Lines.{FormError, bad_line, Line}
 use Rattle.history.specs.Lines as history
 use Rattle.line_answers.specs.Refusals.{form_error}
@@ -7,13 +7,13 @@ use Rattle.line_forms.specs.Form.{Form, opening, viewing, joining, reading, writ
 use Rattle.line_forms.specs.Lines.{command_of_line}
 use Rattle.line_parts.specs.declared.error.LineError.{LineError}
 use Rattle.line_meanings.specs.Changes.{changes_of}
-use Rattle.line_meanings.specs.Openings.{leaf_of, build_of}
+use Rattle.line_meanings.specs.Openings.{leaves_of, build_of}
 use Rattle.line_meanings.specs.Joins.{join_of}
 use Rattle.line_meanings.specs.Numbers.{values_of, downsampling_of}
 
 -- what a command asks, in the history's words
 abbrev pub line_of : Form → Line
-line_of (opening name plan) = history.opening name (map leaf_of plan.leaves) (build_of plan)
+line_of (opening name plan) = history.opening name (leaves_of plan) (build_of plan)
 line_of (viewing name of transform steps) = history.viewing name of (changes_of transform steps)
 line_of (joining name kind layers transform steps) = history.joining name layers (join_of kind) (changes_of transform steps)
 line_of (reading name steps down) = history.reading name (changes_of None steps) (downsampling_of down)

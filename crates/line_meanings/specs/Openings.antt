@@ -1,5 +1,5 @@
 -- What a Spec asks to be opened.
-use Rattle.std.specs.Prelude.{[], nat_le, length, Result, Ok, Err, if◌then◌else◌}
+use Rattle.std.specs.Prelude.{ℕ, suc, List, [], ◌∷◌, nat_le, nat_eq, length, Option, Some, None, unwrap_or, Result, Ok, Err, if◌then◌else◌}
 use Rattle.chunk_forms.specs.declared.form.Want.TheVariants as want
 use Rattle.stack_driver.specs.declared.view.View.{View}
 use Rattle.spec_forms.specs.declared.leaf.SpecLeaf as spec_leaf
@@ -10,15 +10,42 @@ use Rattle.spec_open.specs.declared.error.BuildCause.TheVariants as build
 use Rattle.spec_open.specs.declared.error.BuildError.{BuildError}
 use Rattle.spec_open.specs.declared.error.BuildError.TheVariants as error
 use Rattle.spec_open.specs.declared.plan.OpenPlan.{OpenPlan}
+use Rattle.spec_open.specs.declared.tree.Tree.{Tree, fold-Tree}
+use Rattle.spec_open.specs.declared.tree.Tree.TheOpen.{Tree-F}
 use Rattle.history.specs.Answers.{Text, BuildCause, by_transform, layers}
 use Rattle.history.specs.Lines.{SpecLeaf, given, stored, Build}
 
--- a leaf of a Spec: numbers of its own, or an array that is asked of a store
-abbrev pub leaf_of : spec_leaf.SpecLeaf → SpecLeaf
-leaf_of (spec.Zarr mount path asked may_open may_create) = stored (record { mount = mount; path = path; want = want.Zarr asked; may_open = may_open; may_create = may_create })
-leaf_of (spec.N5 mount path asked may_open may_create) = stored (record { mount = mount; path = path; want = want.N5 asked; may_open = may_open; may_create = may_create })
-leaf_of (spec.Zarr3 mount path asked may_open may_create) = stored (record { mount = mount; path = path; want = want.Zarr3 asked; may_open = may_open; may_create = may_create })
-leaf_of (spec.Given numbers) = given numbers
+-- a leaf of the node at a path: numbers of its own, or an array that is asked of a store
+abbrev pub leaf_of : Text → spec_leaf.SpecLeaf → SpecLeaf
+leaf_of node (spec.Zarr mount path asked may_open may_create) = stored node (record { mount = mount; path = path; want = want.Zarr asked; may_open = may_open; may_create = may_create })
+leaf_of node (spec.N5 mount path asked may_open may_create) = stored node (record { mount = mount; path = path; want = want.N5 asked; may_open = may_open; may_create = may_create })
+leaf_of node (spec.Zarr3 mount path asked may_open may_create) = stored node (record { mount = mount; path = path; want = want.Zarr3 asked; may_open = may_open; may_create = may_create })
+leaf_of node (spec.Given numbers) = given numbers
+
+-- the first path that there is
+abbrev pub first_path : List (Option Text) → Option Text
+first_path [] = None
+first_path (Some path ∷ paths) = Some path
+first_path (None ∷ paths) = first_path paths
+
+-- the same for one node, from its parts
+abbrev pub node_step : ℕ → Tree-F (Option Text) → Option Text
+node_step number (Tree-F.Leaf leaf transform at) = if nat_eq leaf number then Some at else None
+node_step number (Tree-F.Cast to base transform at) = base
+node_step number (Tree-F.Stack paths dtype transform at) = first_path paths
+
+-- the path of the node whose leaf has a number, if there is one
+abbrev pub node_of : ℕ → Tree → Option Text
+node_of number = fold-Tree (Option Text) (node_step number)
+
+-- leaves from this number on, each of its node
+abbrev pub leaves_from : Tree → ℕ → List spec_leaf.SpecLeaf → List SpecLeaf
+leaves_from tree number [] = []
+leaves_from tree number (leaf ∷ leaves) = leaf_of (unwrap_or (node_of number tree) []) leaf ∷ leaves_from tree (suc number) leaves
+
+-- what a plan asks to be opened, from left to right
+abbrev pub leaves_of : OpenPlan → List SpecLeaf
+leaves_of plan = leaves_from plan.tree 0 plan.leaves
 
 -- why a node isn't built
 abbrev pub build_cause_of : build_causes.BuildCause → BuildCause

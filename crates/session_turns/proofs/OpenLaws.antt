@@ -5,6 +5,7 @@ use Rattle.std.specs.List.{AllByRecursion}
 use Rattle.std.specs.Prelude.{option_to_list}
 use Rattle.cells.specs.Dense.{DenseCells}
 use Rattle.history.specs.declared.event.Event.{Event}
+use Rattle.history.specs.Answers.{Text}
 use Rattle.history.specs.Arrays.{ref_of}
 use Rattle.history.specs.History.{History}
 use Rattle.history.specs.Leaves.{Leaf}
@@ -61,9 +62,9 @@ pub seen_before : (book : BookView Opening) (old new : PassView Event Opening) (
 seen_before book old new before added turn = let sum = length-append old.seen turn.grown.0 in let size = ap length turn.grown.1 in omega (arith, sum, size)
 
 -- an array of a store that was opened in a turn
-module _ (book : BookView Opening) (old new : PassView Event Opening) (leaf : Leaf) (opened : Opened) (arrays : List Reference) (events : List ℕ) (rested : IsRested book old) (turn : IsLeafTurn book old new leaf (Ok opened)) where
+module _ (book : BookView Opening) (old new : PassView Event Opening) (node : Text) (leaf : Leaf) (opened : Opened) (arrays : List Reference) (events : List ℕ) (rested : IsRested book old) (turn : IsLeafTurn book old new leaf (Ok opened)) where
   abbrev Opens : Option ℕ → Type 0
-  Opens number = OpensLeaf book old new (stored leaf) arrays events (arrays ++ opened.array ∷ []) (events ++ option_to_list number)
+  Opens number = OpensLeaf book old new (stored node leaf) arrays events (arrays ++ opened.array ∷ []) (events ++ option_to_list number)
 
   opens_there : IsThere book.fixed.store.contents turn.before new.seen leaf opened → Opens None
   opens_there is first leaves rest so =
@@ -73,14 +74,14 @@ module _ (book : BookView Opening) (old new : PassView Event Opening) (leaf : Le
       let legal = subst (λ h. IsLegal finmap.empty (outline h)) is.same turn.turn.turned.past.outline in
       let known = there_known before leaf is.outcome.stored is.array legal is.outcome.same in
       let ref : IsKnownRef new.seen opened.array = subst (λ h. IsKnownRef h opened.array) (append-nil before ∙ sym is.same) (subst (IsKnownRef (before ++ [])) (sym is.named) (ref_found before [] is.array known)) in
-      one_leaf_more book first old new (stored leaf) leaves rest arrays events opened.array before [] t (later_refs old.seen new.seen arrays turn.turn.turned.before so.known) ref
+      one_leaf_more book first old new (stored node leaf) leaves rest arrays events opened.array before [] t (later_refs old.seen new.seen arrays turn.turn.turned.before so.known) ref
       (λ start told now low.
       let high = seen_before book old new before turn.added turn.turn in
-      let one = known_one start first.number before now leaf rest is.array (omega (arith, low, high)) (outcome_told book.fixed.store.contents start before leaf (there is.array) told is.outcome) in (
+      let one = known_one start first.number before now node leaf rest is.array (omega (arith, low, high)) (outcome_told book.fixed.store.contents start before leaf (there is.array) told is.outcome) in (
         length before,
         (let size = ap length is.same in omega (arith, size)),
-        subst (λ r. AreOpened start first.number new.seen now (stored leaf ∷ rest) (r ∷ []) [] (length before) rest) (sym is.named)
-            (subst (λ h. AreOpened start first.number h now (stored leaf ∷ rest) (ref_of is.array ∷ []) [] (length before) rest) (sym is.same) one),
+        subst (λ r. AreOpened start first.number new.seen now (stored node leaf ∷ rest) (r ∷ []) [] (length before) rest) (sym is.named)
+            (subst (λ h. AreOpened start first.number h now (stored node leaf ∷ rest) (ref_of is.array ∷ []) [] (length before) rest) (sym is.same) one),
       ))
       so
 
@@ -93,15 +94,15 @@ module _ (book : BookView Opening) (old new : PassView Event Opening) (leaf : Le
       let t = subst (IsTurn book old new before) added turn.turn in
       let ref : IsKnownRef new.seen opened.array = subst (λ h. IsKnownRef h opened.array) (sym is.added) (subst (IsKnownRef (before ++ e ∷ [])) (sym is.array) (ref_new before old.number info)) in
       let more =
-      one_leaf_more book first old new (stored leaf) leaves rest arrays events opened.array before (e ∷ []) t (later_refs old.seen new.seen arrays turn.turn.turned.before so.known) ref
+      one_leaf_more book first old new (stored node leaf) leaves rest arrays events opened.array before (e ∷ []) t (later_refs old.seen new.seen arrays turn.turn.turned.before so.known) ref
       (λ start told now low.
       let high = seen_before book old new before turn.added turn.turn in
-      let one = new_one start old.number before now leaf rest is.meta (omega (arith, low, high)) (new_told book.fixed.store.contents start before leaf is.meta told is.new) in (
+      let one = new_one start old.number before now node leaf rest is.meta (omega (arith, low, high)) (new_told book.fixed.store.contents start before leaf is.meta told is.new) in (
         length before + 1,
         (let size = ap length is.added in let sum = length-append before (e ∷ []) in omega (arith, size, sum)),
-        subst (λ r. AreOpened start first.number new.seen now (stored leaf ∷ rest) (r ∷ []) (record { number = length before + 1; event = e } ∷ []) (length before + 1) rest) (sym is.array)
-            (subst (λ h. AreOpened start first.number h now (stored leaf ∷ rest) (new_ref before info ∷ []) (record { number = length before + 1; event = e } ∷ []) (length before + 1) rest) (sym is.added)
-            (subst (λ n. AreOpened start n (before ++ e ∷ []) now (stored leaf ∷ rest) (new_ref before info ∷ []) (record { number = length before + 1; event = e } ∷ []) (length before + 1) rest) so.passed.number one)),
+        subst (λ r. AreOpened start first.number new.seen now (stored node leaf ∷ rest) (r ∷ []) (record { number = length before + 1; event = e } ∷ []) (length before + 1) rest) (sym is.array)
+            (subst (λ h. AreOpened start first.number h now (stored node leaf ∷ rest) (new_ref before info ∷ []) (record { number = length before + 1; event = e } ∷ []) (length before + 1) rest) (sym is.added)
+            (subst (λ n. AreOpened start n (before ++ e ∷ []) now (stored node leaf ∷ rest) (new_ref before info ∷ []) (record { number = length before + 1; event = e } ∷ []) (length before + 1) rest) so.passed.number one)),
       ))
       so in
       subst (λ n. AreOpenedBy book first new leaves rest (arrays ++ opened.array ∷ []) (events ++ n ∷ [])) (sym is.number) more
@@ -110,7 +111,7 @@ module _ (book : BookView Opening) (old new : PassView Event Opening) (leaf : Le
   opens_by None is = opens_there is
   opens_by (Some event) is = opens_added event is
 
-  pub opens_stored : OpensLeaf book old new (stored leaf) arrays events (arrays ++ opened.array ∷ []) (events ++ option_to_list opened.event)
+  pub opens_stored : OpensLeaf book old new (stored node leaf) arrays events (arrays ++ opened.array ∷ []) (events ++ option_to_list opened.event)
   opens_stored = opens_by opened.event turn.answer
 
 -- an array with numbers of its own that was

@@ -5,7 +5,7 @@ use Rattle.std.proofs.lemmas.List.{take-append-le, map-append}
 use Rattle.cells.specs.Dense.{DenseCells}
 use Rattle.chunk_forms.specs.declared.form.Form.{Form}
 use Rattle.history.specs.declared.event.Event.{Event}
-use Rattle.history.specs.Answers.{Body}
+use Rattle.history.specs.Answers.{Text, Body}
 use Rattle.history.specs.Arrays.{Known, ref_of}
 use Rattle.history.specs.History.{History}
 use Rattle.history.specs.Leaves.{Leaf, location_of_leaf}
@@ -23,8 +23,8 @@ pub opened_longer : {start : Contents} {owner : ℕ} (events more : History) {se
 opened_longer events more no_leaf = no_leaf
 opened_longer {start} {owner} events more (known_leaf {leaf = leaf} at k low high outcome others) =
     known_leaf at k low (let sum = length-append events more in omega (arith, sum, high)) (subst (λ h. IsOutcome start h leaf (there k)) (sym (take-append-le at events more high)) outcome) (opened_longer events more others)
-opened_longer {start} {owner} events more (new_leaf {seen} {now} {leaf} {leaves} {rest} {refs} {own} at meta low high new others) =
-    subst (λ h. AreOpened start owner (events ++ more) seen (stored leaf ∷ leaves) (new_ref h (new_info (next_array h) leaf meta) ∷ refs) (record { number = at + 1; event = opened_event owner (new_info (next_array h) leaf meta) } ∷ own) now rest) (take-append-le at events more high)
+opened_longer {start} {owner} events more (new_leaf {seen} {now} {node} {leaf} {leaves} {rest} {refs} {own} at meta low high new others) =
+    subst (λ h. AreOpened start owner (events ++ more) seen (stored node leaf ∷ leaves) (new_ref h (new_info (next_array h) leaf meta) ∷ refs) (record { number = at + 1; event = opened_event owner (new_info (next_array h) leaf meta) } ∷ own) now rest) (take-append-le at events more high)
     (new_leaf at meta low (let sum = length-append events more in omega (arith, sum, high)) (subst (λ h. IsNew start h leaf meta) (sym (take-append-le at events more high)) new) (opened_longer events more others))
 opened_longer {start} {owner} events more (given_leaf {seen} {now} {numbers} {leaves} {rest} {refs} {own} at low high others) =
     subst (λ h. AreOpened start owner (events ++ more) seen (given numbers ∷ leaves) (new_ref h (given_info (next_array h) numbers) ∷ refs) (record { number = at + 1; event = opened_event owner (given_info (next_array h) numbers) } ∷ own) now rest) (take-append-le at events more high)
@@ -47,18 +47,18 @@ front : (events : History) (e : Event) → take (length events) (events ++ e ∷
 front events e = take-append_seam events (e ∷ [])
 
 -- one leaf alone: an array of the history, a new one, one with numbers of its own
-pub known_one : (start : Contents) (owner : ℕ) (events : History) (now : ℕ) (leaf : Leaf) (rest : List SpecLeaf) (k : Known) → now ≤ length events → IsOutcome start events leaf (there k)
-    → AreOpened start owner events now (stored leaf ∷ rest) (ref_of k ∷ []) [] (length events) rest
-known_one start owner events now leaf rest k low outcome =
+pub known_one : (start : Contents) (owner : ℕ) (events : History) (now : ℕ) (node : Text) (leaf : Leaf) (rest : List SpecLeaf) (k : Known) → now ≤ length events → IsOutcome start events leaf (there k)
+    → AreOpened start owner events now (stored node leaf ∷ rest) (ref_of k ∷ []) [] (length events) rest
+known_one start owner events now node leaf rest k low outcome =
     known_leaf (length events) k low (omega arith) (subst (λ h. IsOutcome start h leaf (there k)) (sym (take-length events)) outcome) no_leaf
 
-pub new_one : (start : Contents) (owner : ℕ) (events : History) (now : ℕ) (leaf : Leaf) (rest : List SpecLeaf) (meta : Form) → now ≤ length events → IsNew start events leaf meta
+pub new_one : (start : Contents) (owner : ℕ) (events : History) (now : ℕ) (node : Text) (leaf : Leaf) (rest : List SpecLeaf) (meta : Form) → now ≤ length events → IsNew start events leaf meta
     → let e = opened_event owner (new_info (next_array events) leaf meta) in
-    AreOpened start owner (events ++ e ∷ []) now (stored leaf ∷ rest) (new_ref events (new_info (next_array events) leaf meta) ∷ []) (record { number = length events + 1; event = e } ∷ []) (length events + 1) rest
-new_one start owner events now leaf rest meta low new =
+    AreOpened start owner (events ++ e ∷ []) now (stored node leaf ∷ rest) (new_ref events (new_info (next_array events) leaf meta) ∷ []) (record { number = length events + 1; event = e } ∷ []) (length events + 1) rest
+new_one start owner events now node leaf rest meta low new =
     let e = opened_event owner (new_info (next_array events) leaf meta) in
     subst
-    (λ h. AreOpened start owner (events ++ e ∷ []) now (stored leaf ∷ rest) (new_ref h (new_info (next_array h) leaf meta) ∷ []) (record { number = length events + 1; event = opened_event owner (new_info (next_array h) leaf meta) } ∷ []) (length events + 1) rest)
+    (λ h. AreOpened start owner (events ++ e ∷ []) now (stored node leaf ∷ rest) (new_ref h (new_info (next_array h) leaf meta) ∷ []) (record { number = length events + 1; event = opened_event owner (new_info (next_array h) leaf meta) } ∷ []) (length events + 1) rest)
     (front events e)
     (new_leaf (length events) meta low (let sum = length-append events (e ∷ []) in omega (arith, sum)) (subst (λ h. IsNew start h leaf meta) (sym (front events e)) new) no_leaf)
 
@@ -73,9 +73,9 @@ given_one start owner events now numbers rest low =
     (given_leaf (length events) low (let sum = length-append events (e ∷ []) in omega (arith, sum)) no_leaf)
 
 -- a leaf that is refused after all events
-pub refused_one : (start : Contents) (events : History) (now : ℕ) (leaf : Leaf) (numbers : List ℕ) (answer : Body) (outcome : Outcome) → now ≤ length events → IsOutcome start events leaf outcome → IsRefusal leaf (length events) numbers outcome answer
-    → IsRefusedLeaf start events now leaf numbers answer
-refused_one start events now leaf numbers answer outcome low comes answered = record {
+pub refused_one : (start : Contents) (events : History) (now : ℕ) (node : Text) (leaf : Leaf) (numbers : List ℕ) (answer : Body) (outcome : Outcome) → now ≤ length events → IsOutcome start events leaf outcome → IsRefusal node leaf (length events) numbers outcome answer
+    → IsRefusedLeaf start events now node leaf numbers answer
+refused_one start events now node leaf numbers answer outcome low comes answered = record {
   at = length events;
   not_older = low;
   within = omega arith;

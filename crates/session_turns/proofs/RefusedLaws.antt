@@ -35,10 +35,10 @@ use Rattle.turn_book.specs.Passes.{BookView, PassView}
 use Rattle.history.specs.declared.event.Event.{Event}
 
 -- the answer where stored bytes are no metadata, by the format that was asked
-bad_answer : (leaf : Leaf) (numbers key : List ℕ) (asked : Want) (why : MetaError) → open_answer leaf numbers (error.BadMeta key (cause_of asked why)) ≡ old.bad_metadata key why numbers
-bad_answer leaf numbers key (want.Zarr w) why = refl
-bad_answer leaf numbers key (want.N5 w) why = refl
-bad_answer leaf numbers key (want.Zarr3 w) why = refl
+bad_answer : (node : Text) (leaf : Leaf) (numbers key : List ℕ) (asked : Want) (why : MetaError) → open_answer node leaf numbers (error.BadMeta key (cause_of asked why)) ≡ old.bad_metadata key why numbers
+bad_answer node leaf numbers key (want.Zarr w) why = refl
+bad_answer node leaf numbers key (want.N5 w) why = refl
+bad_answer node leaf numbers key (want.Zarr3 w) why = refl
 
 -- what is added where no event is
 same_own : (book : BookView Opening) (first old_pass new : PassView Event Opening) (wanted : SpecLeaf) (leaves rest : List SpecLeaf) (arrays : List Reference) (events : List ℕ) → AreOpenedBy book first old_pass leaves (wanted ∷ rest) arrays events
@@ -70,14 +70,14 @@ module _ (book : BookView Opening) (first old_pass : PassView Event Opening) (wa
       subst (IsRow (record { start = start; prefixes = prefixes }) first.number new.seen s line (opens name leaves build) s.names s.transaction old.memory) (sym (same_own book first old_pass new wanted leaves rest arrays events so before added turn same))
       (open_wanting (longer_by book first old_pass new wanted leaves rest arrays events so start told s.seen seen before added turn))
 
-module _ (book : BookView Opening) (first old_pass new : PassView Event Opening) (leaf : Leaf) (leaves rest : List SpecLeaf) (arrays : List Reference) (events : List ℕ) (so : AreOpenedBy book first old_pass leaves (stored leaf ∷ rest) arrays events)
+module _ (book : BookView Opening) (first old_pass new : PassView Event Opening) (node : Text) (leaf : Leaf) (leaves rest : List SpecLeaf) (arrays : List Reference) (events : List ℕ) (so : AreOpenedBy book first old_pass leaves (stored node leaf ∷ rest) arrays events)
     (start : Contents) (told : book.fixed.store.contents ≡ Some start) (prefixes : List (List ℕ)) (s : SessionState) (seen : s.seen ≡ length first.seen) (line : ℕ) (name : Text) (build : Build) where
   abbrev Row : Body → List Numbered → Type 0
   Row answer own = IsRow (record { start = start; prefixes = prefixes }) first.number new.seen s line (opens name leaves build) s.names s.transaction answer own
 
   module _ (before added : History) (turn : IsTurn book old_pass new before added) where
-    longer : AreOpened start first.number new.seen s.seen leaves arrays (added_by first old_pass) (so.told start told).0 (stored leaf ∷ rest)
-    longer = longer_by book first old_pass new (stored leaf) leaves rest arrays events so start told s.seen seen before added turn
+    longer : AreOpened start first.number new.seen s.seen leaves arrays (added_by first old_pass) (so.told start told).0 (stored node leaf ∷ rest)
+    longer = longer_by book first old_pass new (stored node leaf) leaves rest arrays events so start told s.seen seen before added turn
 
     own : added_by first new ≡ added_by first old_pass ++ numbered (length before + 1) added
     own = added_then first old_pass new so.passed.number so.passed.before turn.turned.before ∙ ap (λ os. added_by first old_pass ++ os) (own_of_turn book old_pass new before added so.passed.rested turn)
@@ -85,11 +85,11 @@ module _ (book : BookView Opening) (first old_pass new : PassView Event Opening)
     low : (so.told start told).0 ≤ length before
     low = let had = (so.told start told).1 in let high = seen_before book old_pass new before added turn in omega (arith, had, high)
 
-    refused : (outcome : Outcome) (answer : Body) → new.seen ≡ before → IsOutcome start before leaf outcome → IsRefusal leaf (length before) events outcome answer → Row answer (added_by first new)
+    refused : (outcome : Outcome) (answer : Body) → new.seen ≡ before → IsOutcome start before leaf outcome → IsRefusal node leaf (length before) events outcome answer → Row answer (added_by first new)
     refused outcome answer same comes answered =
         let now = (so.told start told).0 in
-        let one = refused_one start before now leaf (numbers_of (added_by first old_pass)) answer outcome low comes (subst (λ ns. IsRefusal leaf (length before) ns outcome answer) (sym so.events_are) answered) in
-        subst (Row answer) (sym (same_own book first old_pass new (stored leaf) leaves rest arrays events so before added turn same)) (open_refused longer (subst (λ h. IsRefusedLeaf start h now leaf (numbers_of (added_by first old_pass)) answer) (sym same) one))
+        let one = refused_one start before now node leaf (numbers_of (added_by first old_pass)) answer outcome low comes (subst (λ ns. IsRefusal node leaf (length before) ns outcome answer) (sym so.events_are) answered) in
+        subst (Row answer) (sym (same_own book first old_pass new (stored node leaf) leaves rest arrays events so before added turn same)) (open_refused longer (subst (λ h. IsRefusedLeaf start h now node leaf (numbers_of (added_by first old_pass)) answer) (sym same) one))
 
     failed : new.seen ≡ before ++ fault old_pass.number leaf.mount ∷ [] → IsFree before (location_of_leaf leaf) → Row (old.store_failed (length before + 1) [] (Some events)) (added_by first new)
     failed more free =
@@ -104,7 +104,7 @@ module _ (book : BookView Opening) (first old_pass new : PassView Event Opening)
         (open_failed (length before) longer (subst (λ h. IsFailedLeaf h (so.told start told).0 leaf (length before)) (sym more) one)))
 
     -- each refusal of the state
-    by_error : (e : OpenError) → IsOpening book.fixed.store.contents before old_pass.number leaf (Err e) new.seen → Row (open_answer leaf events e) (added_by first new)
+    by_error : (e : OpenError) → IsOpening book.fixed.store.contents before old_pass.number leaf (Err e) new.seen → Row (open_answer node leaf events e) (added_by first new)
     by_error (error.PathTaken path at) is =
         let there = stored_there leaf.want (finmap.get start (metadata_key_asked leaf)) in
         refused (path_taken path) (old.path_taken at path events) is.same (record { stored = there.0; read = λ none. there.1; same = sym (is.outcome there.0) }) (ap (λ n. old.path_taken n path events) is.at)
@@ -113,19 +113,19 @@ module _ (book : BookView Opening) (first old_pass new : PassView Event Opening)
         let text = is.0 in
         let bad = is.1 in
         let there = is.2 in
-        let answer : open_answer leaf events (error.BadMeta key cause) ≡ old.bad_metadata (metadata_key_asked leaf) bad.0 events =
-        ap (λ c. open_answer leaf events (error.BadMeta key c)) bad.2 ∙ bad_answer leaf events key leaf.want bad.0 ∙ ap (λ k. old.bad_metadata k bad.0 events) there.named in
-        refused (bad_metadata text) (open_answer leaf events (error.BadMeta key cause)) there.same (outcome_told book.fixed.store.contents start before leaf (bad_metadata text) told there.outcome) (bad.0, bad.1, answer)
-    by_error (error.Exists at) is = refused exists _ is.same (outcome_told book.fixed.store.contents start before leaf exists told is.outcome) (ap (λ n. open_answer leaf events (error.Exists n)) is.at)
+        let answer : open_answer node leaf events (error.BadMeta key cause) ≡ old.bad_metadata (metadata_key_asked leaf) bad.0 events =
+        ap (λ c. open_answer node leaf events (error.BadMeta key c)) bad.2 ∙ bad_answer node leaf events key leaf.want bad.0 ∙ ap (λ k. old.bad_metadata k bad.0 events) there.named in
+        refused (bad_metadata text) (open_answer node leaf events (error.BadMeta key cause)) there.same (outcome_told book.fixed.store.contents start before leaf (bad_metadata text) told there.outcome) (bad.0, bad.1, answer)
+    by_error (error.Exists at) is = refused exists _ is.same (outcome_told book.fixed.store.contents start before leaf exists told is.outcome) (ap (λ n. open_answer node leaf events (error.Exists n)) is.at)
     by_error (error.Mismatch member at) is =
-        refused (mismatch member.now) _ is.same (outcome_told book.fixed.store.contents start before leaf (mismatch member.now) told is.outcome) (ap (λ n. open_answer leaf events (error.Mismatch member n)) is.at)
-    by_error (error.NotFound at) is = refused not_found _ is.same (outcome_told book.fixed.store.contents start before leaf not_found told is.outcome) (ap (λ n. open_answer leaf events (error.NotFound n)) is.at)
+        refused (mismatch member.now) _ is.same (outcome_told book.fixed.store.contents start before leaf (mismatch member.now) told is.outcome) (ap (λ n. open_answer node leaf events (error.Mismatch member n)) is.at)
+    by_error (error.NotFound at) is = refused not_found _ is.same (outcome_told book.fixed.store.contents start before leaf not_found told is.outcome) (ap (λ n. open_answer node leaf events (error.NotFound n)) is.at)
     by_error (error.BadWant member) is =
         refused (bad_want (member_name member)) _ is.same (outcome_told book.fixed.store.contents start before leaf (bad_want (member_name member)) told is.outcome) refl
-    by_error error.Memory is = wanting_behind book first old_pass (stored leaf) leaves rest arrays events so start told prefixes s seen line name build new before added turn is
+    by_error error.Memory is = wanting_behind book first old_pass (stored node leaf) leaves rest arrays events so start told prefixes s seen line name build new before added turn is
 
   -- a leaf that a turn refuses
-  pub refused_row : (e : OpenError) → IsLeafTurn book old_pass new leaf (Err e) → Row (open_answer leaf events e) (added_by first new)
+  pub refused_row : (e : OpenError) → IsLeafTurn book old_pass new leaf (Err e) → Row (open_answer node leaf events e) (added_by first new)
   refused_row e turn = by_error turn.before turn.added turn.turn e turn.answer
 
 -- each refusal but a failed call adds no event

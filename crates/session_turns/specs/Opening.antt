@@ -6,10 +6,10 @@ use Rattle.cells.specs.Dense.{DenseCells}
 use Rattle.chunk_forms.specs.Members.{member_name}
 use Rattle.history.specs.declared.event.Event.{Event}
 use Rattle.history.specs.Answers as old
-use Rattle.history.specs.Answers.{Body}
+use Rattle.history.specs.Answers.{Text, Body}
 use Rattle.history.specs.History.{History}
 use Rattle.history.specs.Leaves.{Leaf, location_of_leaf}
-use Rattle.history.specs.Lines.{SpecLeaf}
+use Rattle.history.specs.Lines.{SpecLeaf, member_of_node}
 use Rattle.history.specs.OpenRows.{AreOpened, next_array, given_info, new_ref}
 use Rattle.history.specs.Own.{numbers_of, opened_event}
 use Rattle.history.specs.Refs.{IsKnownRef}
@@ -47,17 +47,17 @@ pub record AreOpenedBy (book : BookView Opening) (first now : PassView Event Ope
   pub told : (start : Contents) → book.fixed.store.contents ≡ Some start
       → (seen : ℕ) × (seen ≤ length now.seen) × AreOpened start first.number now.seen (length first.seen) leaves arrays (added_by first now) seen rest
 
--- the answer to a leaf that isn't opened, by the events that the line added
-abbrev pub open_answer : Leaf → List ℕ → OpenError → Body
-open_answer leaf numbers (error.PathTaken path at) = old.path_taken at path numbers
-open_answer leaf numbers (error.StoreFailed event) = old.store_failed event [] (Some numbers)
-open_answer leaf numbers (error.BadMeta key (cause.Zarr why)) = old.bad_metadata key why numbers
-open_answer leaf numbers (error.BadMeta key (cause.N5 why)) = old.bad_metadata key why numbers
-open_answer leaf numbers (error.Exists at) = old.exists at (location_of_leaf leaf) numbers
-open_answer leaf numbers (error.Mismatch member at) = old.mismatch at member.now (location_of_leaf leaf) numbers
-open_answer leaf numbers (error.NotFound at) = old.not_found at (location_of_leaf leaf) numbers
-open_answer leaf numbers (error.BadWant member) = old.bad_spec (member_name member) (Some numbers)
-open_answer leaf numbers error.Memory = old.memory
+-- the answer to a leaf of a node that isn't opened, by the events that the line added
+abbrev pub open_answer : Text → Leaf → List ℕ → OpenError → Body
+open_answer node leaf numbers (error.PathTaken path at) = old.path_taken at path numbers
+open_answer node leaf numbers (error.StoreFailed event) = old.store_failed event [] (Some numbers)
+open_answer node leaf numbers (error.BadMeta key (cause.Zarr why)) = old.bad_metadata key why numbers
+open_answer node leaf numbers (error.BadMeta key (cause.N5 why)) = old.bad_metadata key why numbers
+open_answer node leaf numbers (error.Exists at) = old.exists at (location_of_leaf leaf) numbers
+open_answer node leaf numbers (error.Mismatch member at) = old.mismatch at member.now (location_of_leaf leaf) numbers
+open_answer node leaf numbers (error.NotFound at) = old.not_found at (location_of_leaf leaf) numbers
+open_answer node leaf numbers (error.BadWant member) = old.bad_spec (member_of_node node (member_name member)) (Some numbers)
+open_answer node leaf numbers error.Memory = old.memory
 
 -- one leaf more is opened, whatever leaves were opened before it
 abbrev pub OpensLeaf : BookView Opening → PassView Event Opening → PassView Event Opening → SpecLeaf → List Reference → List ℕ → List Reference → List ℕ → Type 0
