@@ -14,3 +14,4 @@ pub mod SoundLaws
 pub mod EndLaws
 pub mod ReadRows
 pub mod ReadLaws
+pub mod Laws

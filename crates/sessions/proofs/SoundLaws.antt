@@ -1,21 +1,15 @@
 -- Transactions that are right and recorded.
-use Rattle.std.proofs.Common.{ℕ, [], Option, Some, None, refl}
+use Rattle.std.proofs.Common.{ℕ, [], Some, refl}
 use Rattle.std.specs.FinMap as finmap
 use Rattle.history.specs.declared.event.Mode.{Mode}
 use Rattle.history.specs.History.{History}
 use Rattle.history.specs.Legal.{IsLegal}
 use Rattle.sessions.specs.Commits.{HasSoundTxn}
-use Rattle.sessions.specs.Standing.{HasTxnIn}
 use Rattle.state_laws.specs.Agreement.{Opening}
 use Rattle.state_laws.specs.Outline.{outline}
 use Rattle.transaction_cells.proofs.Laws.{none_staged}
 use Rattle.transactions.specs.Txn.{TxnSeen, transaction_of}
 use Rattle.transactions.proofs.Laws.{recorded_begun}
-
--- what is recorded is right
-pub sound_is_right : (opening : Opening) (events : History) (t : Option TxnSeen) → HasSoundTxn opening events t → HasTxnIn opening events t
-sound_is_right opening events None sound = tt
-sound_is_right opening events (Some t) sound = sound.0
 
 -- one that is begun is both
 pub sound_begun : (opening : Opening) (events : History) (line : ℕ) (mode : Mode) → IsLegal finmap.empty (outline events) → HasSoundTxn opening events (Some (record { line = line; mode = mode; ops = []; staged = []; kept = [] }))

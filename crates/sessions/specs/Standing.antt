@@ -4,10 +4,7 @@ use Rattle.stack_driver.specs.Conditions.{IsView}
 use Rattle.stack_driver.specs.declared.view.View.{View}
 use Rattle.history.specs.Answers.{Text}
 use Rattle.history.specs.Commit.{Transaction}
-use Rattle.history.specs.History.{History}
 use Rattle.history.specs.Sessions.{Names, SessionState}
-use Rattle.state_laws.specs.Agreement.{Opening}
-use Rattle.transactions.specs.Conditions.{IsTxnIn}
 use Rattle.transactions.specs.Txn.{TxnSeen, transaction_of}
 
 -- the transaction that stands, if one does
@@ -22,8 +19,3 @@ session_state names seen t = record { names = names; seen = seen; transaction = 
 -- what each name is bound to keeps the rules of views
 abbrev pub AreViews : Names → Type 0
 AreViews names = (name : Text) (view : View) → names name ≡ Some view → IsView view
-
--- what is staged and kept is right beside these events, where a transaction stands
-abbrev pub HasTxnIn : Opening → History → Option TxnSeen → Type 0
-HasTxnIn opening events None = Unit {0}
-HasTxnIn opening events (Some t) = IsTxnIn opening events t

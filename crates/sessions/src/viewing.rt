@@ -76,13 +76,7 @@ pub(crate) fn bound(alloc: Global, names: &mut Names, name: &str, view: View) ->
 }
 
 /// Binds a name to a view, and answers by a body.
-pub(crate) fn bound_with(
-    alloc: Global,
-    names: &mut Names,
-    name: &str,
-    view: View,
-    body: Body,
-) -> Body
+pub fn bound_with(alloc: Global, names: &mut Names, name: &str, view: View, body: Body) -> Body
     ensures { IsBoundAs body (get_by_text names.old) name.now view (get_by_text names.new) result }
 {
     if bind(alloc, names, name, view) {
