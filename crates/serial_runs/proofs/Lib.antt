@@ -1,0 +1,16 @@
+pub mod Numbers
+pub mod Later
+pub mod Inside
+pub mod Calm
+pub mod Shrunk
+pub mod Opened
+pub mod Refused
+pub mod Commits
+pub mod Rows
+pub mod Together
+pub mod Sessions
+pub mod Held
+pub mod Laws
+pub mod Worked
+pub mod Told
+pub mod WorkedWrong

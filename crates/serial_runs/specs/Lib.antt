@@ -1,0 +1,7 @@
+pub mod Numbered
+pub mod Runs
+pub mod Attempts
+pub mod Ends
+pub mod Held
+pub mod Serial
+pub mod Worked
