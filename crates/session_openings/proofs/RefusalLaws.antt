@@ -1,0 +1,56 @@
+-- What the answer to a leaf that isn't opened tells.
+use Rattle.std.proofs.Common.{◌≡◌, ℕ, List, ◌⊎◌, inl, inr, Option, Some, None, refl, sym, subst}
+use Rattle.answer_text.specs.declared.answer.Body.{Body}
+use Rattle.answer_text.specs.declared.answer.Body.TheVariants as body
+use Rattle.array_homes.specs.declared.read.MetaCause.TheVariants as cause
+use Rattle.history.specs.Answers.{Text}
+use Rattle.history.specs.Leaves.{Leaf}
+use Rattle.line_answers.specs.Bodies.{body_of}
+use Rattle.line_answers.specs.Causes.{metadata_body}
+use Rattle.meta_forms.specs.declared.error.MetaError.{MetaError}
+use Rattle.meta_forms.specs.declared.error.MetaError.TheVariants as meta
+use Rattle.session_openings.specs.Events.{openings_in, TellsOpenings, IsRefusalWith}
+use Rattle.session_turns.specs.Opening.{open_answer, IsUnseen}
+use Rattle.state_laws.specs.declared.opening.OpenError.{OpenError}
+use Rattle.state_laws.specs.declared.opening.OpenError.TheVariants as error
+
+-- numbers that are told are the ones that are
+these : (numbers events : List ℕ) → Some numbers ≡ Some events → events ≡ numbers
+these numbers events is = cc
+
+no_numbers : {A : Type 0} (events : List ℕ) → None ≡ Some events → A
+no_numbers events is = absurd (let no_such : ⊥ = cc in no_such)
+
+-- want of memory tells none
+pub memory_with : (numbers : List ℕ) → IsRefusalWith numbers body.Memory
+memory_with numbers = record { refused = refl; none = refl; told = λ events is. no_numbers events is }
+
+module _ (numbers : List ℕ) where
+  metadata_with : (key : List ℕ) (why : MetaError) → IsRefusalWith numbers (metadata_body key why numbers)
+  metadata_with key meta.NotJson = record { refused = refl; none = refl; told = λ events is. these numbers events is }
+  metadata_with key (meta.BadMember name) = record { refused = refl; none = refl; told = λ events is. these numbers events is }
+  metadata_with key (meta.Unsupported name) = record { refused = refl; none = refl; told = λ events is. these numbers events is }
+  metadata_with key meta.Memory = memory_with numbers
+
+  -- each refusal but a failed call tells the line's openings
+  pub unseen_with : (node : Text) (leaf : Leaf) (e : OpenError) → IsUnseen e → IsRefusalWith numbers (body_of (open_answer node leaf numbers e))
+  unseen_with node leaf (error.PathTaken path at) unseen = record { refused = refl; none = refl; told = λ events is. these numbers events is }
+  unseen_with node leaf (error.StoreFailed event) unseen = absurd unseen
+  unseen_with node leaf (error.BadMeta key (cause.Zarr why)) unseen = metadata_with key why
+  unseen_with node leaf (error.BadMeta key (cause.N5 why)) unseen = metadata_with key why
+  unseen_with node leaf (error.Exists at) unseen = record { refused = refl; none = refl; told = λ events is. these numbers events is }
+  unseen_with node leaf (error.Mismatch member at) unseen = record { refused = refl; none = refl; told = λ events is. these numbers events is }
+  unseen_with node leaf (error.NotFound at) unseen = record { refused = refl; none = refl; told = λ events is. these numbers events is }
+  unseen_with node leaf (error.BadWant member) unseen = record { refused = refl; none = refl; told = λ events is. these numbers events is }
+  unseen_with node leaf error.Memory unseen = memory_with numbers
+
+-- no event tells of the refusal, or it is a failed call
+pub unseen_or : (e : OpenError) → IsUnseen e ⊎ ((event : ℕ) × (e ≡ error.StoreFailed event))
+unseen_or (error.PathTaken path at) = inl tt
+unseen_or (error.StoreFailed event) = inr (event, refl)
+unseen_or (error.BadMeta key why) = inl tt
+unseen_or (error.Exists at) = inl tt
+unseen_or (error.Mismatch member at) = inl tt
+unseen_or (error.NotFound at) = inl tt
+unseen_or (error.BadWant member) = inl tt
+unseen_or error.Memory = inl tt

@@ -1,0 +1,14 @@
+//! The lines of a session that open a Spec or take a view's bounds anew.
+//!
+//! Crates above rest on the relation of `sessions`, `IsToldBy`: what a line is answered is the printed answer of a row of the history's
+//! session. Of every store there is `AreTold`: the answer tells the events that the line added.
+#![tactic(auto)]
+
+mod building;
+mod leaves;
+mod nodes;
+mod opening;
+mod resolving;
+
+pub use opening::open;
+pub use resolving::resolve;
