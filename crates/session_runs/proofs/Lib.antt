@@ -1,0 +1,5 @@
+pub mod EndRows
+pub mod StepLaws
+pub mod LineLaws
+pub mod ScriptLaws
+pub mod Laws

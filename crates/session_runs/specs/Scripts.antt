@@ -1,0 +1,34 @@
+-- A session that is given the lines of a script.
+use Rattle.std.specs.Prelude.{◌≡◌, ◌⊎◌, ℕ, ◌+◌, List, [], ◌∷◌, ◌++◌, length, map, true, false, Option, Some, None, if◌then◌else◌}
+use Rattle.history.specs.Lines.{Line}
+use Rattle.line_meanings.specs.Meanings.{line_of_bytes}
+use Rattle.script_lines.specs.Script.{lines_of, is_blank}
+use Rattle.session_runs.specs.Session.{SessionSeen, IsSessionOn}
+use Rattle.state_laws.specs.Agreement.{Opening}
+use Rattle.turn_book.specs.Passes.{BookView}
+
+-- what a line asks, where these are the names of the mounts: nothing where it is blank
+abbrev pub asked_line : List (List ℕ) → List ℕ → Option Line
+asked_line mounts line = if is_blank line then None else Some (line_of_bytes mounts line)
+
+-- what a script asks, line by line
+abbrev pub asked_by : List (List ℕ) → List ℕ → List (Option Line)
+asked_by mounts script = map (asked_line mounts) (lines_of script)
+
+-- the session was given the script's lines from the first on: all of them, or up to where memory was wanting
+pub record HasRunScript (book : BookView Opening) (mounts : List (List ℕ)) (script : List ℕ) (s : SessionSeen) : Type 0 where
+  pub given : List (Option Line)
+  pub left : List (Option Line)
+  pub parts : asked_by mounts script ≡ given ++ left
+  pub on : IsSessionOn book s given
+  pub whole : s.ended ≡ false → left ≡ []
+
+-- a line more was given to a session, which goes on; nothing is asked where the line is blank
+pub record IsGivenMore (book : BookView Opening) (was now : SessionSeen) (number : ℕ) (asked : Option Line) : Type 0 where
+  pub going : now.ended ≡ false
+  pub on : (lines : List (Option Line)) → number ≡ length lines + 1 → IsSessionOn book was lines → IsSessionOn book now (lines ++ asked ∷ [])
+
+-- it has ended, with the line's answer or for want of memory for one
+pub record IsGivenLast (book : BookView Opening) (was now : SessionSeen) (number : ℕ) (asked : Option Line) : Type 0 where
+  pub ended : now.ended ≡ true
+  pub on : (lines : List (Option Line)) → number ≡ length lines + 1 → IsSessionOn book was lines → (IsSessionOn book now lines ⊎ IsSessionOn book now (lines ++ asked ∷ []))

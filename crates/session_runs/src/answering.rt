@@ -1,0 +1,126 @@
+// What a line is answered.
+ghost use Rattle.std.specs.Prelude.{◌≡◌, ◌≢◌, ◌⊎◌, Err, IfErr};
+ghost use Rattle.answer_text.specs.declared.answer.Body.TheVariants as printed;
+ghost use Rattle.indexmap.specs.IndexMap.{get_by_text};
+ghost use Rattle.line_answers.specs.Refusals.{refusal_body};
+ghost use Rattle.line_forms.specs.Form.{form_of, IsSound};
+ghost use Rattle.line_meanings.specs.Meanings.{line_of, line_of_bytes};
+ghost use Rattle.session_runs.specs.Session.{HasMounts, MayGoOn, IsLineTold};
+ghost use Rattle.session_turns.specs.Turns.{HasPassed};
+
+use crate::commands::{joined, opened, resized, resolved, shown, viewed, written};
+use answer_text::Body;
+use cells::Name;
+use history::Mode;
+use kv_face::KvStore;
+use line_answers::refusal;
+use line_forms::{Command, read_command};
+use line_parts::LineError;
+use sessions::{Names, abort, begin, commit};
+use shared_state::State;
+use std::alloc::Global;
+use std::sync::Wait;
+use transactions::{Gate, Txn};
+use turn_book::{Pass, TurnBook};
+
+/// What the bytes of a line are answered, where these are the names of the mounts.
+pub(crate) fn answered<K: KvStore, R: Wait, G: Gate>(
+    alloc: Global,
+    rt: &R,
+    book: &TurnBook<State<K>>,
+    pass: &mut Pass<State<K>>,
+    names: &mut Names,
+    txn: &mut Option<Txn>,
+    mounts: &[Name],
+    line: u64,
+    bytes: &[u8],
+    gate: &G,
+) -> Body
+    requires on { MayGoOn book.now pass.old (get_by_text names.old) txn.old }
+    requires mounts { HasMounts book.now mounts.now }
+    ensures told { IsLineTold book.now pass.old pass.new (get_by_text names.old) txn.old line (line_of_bytes mounts.now bytes.now) (get_by_text names.new) txn.new result }
+    ensures passed { HasPassed book.now pass.old pass.new }
+    ensures on { result ≢ printed.Memory → MayGoOn book.now pass.new (get_by_text names.new) txn.new }
+{
+    match read_command(alloc, bytes, mounts) {
+        Ok(command) => obeyed(
+            alloc, rt, book, pass, names, txn, mounts, line, command, gate,
+        ),
+        Err(error) => refused(alloc, error),
+    }
+}
+
+fn refused(alloc: Global, error: LineError) -> Body
+    ensures { (result ≡ refusal_body error) ⊎ (result ≡ printed.Memory) }
+{
+    match refusal(alloc, error) {
+        Ok(body) => body,
+        Err(_) => Body::Memory,
+    }
+}
+
+// What a command is answered.
+fn obeyed<K: KvStore, R: Wait, G: Gate>(
+    alloc: Global,
+    rt: &R,
+    book: &TurnBook<State<K>>,
+    pass: &mut Pass<State<K>>,
+    names: &mut Names,
+    txn: &mut Option<Txn>,
+    mounts: &[Name],
+    line: u64,
+    command: Command,
+    gate: &G,
+) -> Body
+    requires on { MayGoOn book.now pass.old (get_by_text names.old) txn.old }
+    requires mounts { HasMounts book.now mounts.now }
+    requires sound { IsSound mounts.now command }
+    ensures told { IsLineTold book.now pass.old pass.new (get_by_text names.old) txn.old line (line_of (form_of command)) (get_by_text names.new) txn.new result }
+    ensures passed { HasPassed book.now pass.old pass.new }
+    ensures on { result ≢ printed.Memory → MayGoOn book.now pass.new (get_by_text names.new) txn.new }
+{
+    match command {
+        Command::Open { name, plan } => opened(alloc, rt, book, pass, names, txn, name, plan),
+        Command::View {
+            name,
+            of,
+            transform,
+            steps,
+        } => viewed(alloc, names, name, of, transform, steps),
+        Command::Join {
+            name,
+            form,
+            layers,
+            transform,
+            steps,
+        } => joined(alloc, names, name, form, layers, transform, steps),
+        Command::Read { name, steps, down } => {
+            shown(
+                alloc, rt, book, pass, names, line, txn, name, steps, down, gate,
+            )
+        }
+        Command::Write {
+            name,
+            steps,
+            values,
+        } => written(
+            alloc, rt, book, pass, names, line, txn, name, steps, values, gate,
+        ),
+        Command::Begin {
+            atomic,
+            repeatable_read,
+        } => begin(
+            alloc,
+            line,
+            Mode {
+                atomic,
+                repeatable_read,
+            },
+            txn,
+        ),
+        Command::Commit => commit(alloc, rt, book, pass, txn, gate),
+        Command::Abort => abort(line, txn),
+        Command::Resize { name, shape } => resized(alloc, rt, book, pass, names, txn, name, shape),
+        Command::Resolve { name } => resolved(alloc, rt, book, pass, names, txn, name),
+    }
+}

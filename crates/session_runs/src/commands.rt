@@ -1,0 +1,241 @@
+// Lines by their command, whose parts end with the line.
+ghost use Rattle.std.specs.Prelude.{◌≡◌, ◌≢◌, ℕ, None, Option, All, length};
+ghost use Rattle.answer_text.specs.declared.answer.Body.TheVariants as printed;
+ghost use Rattle.cells.specs.Shapes.{IsShape};
+ghost use Rattle.history.specs.Bound.{AreKnownNames};
+ghost use Rattle.history.specs.History.{History};
+ghost use Rattle.history.specs.Lines.{opening, viewing, joining, reading, writing, resizing, resolving};
+ghost use Rattle.indexmap.specs.IndexMap.{get_by_text};
+ghost use Rattle.line_forms.specs.Form.{AreLayers, MayHaveFactors};
+ghost use Rattle.line_meanings.specs.Changes.{changes_of};
+ghost use Rattle.line_meanings.specs.Joins.{join_of};
+ghost use Rattle.line_meanings.specs.Numbers.{values_of, downsampling_of};
+ghost use Rattle.line_meanings.specs.Openings.{leaves_of, build_of};
+ghost use Rattle.serde_json.specs.View.{view as data_in};
+ghost use Rattle.session_openings.specs.Wanted.{MayOpen};
+ghost use Rattle.session_turns.specs.Turns.{IsRested, HasPassed};
+ghost use Rattle.sessions.specs.Commits.{HasSoundTxn};
+ghost use Rattle.sessions.specs.Reads.{IsReadTold};
+ghost use Rattle.sessions.specs.Standing.{session_state, transaction_in, AreViews};
+ghost use Rattle.sessions.specs.Told.{IsToldAlone, IsToldBy};
+ghost use Rattle.step_forms.specs.Given.{IsGiven};
+ghost use Rattle.transactions.specs.Txn.{TxnSeen};
+
+use answer_text::Body;
+use cells::{List, Name, Sizes};
+use index_transform::Transform;
+use kv_face::KvStore;
+use line_forms::{DownWant, JoinForm};
+use serde_json::Value;
+use session_openings::{open, resolve};
+use sessions::{Names, join, read, resize, view, write};
+use shared_state::State;
+use spec_open::OpenPlan;
+use std::alloc::Global;
+use std::sync::Wait;
+use step_forms::Step;
+use transactions::{Gate, Txn};
+use turn_book::{Pass, TurnBook};
+
+/// Opens what a Spec tells.
+pub(crate) fn opened<K: KvStore, R: Wait>(
+    alloc: Global,
+    rt: &R,
+    book: &TurnBook<State<K>>,
+    pass: &mut Pass<State<K>>,
+    names: &mut Names,
+    txn: &Option<Txn>,
+    name: Name,
+    plan: OpenPlan,
+) -> Body
+    requires pass { IsRested book.now pass.old }
+    requires views { AreViews (get_by_text names.old) }
+    requires known { AreKnownNames pass.old.seen (get_by_text names.old) }
+    requires plan { MayOpen book.now.fixed.store.names plan }
+    ensures told { (line : ℕ) → IsToldBy book.now pass.old pass.new (session_state (get_by_text names.old) (length pass.old.seen) txn.now) line (opening name (leaves_of plan) (build_of plan)) (get_by_text names.new) (transaction_in txn.now) result }
+    ensures passed { HasPassed book.now pass.old pass.new }
+    ensures views { AreViews (get_by_text names.new) }
+    ensures known { AreKnownNames pass.new.seen (get_by_text names.new) }
+{
+    open(alloc, rt, book, pass, names, txn, name.items(), plan)
+}
+
+/// Binds a name to the view of another.
+pub(crate) fn viewed(
+    alloc: Global,
+    names: &mut Names,
+    name: Name,
+    of: Name,
+    transform: Option<Transform>,
+    steps: List<Step>,
+) -> Body
+    requires given { All IsGiven steps }
+    requires views { AreViews (get_by_text names.old) }
+    ensures told { (seen line : ℕ) (t : Option TxnSeen) → IsToldAlone (session_state (get_by_text names.old) seen t) line (viewing name of (changes_of transform steps)) (get_by_text names.new) (transaction_in t) result }
+    ensures views { AreViews (get_by_text names.new) }
+    ensures known { (events : History) → AreKnownNames events (get_by_text names.old) → AreKnownNames events (get_by_text names.new) }
+{
+    view(
+        alloc,
+        names,
+        name.items(),
+        of.items(),
+        &transform,
+        steps.items(),
+    )
+}
+
+/// Binds a name to views that are joined.
+pub(crate) fn joined(
+    alloc: Global,
+    names: &mut Names,
+    name: Name,
+    form: JoinForm,
+    layers: List<Name>,
+    transform: Option<Transform>,
+    steps: List<Step>,
+) -> Body
+    requires given { All IsGiven steps }
+    requires layers { AreLayers layers }
+    requires views { AreViews (get_by_text names.old) }
+    ensures told { (seen line : ℕ) (t : Option TxnSeen) → IsToldAlone (session_state (get_by_text names.old) seen t) line (joining name layers (join_of form) (changes_of transform steps)) (get_by_text names.new) (transaction_in t) result }
+    ensures views { AreViews (get_by_text names.new) }
+    ensures known { (events : History) → AreKnownNames events (get_by_text names.old) → AreKnownNames events (get_by_text names.new) }
+{
+    join(
+        alloc,
+        names,
+        name.items(),
+        form,
+        layers.items(),
+        &transform,
+        steps.items(),
+    )
+}
+
+/// Reads a view.
+pub(crate) fn shown<K: KvStore, R: Wait, G: Gate>(
+    alloc: Global,
+    rt: &R,
+    book: &TurnBook<State<K>>,
+    pass: &mut Pass<State<K>>,
+    names: &Names,
+    line: u64,
+    txn: &mut Option<Txn>,
+    name: Name,
+    steps: List<Step>,
+    down: Option<DownWant>,
+    gate: &G,
+) -> Body
+    requires pass { IsRested book.now pass.old }
+    requires given { All IsGiven steps }
+    requires factors { MayHaveFactors down }
+    requires views { AreViews (get_by_text names.now) }
+    requires known { AreKnownNames pass.old.seen (get_by_text names.now) }
+    requires txn { HasSoundTxn book.now.fixed pass.old.seen txn.old }
+    ensures told { IsReadTold book.now pass.old pass.new (get_by_text names.now) txn.old txn.new line (reading name (changes_of None steps) (downsampling_of down)) result }
+    ensures passed { HasPassed book.now pass.old pass.new }
+    ensures txn { HasSoundTxn book.now.fixed pass.new.seen txn.new }
+{
+    read(
+        alloc,
+        rt,
+        book,
+        pass,
+        names,
+        line,
+        txn,
+        name.items(),
+        steps.items(),
+        &down,
+        gate,
+    )
+}
+
+/// Writes values to a view.
+pub(crate) fn written<K: KvStore, R: Wait, G: Gate>(
+    alloc: Global,
+    rt: &R,
+    book: &TurnBook<State<K>>,
+    pass: &mut Pass<State<K>>,
+    names: &Names,
+    line: u64,
+    txn: &mut Option<Txn>,
+    name: Name,
+    steps: List<Step>,
+    values: Value,
+    gate: &G,
+) -> Body
+    requires pass { IsRested book.now pass.old }
+    requires given { All IsGiven steps }
+    requires views { AreViews (get_by_text names.now) }
+    requires known { AreKnownNames pass.old.seen (get_by_text names.now) }
+    requires txn { HasSoundTxn book.now.fixed pass.old.seen txn.old }
+    ensures told { IsToldBy book.now pass.old pass.new (session_state (get_by_text names.now) (length pass.old.seen) txn.old) line (writing name (changes_of None steps) (values_of (data_in values))) (get_by_text names.now) (transaction_in txn.new) result }
+    ensures passed { HasPassed book.now pass.old pass.new }
+    ensures txn { result ≢ printed.Memory → HasSoundTxn book.now.fixed pass.new.seen txn.new }
+{
+    write(
+        alloc,
+        rt,
+        book,
+        pass,
+        names,
+        line,
+        txn,
+        name.items(),
+        steps.items(),
+        &values,
+        gate,
+    )
+}
+
+/// Gives the array of a view another shape.
+pub(crate) fn resized<K: KvStore, R: Wait>(
+    alloc: Global,
+    rt: &R,
+    book: &TurnBook<State<K>>,
+    pass: &mut Pass<State<K>>,
+    names: &Names,
+    txn: &Option<Txn>,
+    name: Name,
+    shape: Sizes,
+) -> Body
+    requires pass { IsRested book.now pass.old }
+    requires known { AreKnownNames pass.old.seen (get_by_text names.now) }
+    requires sizes { IsShape shape }
+    ensures told { (line : ℕ) → IsToldBy book.now pass.old pass.new (session_state (get_by_text names.now) (length pass.old.seen) txn.now) line (resizing name shape) (get_by_text names.now) (transaction_in txn.now) result }
+    ensures passed { HasPassed book.now pass.old pass.new }
+{
+    resize(
+        alloc,
+        rt,
+        book,
+        pass,
+        names,
+        txn,
+        name.items(),
+        shape.items(),
+    )
+}
+
+/// Takes the bounds of a view anew.
+pub(crate) fn resolved<K: KvStore, R: Wait>(
+    alloc: Global,
+    rt: &R,
+    book: &TurnBook<State<K>>,
+    pass: &mut Pass<State<K>>,
+    names: &mut Names,
+    txn: &Option<Txn>,
+    name: Name,
+) -> Body
+    requires pass { IsRested book.now pass.old }
+    requires views { AreViews (get_by_text names.old) }
+    requires known { AreKnownNames pass.old.seen (get_by_text names.old) }
+    ensures told { (line : ℕ) → IsToldBy book.now pass.old pass.new (session_state (get_by_text names.old) (length pass.old.seen) txn.now) line (resolving name) (get_by_text names.new) (transaction_in txn.now) result }
+    ensures passed { HasPassed book.now pass.old pass.new }
+    ensures views { AreViews (get_by_text names.new) }
+    ensures known { AreKnownNames pass.new.seen (get_by_text names.new) }
+{
+    resolve(alloc, rt, book, pass, names, txn, name.items())
+}

@@ -1,0 +1,13 @@
+//! A session: its lines one after another, and what it has answered.
+//!
+//! Crates above rest on one relation, `IsSessionOn`: the log of a session is the printed one of a run of the history's session on the
+//! lines that it was given, over what its pass has seen.
+#![tactic(auto)]
+
+mod answering;
+mod commands;
+mod scripts;
+mod session;
+
+pub use scripts::run_script;
+pub use session::Session;

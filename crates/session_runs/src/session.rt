@@ -1,0 +1,109 @@
+// A session.
+ghost use Rattle.std.specs.Prelude.{◌≡◌, ℕ, ◌+◌, List, [], ◌∷◌, ◌++◌, length, false, true, Option, Some, None, OnOk, OnErr};
+ghost use Rattle.answer_text.specs.declared.answer.Body.{Body as BodyOf};
+ghost use Rattle.answer_text.specs.declared.answer.Body.TheVariants as printed;
+ghost use Rattle.history.specs.Lines.{Line};
+ghost use Rattle.line_meanings.specs.Meanings.{line_of_bytes};
+ghost use Rattle.indexmap.specs.IndexMap.{get_by_text};
+ghost use Rattle.session_runs.specs.Session.{HasMounts, MayGoOn, IsSessionOn, session_with};
+ghost use Rattle.session_turns.specs.Turns.{HasPassed, IsRested};
+ghost use Rattle.state_laws.specs.Agreement.{Opening};
+ghost use Rattle.turn_book.specs.Passes.{BookView};
+
+use crate::answering::answered;
+use answer_text::{Answer, Body};
+use cells::Name;
+use indexmap::IndexMap;
+use kv_face::KvStore;
+use sessions::Names;
+use shared_state::State;
+use std::alloc::{AllocError, Global};
+use std::sync::Wait;
+use transactions::{Gate, Txn};
+use turn_book::{Pass, TurnBook};
+
+/// A session: its pass over a book, the views that its names are bound to, the transaction that stands, and what it has answered.
+#[derive(Drop)]
+pub struct Session<K: KvStore> {
+    pub pass: Pass<State<K>>,
+    pub names: Names,
+    pub txn: Option<Txn>,
+    pub log: Vec<Answer>,
+    /// Whether memory was wanting, so that no further line is answered.
+    pub ended: bool,
+}
+
+impl<K: KvStore> Session<K> {
+    /// A session before its first line. It takes no memory.
+    pub fn new(alloc: Global, pass: Pass<State<K>>) -> Session<K>
+        ensures pass { result.pass ≡ pass }
+        ensures log { result.log.items ≡ [] }
+        ensures going { result.ended ≡ false }
+        ensures on { (book : BookView Opening) → IsRested book pass → pass.seen ≡ [] → IsSessionOn book (session_with result.pass (get_by_text result.names) result.txn result.log.items result.ended) [] }
+    {
+        Session {
+            pass,
+            names: IndexMap::new(alloc),
+            txn: None,
+            log: Vec::new(alloc),
+            ended: false,
+        }
+    }
+
+    /// Answers a line that isn't blank, whose number is one more than that of the lines before it; these are the names of the mounts. One
+    /// answer is added to the log, and no turn is held at return. Where the answer is want of memory the session has ended.
+    ///
+    /// # Errors
+    /// There was no memory for the answer: none is added, nothing is done, and the session has ended.
+    pub fn step<R: Wait, G: Gate>(
+        &mut self,
+        alloc: Global,
+        rt: &R,
+        book: &TurnBook<State<K>>,
+        mounts: &[Name],
+        line: u64,
+        bytes: &[u8],
+        gate: &G,
+    ) -> Result<(), AllocError>
+        requires going { self.old.ended ≡ false }
+        requires on { MayGoOn book.now self.old.pass (get_by_text self.old.names) self.old.txn }
+        requires mounts { HasMounts book.now mounts.now }
+        ensures run { OnOk result ((lines : List (Option Line)) → line ≡ length lines + 1 → IsSessionOn book.now (session_with self.old.pass (get_by_text self.old.names) self.old.txn self.old.log.items self.old.ended) lines → IsSessionOn book.now (session_with self.new.pass (get_by_text self.new.names) self.new.txn self.new.log.items self.new.ended) (lines ++ Some (line_of_bytes mounts.now bytes.now) ∷ [])) }
+        ensures log { OnOk result ((body : BodyOf) × (self.new.log.items ≡ self.old.log.items ++ record { line = line; body = body } ∷ []) × (body ≡ printed.Memory → self.new.ended ≡ true) × (self.new.ended ≡ true → body ≡ printed.Memory)) }
+        ensures passed { HasPassed book.now self.old.pass self.new.pass }
+        ensures on { self.new.ended ≡ false → MayGoOn book.now self.new.pass (get_by_text self.new.names) self.new.txn }
+        ensures ended { OnErr result (self.new.ended ≡ true) }
+        ensures same { OnErr result ((self.new.pass ≡ self.old.pass) × (self.new.log.items ≡ self.old.log.items)) }
+    {
+        if self.log.reserve(1).is_err() {
+            self.ended = true;
+            return Err(AllocError);
+        }
+        gate.before(rt, self.pass.number(), line);
+        let body = answered(
+            alloc,
+            rt,
+            book,
+            &mut self.pass,
+            &mut self.names,
+            &mut self.txn,
+            mounts,
+            line,
+            bytes,
+            gate,
+        );
+        self.ended = is_memory(&body);
+        self.log.push_reserved(Answer { line, body });
+        Ok(())
+    }
+}
+
+fn is_memory(body: &Body) -> bool
+    ensures is { result ≡ true → body.now ≡ printed.Memory }
+    ensures no { body.now ≡ printed.Memory → result ≡ true }
+{
+    match body {
+        Body::Memory => true,
+        _ => false,
+    }
+}
