@@ -1,3 +1,0 @@
-pub mod MountLaws
-pub mod ViewLaws
-pub mod SeatLaws

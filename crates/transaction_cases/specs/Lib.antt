@@ -1,3 +1,0 @@
-pub mod Mounted
-pub mod Shapes
-pub mod Seats
