@@ -1,0 +1,175 @@
+-- Each line that has a form is on the one mount, and brings in no array.
+use Rattle.std.proofs.Common.{◌≡◌, ℕ, List, [], ◌∷◌, Option, Some, None, Result, Ok, Err, refl, ap}
+use Rattle.std.specs.Prelude.{codes, ◌==◌}
+use Rattle.serde_json.specs.Data.{Data}
+use Rattle.serde_json.specs.Find.{get}
+use Rattle.json_forms.specs.Bytes.{data_of}
+use Rattle.json_forms.specs.Members.{least_unknown}
+use Rattle.spec_forms.specs.declared.error.SpecError.{SpecError}
+use Rattle.spec_open.specs.Specs.{plan_of_spec}
+use Rattle.spec_open.specs.declared.plan.OpenPlan.{OpenPlan}
+use Rattle.spec_open.proofs.Laws.{plan_sound}
+use Rattle.history.specs.Alone.{IsLineOn}
+use Rattle.history.specs.Bound.{IsLineWithin}
+use Rattle.line_forms.specs.Form.{Form, opening, viewing, joining, reading, writing, beginning, committing, aborting, resizing, resolving}
+use Rattle.line_forms.specs.declared.command.Command.TheVariants.{Open}
+use Rattle.line_forms.specs.declared.command.JoinForm.{JoinForm}
+use Rattle.line_forms.specs.Lines.{command_of_line, command_of_found, command_in, command_count, other_form, small_form}
+use Rattle.line_forms.specs.Reads.{read_form, read_fault, read_so, read_as, down_at, write_form, write_fault, written, written_as, written_by}
+use Rattle.line_forms.specs.Small.{open_form, open_fault, opened, opened_as, plan_in, plan_read, begin_form, flags_given, word_form, not_true, resize_form, resize_fault, resized, resized_as, shape_at, resolve_form, resolved}
+use Rattle.line_forms.specs.Views.{view_form, of_form, view_fault, viewed, viewed_as, viewed_of, joined, join_in, join_as, join_by, join_of, overlay_form, concat_form, stack_form}
+use Rattle.line_parts.specs.Parts.{◌>>=◌, has, needed, name_in, steps_in, earlier, no_name}
+use Rattle.line_parts.specs.Within.{transform_in}
+use Rattle.line_parts.specs.declared.error.LineError.{LineError}
+use Rattle.line_answers.specs.Refusals.{form_error}
+use Rattle.line_meanings.specs.Meanings.{line_of, line_in, line_of_bytes, refused_by}
+use Rattle.line_meanings.proofs.Laws.{line_on, line_within, changes_within, join_within}
+use Rattle.mount_lines.proofs.Given.{Gives, one, nothing, then, sound, inside, either}
+
+module _ (mount : List ℕ) where
+  -- what the form asks is on the mount, and within what it is given
+  pub record IsOfMount (form : Form) : Type 0 where
+    pub on : IsLineOn mount (line_of form)
+    pub within : IsLineWithin (line_of form)
+
+  abbrev Good : Result Form LineError → Type 0
+  Good = Gives IsOfMount
+
+  plan_from : (r : Result OpenPlan SpecError) (plan : OpenPlan) → plan_read r ≡ Ok plan → r ≡ Ok plan
+  plan_from (Ok p) plan is = let same : p ≡ plan = cc in ap (λ q. Ok q) same
+  plan_from (Err e) plan is = absurd (let no_such : ⊥ = cc in no_such)
+
+  planned : (spec : Option Data) (plan : OpenPlan) → (needed (codes "spec") spec >>= (λ s. plan_read (plan_of_spec (mount ∷ []) s))) ≡ Ok plan → (s : Data) × (plan_of_spec (mount ∷ []) s ≡ Ok plan)
+  planned None plan is = absurd (let no_such : ⊥ = cc in no_such)
+  planned (Some s) plan is = (s, plan_from (plan_of_spec (mount ∷ []) s) plan is)
+
+  opens : (d : Data) (name : List ℕ) (plan : OpenPlan) → plan_in (mount ∷ []) d ≡ Ok plan → IsOfMount (opening name plan)
+  unfolding plan_in
+  opens d name plan is =
+      let spec = planned (get (codes "spec") d) plan is in
+      let fit = plan_sound (mount ∷ []) spec.0 plan spec.1 in
+      record { on = line_on mount (Open name plan) fit; within = line_within (mount ∷ []) (Open name plan) fit }
+
+  open_good : (d : Data) → Good (open_form (mount ∷ []) d)
+  unfolding open_form
+  open_good d =
+      sound IsOfMount (open_fault d) (opened (mount ∷ []) d)
+      (then IsOfMount (name_in (codes "open") d) (opened_as (mount ∷ []) d)
+      (λ name is. then IsOfMount (plan_in (mount ∷ []) d) (λ plan. Ok (opening name plan)) (λ plan are. one IsOfMount (opening name plan) (opens d name plan are))))
+
+  read_good : (d : Data) → Good (read_form d)
+  unfolding read_form
+  read_good d =
+      sound IsOfMount (read_fault d) (read_so (down_at d) d)
+      (then IsOfMount (name_in (codes "read") d) (read_as (down_at d) d)
+      (λ name is. then IsOfMount (steps_in d) (λ steps. Ok (reading name steps (down_at d))) (λ steps are. one IsOfMount (reading name steps (down_at d)) (record { on = tt; within = changes_within None steps }))))
+
+  write_good : (d : Data) → Good (write_form d)
+  unfolding write_form
+  write_good d =
+      sound IsOfMount (write_fault d) (written d)
+      (then IsOfMount (name_in (codes "write") d) (written_as d)
+      (λ name is. then IsOfMount (steps_in d) (written_by d name)
+      (λ steps are. then IsOfMount (needed (codes "values") (get (codes "values") d)) (λ values. Ok (writing name steps values))
+      (λ values so. one IsOfMount (writing name steps values) (record { on = tt; within = changes_within None steps })))))
+
+  of_good : (d : Data) → Good (of_form d)
+  unfolding of_form
+  of_good d =
+      inside IsOfMount (codes "transform") (view_fault d) (transform_in d) (viewed d)
+      (λ transform. then IsOfMount (name_in (codes "view") d) (viewed_as transform d)
+      (λ name is. then IsOfMount (name_in (codes "of") d) (viewed_of transform d name)
+      (λ of are. then IsOfMount (steps_in d) (λ steps. Ok (viewing name of transform steps))
+      (λ steps so. one IsOfMount (viewing name of transform steps) (record { on = tt; within = changes_within transform steps })))))
+
+  joined_good : (k : List ℕ) (fault : Option (List ℕ)) (form : Option JoinForm) (layers : Option (List (List ℕ))) (d : Data) → Good (joined k fault form layers d)
+  unfolding joined
+  joined_good k fault form layers d =
+      inside IsOfMount (codes "transform") fault (transform_in d) (join_in k form layers d)
+      (λ transform. then IsOfMount (name_in (codes "view") d) (join_as k form layers d transform)
+      (λ name is. then IsOfMount (needed (codes "axis") form) (join_by k layers d transform name)
+      (λ kind are. then IsOfMount (needed k layers) (join_of d transform name kind)
+      (λ names so. then IsOfMount (steps_in d) (λ steps. Ok (joining name kind names transform steps))
+      (λ steps all. one IsOfMount (joining name kind names transform steps) (record { on = tt; within = (join_within kind, changes_within transform steps) }))))))
+
+  overlay_good : (d : Data) → Good (overlay_form d)
+  unfolding overlay_form
+  overlay_good d = joined_good _ _ _ _ d
+
+  concat_good : (d : Data) → Good (concat_form d)
+  unfolding concat_form
+  concat_good d = joined_good _ _ _ _ d
+
+  stack_good : (d : Data) → Good (stack_form d)
+  unfolding stack_form
+  stack_good d = joined_good _ _ _ _ d
+
+  view_good : (d : Data) → Good (view_form d)
+  unfolding view_form
+  view_good d =
+      either IsOfMount (has (codes "concat") d) _ _ (concat_good d)
+      (either IsOfMount (has (codes "of") d) _ _ (of_good d)
+      (either IsOfMount (has (codes "overlay") d) _ _ (overlay_good d)
+      (either IsOfMount (has (codes "stack") d) _ _ (stack_good d) (of_good d))))
+
+  begin_good : (d : Data) → Good (begin_form d)
+  unfolding begin_form
+  begin_good d =
+      inside IsOfMount (codes "begin") (least_unknown (codes "begin" ∷ []) d) (flags_given (get (codes "begin") d)) (λ flags. Ok (beginning flags.0 flags.1))
+      (λ flags. one IsOfMount (beginning flags.0 flags.1) (record { on = tt; within = tt }))
+
+  word_good : (k : List ℕ) (form : Form) (d : Data) → IsOfMount form → Good (word_form k form d)
+  unfolding word_form
+  word_good k form d keeps = sound IsOfMount (earlier (least_unknown (k ∷ []) d) (not_true k d)) (Ok form) (one IsOfMount form keeps)
+
+  resize_good : (d : Data) → Good (resize_form d)
+  unfolding resize_form
+  resize_good d =
+      sound IsOfMount (resize_fault d) (resized (shape_at d) d)
+      (then IsOfMount (name_in (codes "resize") d) (resized_as (shape_at d))
+      (λ name is. then IsOfMount (needed (codes "shape") (shape_at d)) (λ sizes. Ok (resizing name sizes)) (λ sizes are. one IsOfMount (resizing name sizes) (record { on = tt; within = tt }))))
+
+  resolve_good : (d : Data) → Good (resolve_form d)
+  unfolding resolve_form
+  resolve_good d =
+      sound IsOfMount (earlier (least_unknown (codes "resolve" ∷ []) d) (no_name (codes "resolve") d)) (resolved d)
+      (then IsOfMount (name_in (codes "resolve") d) (λ name. Ok (resolving name)) (λ name is. one IsOfMount (resolving name) (record { on = tt; within = tt })))
+
+  small_good : (d : Data) → Good (small_form d)
+  unfolding small_form
+  small_good d =
+      either IsOfMount (has (codes "begin") d) _ _ (begin_good d)
+      (either IsOfMount (has (codes "commit") d) _ _ (word_good (codes "commit") committing d (record { on = tt; within = tt }))
+      (either IsOfMount (has (codes "abort") d) _ _ (word_good (codes "abort") aborting d (record { on = tt; within = tt }))
+      (either IsOfMount (has (codes "resize") d) _ _ (resize_good d) (resolve_good d))))
+
+  other_good : (d : Data) → Good (other_form d)
+  unfolding other_form
+  other_good d =
+      either IsOfMount (has (codes "view") d) _ _ (view_good d)
+      (either IsOfMount (has (codes "read") d) _ _ (read_good d)
+      (either IsOfMount (has (codes "write") d) _ _ (write_good d) (small_good d)))
+
+  in_good : (d : Data) → Good (command_in (mount ∷ []) d)
+  unfolding command_in
+  in_good d = either IsOfMount (has (codes "open") d) _ _ (open_good d) (other_good d)
+
+  found_good : (found : Option Data) → Good (command_of_found (mount ∷ []) found)
+  found_good None = nothing IsOfMount _
+  found_good (Some d) = either IsOfMount (command_count d == 1) (command_in (mount ∷ []) d) _ (in_good d) (nothing IsOfMount _)
+
+  refused_on : (fault : Option _) → IsLineOn mount (refused_by fault)
+  refused_on None = tt
+  refused_on (Some f) = tt
+
+  refused_within : (fault : Option _) → IsLineWithin (refused_by fault)
+  refused_within None = tt
+  refused_within (Some f) = tt
+
+  line_good : (r : Result Form LineError) → Good r → IsLineOn mount (line_in r) × IsLineWithin (line_in r)
+  line_good (Ok form) keeps = let each = keeps.each form refl in (each.on, each.within)
+  line_good (Err e) keeps = (refused_on (form_error e), refused_within (form_error e))
+
+  -- the bytes of a line
+  pub bytes_of_mount : (bytes : List ℕ) → IsLineOn mount (line_of_bytes (mount ∷ []) bytes) × IsLineWithin (line_of_bytes (mount ∷ []) bytes)
+  bytes_of_mount bytes = line_good (command_of_line (mount ∷ []) bytes) (found_good (data_of bytes))
