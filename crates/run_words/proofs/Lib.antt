@@ -1,0 +1,7 @@
+mod Numbers
+mod Spelling
+mod Going
+mod Texts
+mod Choices
+mod Meaning
+pub mod Laws
