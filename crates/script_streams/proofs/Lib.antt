@@ -1,0 +1,3 @@
+mod Texts
+mod Pieces
+pub mod Laws

@@ -1,0 +1,16 @@
+use Rattle.std.proofs.Common.{◌++◌}
+use Rattle.std.proofs.lemmas.Result.{on_ok_weaker}
+use Rattle.script_streams.proofs.Pieces.{under_behind, part_behind, part_longer}
+use Rattle.script_streams.proofs.writing.put_line.Goals as goal
+
+pub returns-in_err-write_waiting-clause-part : goal.returns-in_err-write_waiting-clause-part
+returns-in_err-write_waiting-clause-part g c = λ before is. part_longer _ before c.args.waiting.now.items c.args.line.now (c.in_err-write_waiting.ensures.part before is)
+
+pub returns-clause-put : goal.returns-clause-put
+returns-clause-put g c =
+    on_ok_weaker c.put_alone.result
+    (λ put before is. under_behind _ before c.args.waiting.now.items c.args.line.now c.put_alone.new.waiting.items (put (before ++ c.args.waiting.now.items) (c.in_ok-write_waiting.ensures.all before is)))
+    c.put_alone.ensures.put
+
+pub returns-clause-part : goal.returns-clause-part
+returns-clause-part g c = λ before is. part_behind _ before c.args.waiting.now.items c.args.line.now (c.put_alone.ensures.part (before ++ c.args.waiting.now.items) (c.in_ok-write_waiting.ensures.all before is))
