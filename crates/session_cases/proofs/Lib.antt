@@ -1,0 +1,2 @@
+pub mod MountLaws
+pub mod SessionLaws
