@@ -1,0 +1,60 @@
+// The list of mounts.
+ghost use Rattle.std.specs.Prelude.{◌≡◌, IfOk, is_some};
+ghost use Rattle.kv_mounts.specs.Parts.{AreMounts};
+ghost use Rattle.program_mounts.specs.Parts.{memory_part, file_part, parts_of};
+
+use crate::store::Store;
+use cells::Name;
+use kv_face::MemoryKv;
+use kv_mounts::{FileKv, Mount};
+use std::alloc::{AllocError, Global};
+use std::fs::Files;
+
+/// The mount `memory`, whose store is empty and makes all changes together; and behind it, where a folder is given, the mount `file`, whose
+/// store is the files below it. An empty text is the current folder.
+///
+/// # Errors
+/// An allocation failed.
+pub fn new_mounts<R: Files + AllocGlobal + Drop>(
+    rt: R,
+    folder: Option<&str>,
+) -> Result<Vec<Mount<Store<R>>>, AllocError>
+    ensures are { IfOk result (λ m. AreMounts m.items) }
+    ensures parts { IfOk result (λ m. m.items ≡ parts_of (is_some folder.entry)) }
+{
+    let mounts = listed(rt, folder)?;
+    Ok(mounts)
+}
+
+fn listed<R: Files + AllocGlobal + Drop>(
+    rt: R,
+    folder: Option<&str>,
+) -> Result<Vec<Mount<Store<R>>>, AllocError>
+    ensures { IfOk result (λ m. m.items ≡ parts_of (is_some folder.entry)) }
+{
+    let mut mounts = Vec::new(rt.alloc());
+    mounts.push(memory_mount(rt.alloc())?)?;
+    if let Some(folder) = folder {
+        mounts.push(file_mount(rt, folder)?)?;
+    }
+    Ok(mounts)
+}
+
+fn memory_mount<R: Files + AllocGlobal + Drop>(alloc: Global) -> Result<Mount<Store<R>>, AllocError>
+    ensures { IfOk result (λ m. m ≡ memory_part) }
+{
+    let name = Name::wrap(String::from_str(alloc, "memory")?);
+    let store = Store::Memory(MemoryKv::new(alloc, true));
+    Ok(Mount { name, store })
+}
+
+fn file_mount<R: Files + AllocGlobal + Drop>(
+    rt: R,
+    folder: &str,
+) -> Result<Mount<Store<R>>, AllocError>
+    ensures { IfOk result (λ m. m ≡ file_part) }
+{
+    let name = Name::wrap(String::from_str(rt.alloc(), "file")?);
+    let store = Store::Files(FileKv::new(rt, folder)?);
+    Ok(Mount { name, store })
+}

@@ -1,0 +1,56 @@
+// A store of a program.
+use kv_face::{Change, Failed, KvError, KvStore, MemoryKv};
+use kv_mounts::FileKv;
+use std::fs::Files;
+
+/// A store in memory, or the files below a folder.
+#[derive(Drop)]
+pub enum Store<R: Files + AllocGlobal + Drop> {
+    Memory(MemoryKv),
+    Files(FileKv<R>),
+}
+
+impl<R: Files + AllocGlobal + Drop> KvStore for Store<R> {
+    ghost use Rattle.std.specs.Prelude.{None};
+    ghost use Rattle.program_mounts.specs.Stores.{contents_of, faults_of, prefixes_of, standing_of, change_count_of};
+
+    ghost contents = { contents_of };
+
+    ghost faults = { faults_of };
+
+    ghost prefixes = { prefixes_of };
+
+    ghost names = { λ s. None };
+
+    ghost standing = { standing_of };
+
+    ghost change_count = { change_count_of };
+
+    fn get(&mut self, key: &str) -> Result<Option<Vec<u8>>, KvError> {
+        match self {
+            Store::Memory(store) => store.get(key),
+            Store::Files(store) => store.get(key),
+        }
+    }
+
+    fn together(&self, changes: &[Change], from: usize) -> bool {
+        match self {
+            Store::Memory(store) => store.together(changes, from),
+            Store::Files(store) => store.together(changes, from),
+        }
+    }
+
+    fn apply(&mut self, changes: &[Change]) -> Result<(), KvError> {
+        match self {
+            Store::Memory(store) => store.apply(changes),
+            Store::Files(store) => store.apply(changes),
+        }
+    }
+
+    fn finish(&mut self) -> Result<(), Failed> {
+        match self {
+            Store::Memory(store) => store.finish(),
+            Store::Files(store) => store.finish(),
+        }
+    }
+}
