@@ -1,0 +1,9 @@
+pub mod Chosen
+pub mod Dealt
+pub mod Fresh
+pub mod Kept
+pub mod Logs
+pub mod Mounts
+pub mod Sends
+pub mod Worked
+pub mod Laws
