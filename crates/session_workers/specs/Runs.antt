@@ -8,7 +8,7 @@ use Rattle.line_answers.specs.Bodies.{answer_of}
 use Rattle.serial_runs.specs.Runs.{AreLogs}
 use Rattle.session_runs.specs.Scripts.{asked_by}
 
--- these logs are printed ones of sessions that ran the scripts over this history, with these names of mounts
+-- these logs are printed ones of sessions that ran the scripts, or some first lines of theirs, over this history, with these names of mounts
 pub record ArePrinted (fixed : Fixed) (mounts scripts : List (List ℕ)) (history : History) (logs : List (List Answer)) : Type 0 where
   pub answers : List (List old.Answer)
   pub printed : logs ≡ map (map answer_of) answers

@@ -16,7 +16,7 @@ use session_runs::Session;
 use shared_state::State;
 use turn_book::Pass;
 
-/// Whether no session ended without an answer to a line.
+/// True only where no session ended without an answer to a line.
 pub(crate) fn are_full<K: KvStore>(row: &[Worker<K>]) -> bool
     ensures { result ≡ true → All (λ w. All (λ s. IsFull (session_with s.pass (get_by_text s.names) s.txn s.log.items s.ended)) w.sessions.items) row.now }
 {

@@ -27,7 +27,7 @@ use turn_book::{Pass, TurnBook};
 pub struct Ended<K: KvStore> {
     pub state: State<K>,
     pub logs: Vec<List<Answer>>,
-    /// Whether no session ended without an answer to a line, for want of memory.
+    /// True only where each session answered all its lines, or those up to an answer that memory was wanting.
     pub whole: bool,
 }
 
