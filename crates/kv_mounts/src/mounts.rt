@@ -64,7 +64,8 @@ impl<K: KvStore> Mounts<K> {
 
     /// The mounts, in their order.
     pub fn into_list(self) -> Vec<Mount<K>>
-        ensures { result.items ≡ self }
+        ensures list { result.items ≡ self }
+        ensures mounts { AreMounts result.items }
     {
         self.list
     }
