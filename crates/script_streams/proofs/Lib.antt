@@ -1,3 +1,5 @@
 mod Texts
+mod Asked
 mod Pieces
+mod Given
 pub mod Laws

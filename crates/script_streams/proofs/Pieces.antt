@@ -35,14 +35,14 @@ part_more then now before text waiting more behind whole under part is = record 
 }
 
 -- the text of one item more
-text_more : {X : Type 0} (f : X → List ℕ) (start : List ℕ) (xs : List X) (place : ℕ) (x d : X) → place < length xs → x ≡ get_or xs place d → (start ++ flat_map f (take place xs)) ++ f x ≡ start ++ flat_map f (take (place + 1) xs)
+pub text_more : {X : Type 0} (f : X → List ℕ) (start : List ℕ) (xs : List X) (place : ℕ) (x d : X) → place < length xs → x ≡ get_or xs place d → (start ++ flat_map f (take place xs)) ++ f x ≡ start ++ flat_map f (take (place + 1) xs)
 text_more f start xs place x d within is =
     ap (λ y. (start ++ flat_map f (take place xs)) ++ f y) is
     ∙ flat_map_more f start (take place xs) (get_or xs place d)
     ∙ ap (λ ys. start ++ flat_map f ys) (sym (take_more xs place d within))
 
 -- the text before an item, that of the item, and that of all behind it
-text_parts : {X : Type 0} (f : X → List ℕ) (start : List ℕ) (xs : List X) (place : ℕ) (x d : X) → place < length xs → x ≡ get_or xs place d → ((start ++ flat_map f (take place xs)) ++ f x) ++ flat_map f (drop (place + 1) xs) ≡ start ++ flat_map f xs
+pub text_parts : {X : Type 0} (f : X → List ℕ) (start : List ℕ) (xs : List X) (place : ℕ) (x d : X) → place < length xs → x ≡ get_or xs place d → ((start ++ flat_map f (take place xs)) ++ f x) ++ flat_map f (drop (place + 1) xs) ≡ start ++ flat_map f xs
 text_parts f start xs place x d within is =
     ap (λ t. t ++ flat_map f (drop (place + 1) xs)) (text_more f start xs place x d within is)
     ∙ append_assoc start (flat_map f (take (place + 1) xs)) (flat_map f (drop (place + 1) xs))

@@ -36,13 +36,14 @@ pub record IsPassedAt (told : Contents) (names : List (List ℕ)) (place : ℕ) 
   pub short : AreShort before
   pub passed : (2 ^ 26 < length text) ⊎ (2 ^ 28 < sum_by length before + length text)
 
--- why scripts were not read: what is said of the place stands where scripts are told
+-- what holds of the place that an error tells: it is one of the names' places; where scripts are told, those before it can be read, and at
+-- `TooLong` the one at it passes a limit, by itself or with them. Of want of memory nothing is said
 abbrev pub IsCause : Option Contents → List (List ℕ) → Unread → Type 0
 IsCause contents names (Failed place) = (place < length names) × WhereTold contents (λ told. CanBeRead told (take place names))
 IsCause contents names (TooLong place) = (place < length names) × WhereTold contents (λ told. IsPassedAt told names place)
 IsCause contents names Memory = Unit {0}
 
--- the scripts failed, or have none of a name
+-- the answer is that a script can't be read
 abbrev pub IsFailure : Unread → Type 0
 IsFailure (Failed place) = Unit {0}
 IsFailure (TooLong place) = ⊥

@@ -1,5 +1,5 @@
 -- What all answers of a run say together.
-use Rattle.std.specs.Prelude.{ℕ, List, Bool, true, false, if◌then◌else◌}
+use Rattle.std.specs.Prelude.{List, Bool, true, false}
 use Rattle.std.specs.List.{list_all, list_any}
 use Rattle.answer_text.specs.Status.{is_ok_answer}
 use Rattle.answer_text.specs.declared.answer.Answer.{Answer}
@@ -9,10 +9,6 @@ use Rattle.answer_text.specs.declared.answer.Body.TheVariants.{Memory}
 -- each answer of each log says that its line did what it asks for
 abbrev pub are_all_ok : List (List Answer) → Bool
 are_all_ok logs = list_all (list_all is_ok_answer) logs
-
--- 0 where every answer of every log is Ok, else 1
-abbrev pub status_of_logs : List (List Answer) → ℕ
-status_of_logs logs = if are_all_ok logs then 0 else 1
 
 abbrev pub is_memory_body : Body → Bool
 is_memory_body Memory = true

@@ -6,13 +6,17 @@
 
 mod files;
 mod output;
+mod reader;
 mod reading;
 mod standing;
+mod writer;
 mod writing;
 
 pub use files::FileScripts;
 pub use kv_face::{MemoryScripts, MemorySink, Scripts, Sink};
 pub use output::StdoutSink;
+pub use reader::Reader;
 pub use reading::{Unread, read_scripts};
 pub use standing::{are_all_ok, has_memory};
+pub use writer::Writer;
 pub use writing::{Unwritten, write_logs};

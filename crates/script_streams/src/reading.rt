@@ -4,8 +4,10 @@ ghost use Rattle.std.specs.FinMap as finmap;
 ghost use Rattle.kv_face.specs.Streams.{WhereTold, Rises, IsMissing};
 ghost use Rattle.script_streams.specs.Reading.{AreScripts, AreShort, IsCause, IsFailure, names_in, texts_in};
 ghost use Rattle.script_streams.specs.Places.{IsCauseAt};
+ghost use Rattle.script_streams.specs.Asking.{IsAnswerAt, IsRun};
 
-use kv_face::{ReadError, Scripts, read_script};
+use crate::reader::Reader;
+use kv_face::ReadError;
 use std::alloc::{AllocError, AllocFailed, Global};
 use thiserror::Error;
 
@@ -50,7 +52,7 @@ impl<T: Drop> From<AllocFailed<T>> for Unread {
 /// # Errors
 /// Script by script: `Failed` where there is none of the name or it can't be read, `TooLong` where it passes a limit, by itself or
 /// together with those before it; `Memory` at any time.
-pub fn read_scripts<S: Scripts>(
+pub fn read_scripts<S: Reader>(
     alloc: Global,
     scripts: &mut S,
     names: &[String],
@@ -62,11 +64,13 @@ pub fn read_scripts<S: Scripts>(
     ensures short { IfOk result (λ read. AreShort (texts_in read.items)) }
     // A script that is missing among told ones is never passed over.
     ensures missing { (name : List ℕ) → Contains (names_in names.now) name → IsMissing (S.contents scripts.old) name → IsErr result }
-    // The place of an error is the first that could not be read; too long is only what passes a limit.
+    // Scripts before the place of an error can be read; too long is only what passes a limit.
     ensures cause { IfErr result (IsCause (S.contents scripts.old) (names_in names.now)) }
     // Scripts fail only where their count of faults rose.
     ensures faults { Rises (S.faults scripts.old) (S.faults scripts.new) (IsErrAnd result IsFailure) }
     ensures contents { S.contents scripts.new ≡ S.contents scripts.old }
+    // The names are asked for in their order, each once and none behind the first whose text wasn't given; the answer is that of the last.
+    ensures run { IsRun S.gives scripts.old (names_in names.now) result scripts.new }
 {
     let mut read = Vec::with_capacity(alloc, names.len())?;
     let mut room = MOST_BYTES;
@@ -79,7 +83,7 @@ pub fn read_scripts<S: Scripts>(
 }
 
 // The script of a name, which stands at this place, where it has no more bytes than there is room for.
-fn read_at<S: Scripts>(
+fn read_at<S: Reader>(
     alloc: Global,
     scripts: &mut S,
     name: &str,
@@ -91,8 +95,9 @@ fn read_at<S: Scripts>(
     ensures cause { IfErr result (IsCauseAt (S.contents scripts.old) name.now room place) }
     ensures faults { Rises (S.faults scripts.old) (S.faults scripts.new) (IsErrAnd result IsFailure) }
     ensures contents { S.contents scripts.new ≡ S.contents scripts.old }
+    ensures answer { IsAnswerAt S.gives scripts.old name.now room place result scripts.new }
 {
-    match read_script(alloc, scripts, name) {
+    match scripts.read(alloc, name) {
         Ok(bytes) if bytes.len() > room => Err(Unread::TooLong { place }),
         Ok(bytes) => Ok(bytes),
         Err(ReadError::Failed) => Err(Unread::Failed { place }),

@@ -3,10 +3,12 @@ ghost use Rattle.std.specs.Prelude.{◌≡◌, ◌++◌, [], Some, OnOk, IsErr, 
 ghost use Rattle.answer_text.specs.Text.{answer_text, text_of_log};
 ghost use Rattle.kv_face.specs.Streams.{WhereTold, Rises, IsPartOf};
 ghost use Rattle.script_streams.specs.Writing.{text_of_logs, IsUnderWay};
+ghost use Rattle.script_streams.specs.Putting.{IsPutting};
 
+use crate::writer::Writer;
 use answer_text::{Answer, render};
 use cells::List;
-use kv_face::{Failed, Sink, write_all};
+use kv_face::Failed;
 use std::alloc::{AllocError, Global};
 use thiserror::Error;
 
@@ -47,7 +49,7 @@ impl From<Failed> for Unwritten {
 ///
 /// # Errors
 /// `Failed` where the sink failed, or `Memory`, whichever comes first.
-pub fn write_logs<O: Sink>(
+pub fn write_logs<O: Writer>(
     alloc: Global,
     sink: &mut O,
     logs: &[List<Answer>],
@@ -58,6 +60,8 @@ pub fn write_logs<O: Sink>(
     ensures part { WhereTold (O.content sink.old) (λ before. IsPartOf (O.content sink.new) before (text_of_logs logs.now)) }
     // The sink fails only where its count of faults rose.
     ensures faults { Rises (O.faults sink.old) (O.faults sink.new) (IsErrOf result Unwritten.Failed) }
+    // The text is given in pieces, each once and none behind the first that wasn't taken; the answer is by these.
+    ensures run { IsPutting O.takes sink.old (text_of_logs logs.now) result [] sink.new }
 {
     let mut waiting = Vec::with_capacity(alloc, PIECE)?;
     for log in logs {
@@ -67,7 +71,7 @@ pub fn write_logs<O: Sink>(
 }
 
 // Puts the lines of a log behind what waits.
-fn put_log<O: Sink>(
+fn put_log<O: Writer>(
     alloc: Global,
     sink: &mut O,
     waiting: &mut Vec<u8>,
@@ -76,6 +80,7 @@ fn put_log<O: Sink>(
     ensures put { OnOk result (WhereTold (O.content sink.old) (λ before. IsUnderWay (O.content sink.new) before (waiting.old.items ++ text_of_log log.now) waiting.new.items)) }
     ensures part { WhereTold (O.content sink.old) (λ before. IsPartOf (O.content sink.new) before (waiting.old.items ++ text_of_log log.now)) }
     ensures faults { Rises (O.faults sink.old) (O.faults sink.new) (IsErrOf result Unwritten.Failed) }
+    ensures run { IsPutting O.takes sink.old (waiting.old.items ++ text_of_log log.now) result waiting.new.items sink.new }
 {
     for answer in log {
         put_answer(alloc, sink, waiting, answer)?;
@@ -83,7 +88,7 @@ fn put_log<O: Sink>(
     Ok(())
 }
 
-fn put_answer<O: Sink>(
+fn put_answer<O: Writer>(
     alloc: Global,
     sink: &mut O,
     waiting: &mut Vec<u8>,
@@ -92,16 +97,18 @@ fn put_answer<O: Sink>(
     ensures put { OnOk result (WhereTold (O.content sink.old) (λ before. IsUnderWay (O.content sink.new) before (waiting.old.items ++ answer_text answer.now) waiting.new.items)) }
     ensures part { WhereTold (O.content sink.old) (λ before. IsPartOf (O.content sink.new) before (waiting.old.items ++ answer_text answer.now)) }
     ensures faults { Rises (O.faults sink.old) (O.faults sink.new) (IsErrOf result Unwritten.Failed) }
+    ensures run { IsPutting O.takes sink.old (waiting.old.items ++ answer_text answer.now) result waiting.new.items sink.new }
 {
     let line = render(alloc, answer)?;
     put_line(sink, waiting, line.as_slice())
 }
 
 // Puts a line behind what waits, which is written first where both together are more than a piece.
-fn put_line<O: Sink>(sink: &mut O, waiting: &mut Vec<u8>, line: &[u8]) -> Result<(), Unwritten>
+fn put_line<O: Writer>(sink: &mut O, waiting: &mut Vec<u8>, line: &[u8]) -> Result<(), Unwritten>
     ensures put { OnOk result (WhereTold (O.content sink.old) (λ before. IsUnderWay (O.content sink.new) before (waiting.old.items ++ line.now) waiting.new.items)) }
     ensures part { WhereTold (O.content sink.old) (λ before. IsPartOf (O.content sink.new) before (waiting.old.items ++ line.now)) }
     ensures faults { Rises (O.faults sink.old) (O.faults sink.new) (IsErrOf result Unwritten.Failed) }
+    ensures run { IsPutting O.takes sink.old (waiting.old.items ++ line.now) result waiting.new.items sink.new }
 {
     if waiting.len() + line.len() <= PIECE {
         waiting.extend_from_slice(line)?;
@@ -112,28 +119,30 @@ fn put_line<O: Sink>(sink: &mut O, waiting: &mut Vec<u8>, line: &[u8]) -> Result
 }
 
 // Puts a line where nothing waits: what is more than a piece is written.
-fn put_alone<O: Sink>(sink: &mut O, waiting: &mut Vec<u8>, line: &[u8]) -> Result<(), Unwritten>
+fn put_alone<O: Writer>(sink: &mut O, waiting: &mut Vec<u8>, line: &[u8]) -> Result<(), Unwritten>
     requires { waiting.old.items ≡ [] }
     ensures put { OnOk result (WhereTold (O.content sink.old) (λ before. IsUnderWay (O.content sink.new) before line.now waiting.new.items)) }
     ensures part { WhereTold (O.content sink.old) (λ before. IsPartOf (O.content sink.new) before line.now) }
     ensures faults { Rises (O.faults sink.old) (O.faults sink.new) (IsErrOf result Unwritten.Failed) }
+    ensures run { IsPutting O.takes sink.old line.now result waiting.new.items sink.new }
 {
     if line.len() <= PIECE {
         waiting.extend_from_slice(line)?;
         return Ok(());
     }
-    write_all(sink, line)?;
+    sink.put(line)?;
     Ok(())
 }
 
 // Writes what waits.
-fn write_waiting<O: Sink>(sink: &mut O, waiting: &mut Vec<u8>) -> Result<(), Unwritten>
+fn write_waiting<O: Writer>(sink: &mut O, waiting: &mut Vec<u8>) -> Result<(), Unwritten>
     ensures all { OnOk result (WhereTold (O.content sink.old) (λ before. O.content sink.new ≡ Some (before ++ waiting.old.items))) }
     ensures none { OnOk result (waiting.new.items ≡ []) }
     ensures part { WhereTold (O.content sink.old) (λ before. IsPartOf (O.content sink.new) before waiting.old.items) }
     ensures faults { Rises (O.faults sink.old) (O.faults sink.new) (IsErrOf result Unwritten.Failed) }
+    ensures run { IsPutting O.takes sink.old waiting.old.items result [] sink.new }
 {
-    write_all(sink, waiting.as_slice())?;
+    sink.put(waiting.as_slice())?;
     waiting.clear();
     Ok(())
 }

@@ -1,6 +1,7 @@
-use Rattle.std.proofs.Common.{◌++◌}
-use Rattle.std.proofs.lemmas.Result.{on_ok_weaker}
+use Rattle.std.proofs.Common.{◌++◌, [], refl}
+use Rattle.std.proofs.lemmas.Result.{on_ok_weaker, err_from_is_err_and}
 use Rattle.script_streams.proofs.Pieces.{under_behind, part_behind, part_longer}
+use Rattle.script_streams.proofs.Given.{waiting_all, goes_on}
 use Rattle.script_streams.proofs.writing.put_line.Goals as goal
 
 pub returns-in_err-write_waiting-clause-part : goal.returns-in_err-write_waiting-clause-part
@@ -14,3 +15,12 @@ returns-clause-put g c =
 
 pub returns-clause-part : goal.returns-clause-part
 returns-clause-part g c = λ before is. part_behind _ before c.args.waiting.now.items c.args.line.now (c.put_alone.ensures.part (before ++ c.args.waiting.now.items) (c.in_ok-write_waiting.ensures.all before is))
+
+pub returns-in_err-extend_from_slice-clause-run : goal.returns-in_err-extend_from_slice-clause-run
+returns-in_err-extend_from_slice-clause-run g c =
+    let exit = err_from_is_err_and c.from_residual.result c.from_residual.ensures.1 in
+    let text = c.args.waiting.now.items ++ c.args.line.now in
+    rw (exit.1, exit.2) (text, waiting_all g.O.Writer.takes c.args.sink.now text text refl)
+
+pub returns-clause-run : goal.returns-clause-run
+returns-clause-run g c = goes_on g.O.Writer.takes c.args.sink.now c.write_waiting.new.sink c.put_alone.new.sink c.args.waiting.now.items [] c.args.line.now c.put_alone.new.waiting.items c.put_alone.result c.in_ok-write_waiting.ensures.run c.put_alone.ensures.run

@@ -1,10 +1,12 @@
 use Rattle.std.proofs.Common.{◌≤◌, take}
 use Rattle.kv_face.specs.Streams.{WhereTold}
 use Rattle.script_streams.specs.Writing.{IsUnderWay, text_of_logs}
+use Rattle.script_streams.specs.Putting.{IsGoing}
 use Rattle.script_streams.proofs.writing.write_logs.Given as goal
 
 abbrev pub invariant-loop-log : goal.invariant-loop-log
 invariant-loop-log g l = record {
-  under : WhereTold (g.O.Sink.content l.fn.sink) (λ before. IsUnderWay (g.O.Sink.content l.sink) before (text_of_logs (take l.log-index l.logs)) l.waiting.items);
-  later : g.O.Sink.faults l.fn.sink ≤ g.O.Sink.faults l.sink;
+  under : WhereTold (g.O.Writer.content l.fn.sink) (λ before. IsUnderWay (g.O.Writer.content l.sink) before (text_of_logs (take l.log-index l.logs)) l.waiting.items);
+  later : g.O.Writer.faults l.fn.sink ≤ g.O.Writer.faults l.sink;
+  going : IsGoing g.O.Writer.takes l.fn.sink (text_of_logs (take l.log-index l.logs)) l.waiting.items l.sink;
 }
