@@ -1,7 +1,9 @@
 // The list of mounts.
-ghost use Rattle.std.specs.Prelude.{◌≡◌, IfOk, is_some};
+ghost use Rattle.std.specs.Prelude.{◌≡◌, IfOk, is_some, true, false};
+ghost use Rattle.kv_face.specs.Memory.{new_store};
 ghost use Rattle.kv_mounts.specs.Parts.{AreMounts};
 ghost use Rattle.program_mounts.specs.Parts.{memory_part, file_part, parts_of};
+ghost use Rattle.program_mounts.specs.declared.store.Store.TheVariants.{Memory, Files as InFiles};
 
 use crate::store::Store;
 use cells::Name;
@@ -43,9 +45,17 @@ fn listed<R: Files + AllocGlobal + Drop>(
 fn memory_mount<R: Files + AllocGlobal + Drop>(alloc: Global) -> Result<Mount<Store<R>>, AllocError>
     ensures { IfOk result (λ m. m ≡ memory_part) }
 {
-    let name = Name::wrap(String::from_str(alloc, "memory")?);
-    let store = Store::Memory(MemoryKv::new(alloc, true));
-    Ok(Mount { name, store })
+    Ok(Mount {
+        name: Name::wrap(String::from_str(alloc, "memory")?),
+        store: in_memory(alloc),
+    })
+}
+
+// A store in memory: empty, one that makes all changes together, and none of whose calls is to fail.
+fn in_memory<R: Files + AllocGlobal + Drop>(alloc: Global) -> Store<R>
+    ensures { result ≡ Memory (new_store true) }
+{
+    Store::Memory(MemoryKv::new(alloc, true))
 }
 
 fn file_mount<R: Files + AllocGlobal + Drop>(
@@ -55,6 +65,13 @@ fn file_mount<R: Files + AllocGlobal + Drop>(
     ensures { IfOk result (λ m. m ≡ file_part) }
 {
     let name = Name::wrap(String::from_str(rt.alloc(), "file")?);
-    let store = Store::Files(FileKv::new(rt, folder)?);
+    let store = in_files(rt, folder)?;
     Ok(Mount { name, store })
+}
+
+// A store of files: no fault yet, and not finished.
+fn in_files<R: Files + AllocGlobal + Drop>(rt: R, folder: &str) -> Result<Store<R>, AllocError>
+    ensures { IfOk result (λ store. store ≡ InFiles (record { faults = 0; is_finished = false })) }
+{
+    Ok(Store::Files(FileKv::new(rt, folder)?))
 }
