@@ -1,0 +1,3 @@
+mod Loops
+mod Pushed
+mod Sums
