@@ -1,10 +1,4 @@
 pub mod FirstLine
 pub mod LineLaws
-pub mod AnswerFloats
 pub mod Nesting
-pub mod Rows
-pub mod Slashes
-pub mod Told
 pub mod GivenWords
-pub mod WorkedLines
-pub mod OpenLines

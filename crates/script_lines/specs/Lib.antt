@@ -1,11 +1,2 @@
-pub mod Forms
-pub mod Names
-pub mod Paths
-pub mod ZarrSpec
-pub mod Line
-pub mod Seen
-pub mod Refusals
 pub mod Script
 pub mod NestedWords
-pub mod AnswerText
-pub mod Status
