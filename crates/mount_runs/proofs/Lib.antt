@@ -1,0 +1,4 @@
+pub mod NamesCopied
+pub mod Finishing
+pub mod Alone
+pub mod Running

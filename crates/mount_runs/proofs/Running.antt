@@ -1,0 +1,170 @@
+-- A run over mounts is one that its contract says.
+use Rattle.std.proofs.Common.{◌≡◌, ◌∙◌, ℕ, ◌+◌, ◌≤◌, Bool, true, List, [], ◌∷◌, ◌++◌, map, length, Option, Some, None, refl, sym, ap, subst, arith}
+use Rattle.std.specs.Prelude.{count_by, option_map}
+use Rattle.std.specs.FinMap as finmap
+use Rattle.answer_text.specs.declared.answer.Answer.{Answer}
+use Rattle.history.specs.Alone.{single_store}
+use Rattle.history.specs.Answers as plain
+use Rattle.history.specs.Commit.{Fixed}
+use Rattle.history.specs.Counting.{IsCounted}
+use Rattle.history.specs.History.{History}
+use Rattle.kv_face.specs.Store.{Contents}
+use Rattle.line_answers.specs.Bodies.{answer_of}
+use Rattle.kv_mounts.specs.Finish.{AreFinished, failed_places}
+use Rattle.history.specs.Store.{RepresentsHistory}
+use Rattle.kv_mounts.specs.Parts.{Part, AreMounts, below, names_of}
+use Rattle.kv_mounts.specs.Union.{union_of, faults_of, prefixes_of, standing_of, change_count_of}
+use Rattle.mount_runs.specs.Finished.{AreBack, IsRun}
+use Rattle.mount_runs.specs.Runs.{fixed_over, IsPrintedRun, IsEmptyMount, IsSerialRun, IsSingleRun}
+use Rattle.mount_runs.proofs.Alone.{alone_where, alone_run}
+use Rattle.mount_runs.proofs.Finishing.{names_stay, union_stays, prefixes_stay, count_stays, faults_rise, failed_rise, all_closed}
+use Rattle.serial_runs.specs.Runs.{IsRunOf, AreLogs, AreOfMount}
+use Rattle.serial_runs.specs.Serial.{IsSerial}
+use Rattle.serial_runs.proofs.Laws.{serial}
+use Rattle.session_runs.specs.Scripts.{asked_by}
+use Rattle.session_workers.specs.Workers.{AreSessionLogs, AreWhole}
+use Rattle.session_workers.specs.Runs.{ArePrinted}
+use Rattle.session_workers.proofs.Laws.{run_logs, of_mount}
+use Rattle.state_laws.specs.Agreement.{Opening, Agrees, IsTrueTo, is_fault}
+use Rattle.state_laws.specs.Log.{Log}
+use Rattle.state_laws.specs.Seen.{StoreSeen}
+
+-- what mounts tell as one store
+abbrev pub seen_over : List Part → StoreSeen
+seen_over parts = record {
+  contents = union_of parts;
+  faults = faults_of parts;
+  prefixes = prefixes_of parts;
+  names = Some (names_of parts);
+  standing = standing_of parts;
+  changes = change_count_of parts;
+}
+
+abbrev pub opening_over : List Part → ℕ → Opening
+opening_over parts limit = record { store = seen_over parts; limit = limit }
+
+first_name : {x y : List ℕ} → x ∷ [] ≡ y ∷ [] → x ≡ y
+first_name e = cc
+
+some_same : (a b : Contents) → Some a ≡ Some b → a ≡ b
+some_same a b e = cc
+
+no_items : {A : Type 0} (xs : List A) → length xs ≡ 0 → xs ≡ []
+no_items [] e = refl
+no_items (x ∷ xs) e = absurd (omega (arith, e))
+
+-- an empty map has no entries
+no_entries : (m : Contents) → m ≡ finmap.empty → finmap.entries m ≡ []
+no_entries m e = no_items (finmap.entries m) (sym (finmap.len-entries m) ∙ ap finmap.len e ∙ finmap.len-empty _ _)
+
+some_names : (xs ys : List (List ℕ)) → Some xs ≡ Some ys → xs ≡ ys
+some_names xs ys e = cc
+
+module _ (scripts : List (List ℕ)) (old mid new : List Part) (limit : ℕ) (log : Log) (logs : List (List Answer)) (whole : Bool) (ended : AreSessionLogs (opening_over old limit) (names_of old) scripts log.events logs)
+    (full : whole ≡ true → AreWhole (names_of old) scripts logs) (agrees : Agrees (opening_over old limit) (seen_over mid) log) (finished : AreFinished mid new) where
+  back : AreMounts new → AreBack old new log.events (failed_places new)
+  back are =
+      let more = agrees.faults in
+      let rise = faults_rise mid new finished in
+      record {
+        are = are;
+        names = names_stay mid new finished ∙ some_names (names_of mid) (names_of old) agrees.frame.names;
+        prefixes = prefixes_stay mid new finished ∙ agrees.frame.prefixes;
+        closed = all_closed mid new finished;
+        failed = refl;
+        faults = omega (arith, more, rise);
+        cause = λ some. let rise = failed_rise 0 mid new finished some in omega (arith, more, rise);
+      }
+
+  run_of : (start : Contents) → IsTrueTo start (opening_over old limit) (seen_over mid) log → (printed : ArePrinted (fixed_over old start) (names_of old) scripts log.events logs)
+      → IsRunOf (fixed_over old start) (map (asked_by (names_of old)) scripts) log.events printed.answers (union_of new) (change_count_of old) (change_count_of new)
+  run_of start holds printed = record {
+    sessions = printed.are;
+    consistent = record {
+      legal = holds.legal;
+      represents = λ store is. let same : Some holds.contents ≡ Some store = sym holds.told ∙ sym (union_stays mid new finished) ∙ is in subst (λ c. RepresentsHistory c start log.events) (some_same holds.contents store same) holds.represents;
+    };
+    counted = subst (λ c. IsCounted start (change_count_of old) c log.events) (sym (count_stays mid new finished)) holds.counted;
+  }
+
+  printed_run : (start : Contents) → union_of old ≡ Some start → IsPrintedRun start scripts old new log.events logs
+  printed_run start is =
+      let printed : ArePrinted (fixed_over old start) (names_of old) scripts log.events logs = run_logs (opening_over old limit) start is (names_of old) scripts log.events logs ended in
+      record { answers = printed.answers; printed = printed.printed; run = run_of start (agrees.holds start is) printed }
+
+  module _ (empty : IsEmptyMount old) where
+    union_empty : union_of old ≡ Some finmap.empty
+    union_empty = ap union_of empty.alone ∙ by empty.part.contents empty.empty
+      where
+        by : (contents : Option Contents) → contents ≡ Some finmap.empty → union_of (record empty.part { contents = contents } ∷ []) ≡ Some finmap.empty
+        by contents e = ap (λ c. union_of (record empty.part { contents = c } ∷ [])) e ∙ ap (λ es. Some (finmap.from_entries (map (λ (x : List ℕ × List ℕ). (below empty.part.name x.0, x.1)) es ++ []))) (no_entries finmap.empty refl)
+
+    prefixes_one : prefixes_of old ≡ (empty.part.name ++ 47 ∷ []) ∷ []
+    prefixes_one = ap prefixes_of empty.alone ∙ ap (λ ks. map (λ k. empty.part.name ++ 47 ∷ k) ks ++ []) empty.together
+
+    fixed_one : fixed_over old finmap.empty ≡ single_store empty.part.name
+    fixed_one = ap (λ ps. record { start = finmap.empty; prefixes = ps }) prefixes_one
+
+    names_one : names_of old ≡ empty.part.name ∷ []
+    names_one = ap names_of empty.alone
+
+    held : IsTrueTo finmap.empty (opening_over old limit) (seen_over mid) log
+    held = agrees.holds finmap.empty union_empty
+
+    told_now : union_of new ≡ Some held.contents
+    told_now = union_stays mid new finished ∙ held.told
+
+    as_printed : IsPrintedRun finmap.empty scripts old new log.events logs
+    as_printed = printed_run finmap.empty union_empty
+
+    -- as a run over the one mount
+    of_one : IsRunOf (single_store empty.part.name) (map (asked_by (empty.part.name ∷ [])) scripts) log.events as_printed.answers (Some held.contents) (change_count_of old) (change_count_of new)
+    of_one =
+        subst (λ f. IsRunOf f (map (asked_by (empty.part.name ∷ [])) scripts) log.events as_printed.answers (Some held.contents) (change_count_of old) (change_count_of new)) fixed_one
+        (subst (λ ns. IsRunOf (fixed_over old finmap.empty) (map (asked_by ns) scripts) log.events as_printed.answers (Some held.contents) (change_count_of old) (change_count_of new)) names_one
+        (subst (λ c. IsRunOf (fixed_over old finmap.empty) (map (asked_by (names_of old)) scripts) log.events as_printed.answers c (change_count_of old) (change_count_of new)) told_now as_printed.run))
+
+    serial_run : IsSerialRun scripts old new log.events logs
+    serial_run = record {
+      answers = as_printed.answers;
+      printed = as_printed.printed;
+      store = held.contents;
+      told = told_now;
+      serial =
+          subst (λ ns. IsSerial (map (asked_by ns) scripts) log.events as_printed.answers held.contents) (sym names_one)
+          (serial empty.part.name (map (asked_by (empty.part.name ∷ [])) scripts) log.events as_printed.answers held.contents (change_count_of old) (change_count_of new) (of_mount empty.part.name scripts) of_one);
+    }
+
+    -- one script alone, without a failed call
+    single_run : (script : List ℕ) → scripts ≡ script ∷ [] → faults_of new ≡ faults_of old → IsSingleRun empty.part.name script log.events logs
+    single_run script one quiet = by as_printed.answers as_printed.printed (subst (λ ss. AreLogs (single_store empty.part.name) log.events (map (asked_by (empty.part.name ∷ [])) ss) as_printed.answers) one of_one.sessions)
+      where
+        name : List ℕ
+        name = empty.part.name
+
+        none : count_by is_fault log.events ≡ 0
+        none = let more = agrees.faults in let rise = faults_rise mid new finished in omega (arith, more, rise, quiet)
+
+        lines : AreOfMount name (asked_by (name ∷ []) script ∷ [])
+        lines = of_mount name (script ∷ [])
+
+        by : (answers : List (List plain.Answer)) → logs ≡ map (map answer_of) answers → AreLogs (single_store name) log.events (asked_by (name ∷ []) script ∷ []) answers → IsSingleRun name script log.events logs
+        by [] printed are = absurd (let no_such = are.count in omega (arith, no_such))
+        by (a ∷ []) printed are = record {
+          answers = a;
+          printed = printed;
+          run = alone_run name log.events of_one.consistent.legal (alone_where log.events none are.owners) (asked_by (name ∷ []) script) lines.on_mount.0 lines.within.0 a (are.each 0 (asked_by (name ∷ []) script) a refl refl);
+        }
+        by (a ∷ b ∷ answers) printed are = absurd (let no_such = are.count in omega (arith, no_such))
+
+  pub run_is : AreMounts new → IsRun scripts old new log.events logs whole (failed_places new)
+  run_is are = record {
+    count = ended.count;
+    answered = full;
+    back = back are;
+    told = printed_run;
+    serial = serial_run;
+    single = λ mount script empty named one quiet.
+        let same : empty.part.name ≡ mount = first_name (sym (names_one empty) ∙ named) in
+        subst (λ n. IsSingleRun n script log.events logs) same (single_run empty script one quiet);
+  }

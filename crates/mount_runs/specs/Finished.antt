@@ -1,0 +1,37 @@
+-- A run over mounts with all that it hands back.
+use Rattle.std.specs.Prelude.{◌≡◌, ◌≢◌, ◌≤◌, ◌<◌, ◌+◌, ℕ, List, [], ◌∷◌, length, count_by, All, Bool, true, Some}
+use Rattle.answer_text.specs.declared.answer.Answer.{Answer}
+use Rattle.history.specs.History.{History}
+use Rattle.kv_face.specs.Store.{Contents, opened}
+use Rattle.kv_mounts.specs.Finish.{failed_places}
+use Rattle.kv_mounts.specs.Parts.{Part, AreMounts, names_of}
+use Rattle.kv_mounts.specs.Union.{faults_of, prefixes_of, union_of}
+use Rattle.mount_runs.specs.Runs.{IsPrintedRun, IsEmptyMount, IsSerialRun, IsSingleRun}
+use Rattle.session_workers.specs.Workers.{AreWhole}
+use Rattle.state_laws.specs.Agreement.{is_fault}
+
+-- the mounts as a run hands them back: in their order, and none stands open; as many calls failed as the history has events of failed calls, or more
+pub record AreBack (old new : List Part) (history : History) (unfinished : List ℕ) : Type 0 where
+  pub are : AreMounts new
+  pub names : names_of new ≡ names_of old
+  pub prefixes : prefixes_of new ≡ prefixes_of old
+  pub closed : All (λ (p : Part). p.standing ≢ opened) new
+  -- the places of those that stand failed
+  pub failed : unfinished ≡ failed_places new
+  pub faults : faults_of old + count_by is_fault history ≤ faults_of new
+  -- one that can't be finished is a failed call more
+  pub cause : unfinished ≢ [] → faults_of old + count_by is_fault history < faults_of new
+
+-- these scripts were run over the mounts, each in a session of its own; where `whole` is so, no session ended without an answer to a line
+pub record IsRun (scripts : List (List ℕ)) (old new : List Part) (history : History) (logs : List (List Answer)) (whole : Bool) (unfinished : List ℕ) : Type 0 where
+  pub count : length logs ≡ length scripts
+  -- whatever the stores tell: each line that isn't blank has its answer, up to one that is want of memory
+  pub answered : whole ≡ true → AreWhole (names_of old) scripts logs
+  pub back : AreBack old new history unfinished
+  -- where the stores told their contents, the history is legal, the logs are those of sessions that ran the scripts over it, and the stores hold what it
+  -- says
+  pub told : (start : Contents) → union_of old ≡ Some start → IsPrintedRun start scripts old new history logs
+  -- over one empty mount that makes all its changes together, its transactions are serial
+  pub serial : IsEmptyMount old → IsSerialRun scripts old new history logs
+  -- one script alone over such a mount, of which no call failed, gives what the single session gives
+  pub single : (mount script : List ℕ) → IsEmptyMount old → names_of old ≡ mount ∷ [] → scripts ≡ script ∷ [] → faults_of new ≡ faults_of old → IsSingleRun mount script history logs
