@@ -1,6 +1,3 @@
-pub mod Counting
-pub mod Sessions
-pub mod BadLines
-pub mod Turns
-pub mod Lines
-pub mod Logs
+mod Asking
+mod Single
+mod Ran

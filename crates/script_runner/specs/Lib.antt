@@ -1,8 +1,2 @@
-pub mod Limits
-pub mod Session
-pub mod Solo
-pub mod Failing
-pub mod Kept
-pub mod Progress
-pub mod Top
-pub mod Logged
+pub mod Asked
+pub mod Promises

@@ -1,15 +1,16 @@
-//! Sessions, and the top call `run`; scripts that are files, and answers on standard output.
+//! The top call: words, scripts, sessions on workers over mounts, answers.
 //!
-//! Others rest on one call: `run` reads a script, runs it as one session over a store, and writes its answers.
-//! `single_session` says which answers these are, on plain arrays that know nothing of chunks, keys or bytes.
+//! Others rest on one call, `run`. Its clause `serial` is what the project is for: over one empty store that makes all changes of a commit
+//! together, the transactions of all sessions are serial, in the order of the numbers that their commits print.
 #![tactic(auto)]
 
-mod files;
-mod limits;
-mod session;
-mod step;
+mod outcome;
 mod top;
+mod writing;
 
-pub use files::{FileScripts, StdoutSink};
-pub use kv_face::{MemoryScripts, MemorySink, Scripts, Sink};
-pub use top::{Outcome, run};
+pub use kv_face::{KvStore, MemoryKv};
+pub use mount_runs::{BoxedStore, Mount};
+pub use outcome::Outcome;
+pub use script_streams::{FileScripts, MemoryScripts, MemorySink, Scripts, Sink, StdoutSink};
+pub use top::run;
+pub use transactions::Gate;

@@ -1,0 +1,45 @@
+-- What the words of a run ask for, and the scripts that are read.
+use Rattle.std.specs.Prelude.{◌≡◌, ◌⊎◌, ℕ, List, length, drop, Option, Some}
+use Rattle.kv_face.specs.Store.{Contents}
+use Rattle.kv_face.specs.Streams.{HasRisen, WhereTold}
+use Rattle.run_words.specs.Words.{IsSettings}
+use Rattle.run_words.specs.declared.settings.Input.TheVariants.{Files}
+use Rattle.run_words.specs.declared.settings.Settings.{Settings}
+use Rattle.script_streams.specs.Reading.{AreScripts, AreShort, IsCause}
+use Rattle.script_streams.specs.declared.reading.Unread.TheVariants.{Failed, TooLong}
+
+-- the words ask that these files are run, with these settings
+pub record AskFor (words files : List (List ℕ)) : Type 0 where
+  pub settings : Settings
+  pub asked : IsSettings words settings
+  pub first : ℕ
+  pub from : settings.input ≡ Files first
+  pub are : files ≡ drop first words
+
+-- the words ask for no files
+abbrev pub AreRefused : List (List ℕ) → Type 0
+AreRefused words = (files : List (List ℕ)) → ¬ AskFor words files
+
+-- these scripts were read: where scripts are told, they are those of the files, in their order
+pub record AreOfFiles (contents : Option Contents) (files scripts : List (List ℕ)) : Type 0 where
+  pub count : length scripts ≡ length files
+  pub told : WhereTold contents (λ told. AreScripts told files scripts)
+  pub short : AreShort scripts
+
+-- they are of the files that the words ask for
+pub record AreReadOf (contents : Option Contents) (words scripts : List (List ℕ)) : Type 0 where
+  pub files : List (List ℕ)
+  pub asked : AskFor words files
+  pub read : AreOfFiles contents files scripts
+
+-- the script at this place was not read: the scripts failed there, or it passes a limit, by itself or with those before it
+pub record IsUnreadFile (contents : Option Contents) (files : List (List ℕ)) (before now : ℕ) (place : Option ℕ) : Type 0 where
+  pub at : ℕ
+  pub place_is : place ≡ Some at
+  pub cause : (HasRisen before now × IsCause contents files (Failed at)) ⊎ IsCause contents files (TooLong at)
+
+-- it is of a file that the words ask for
+pub record IsUnread (contents : Option Contents) (words : List (List ℕ)) (before now : ℕ) (place : Option ℕ) : Type 0 where
+  pub files : List (List ℕ)
+  pub asked : AskFor words files
+  pub unread : IsUnreadFile contents files before now place

@@ -1,0 +1,68 @@
+-- What a run promises.
+use Rattle.std.specs.Prelude.{◌≡◌, ◌≢◌, ◌⊎◌, ◌&&◌, ℕ, List, [], ◌∷◌, map, Bool, true, false, Option, if◌then◌else◌}
+use Rattle.history.specs.Single.{single_session}
+use Rattle.kv_face.specs.Store.{Contents}
+use Rattle.kv_mounts.specs.Parts.{Part, names_of}
+use Rattle.kv_mounts.specs.Union.{faults_of}
+use Rattle.line_answers.specs.Bodies.{answer_of}
+use Rattle.mount_runs.specs.Finished.{IsRun}
+use Rattle.mount_runs.specs.Runs.{IsSerialRun}
+use Rattle.script_runner.specs.Asked.{AreReadOf, AreOfFiles}
+use Rattle.script_runner.specs.declared.outcome.Outcome.{Outcome}
+use Rattle.script_streams.specs.Standing.{are_all_ok}
+use Rattle.session_runs.specs.Scripts.{asked_by}
+use Rattle.session_workers.specs.Workers.{AreWhole}
+
+-- these scripts were run over the mounts. Unless memory was wanting, each line that isn't blank has its answer, up to one that is want of memory
+pub record HasRunTexts (scripts : List (List ℕ)) (old new : List Part) (outcome : Outcome) : Type 0 where
+  pub whole : Bool
+  pub run : IsRun scripts old new outcome.history outcome.logs whole outcome.unfinished
+  pub full : outcome.status ≢ 5 → whole ≡ true
+
+-- these files were read and run so
+pub record HasRunFiles (contents : Option Contents) (files : List (List ℕ)) (old new : List Part) (outcome : Outcome) : Type 0 where
+  pub scripts : List (List ℕ)
+  pub read : AreOfFiles contents files scripts
+  pub ran : HasRunTexts scripts old new outcome
+
+-- sessions were started: the scripts of the files that the words ask for were read, and run over the mounts, each in a session of its own
+pub record HasRun (contents : Option Contents) (words : List (List ℕ)) (old new : List Part) (outcome : Outcome) : Type 0 where
+  pub scripts : List (List ℕ)
+  pub read : AreReadOf contents words scripts
+  pub ran : HasRunTexts scripts old new outcome
+
+-- all answers were written
+abbrev pub HasAnswers : ℕ → Type 0
+HasAnswers status = (status ≡ 0) ⊎ (status ≡ 1)
+
+-- one script alone: the answers are those of the single session on plain arrays as they are printed, and so are the events
+pub record IsSingleOutcome (mount script : List ℕ) (outcome : Outcome) : Type 0 where
+  pub answers : outcome.logs ≡ map answer_of (single_session mount 0 (asked_by (mount ∷ []) script)).answers ∷ []
+  pub events : outcome.history ≡ (single_session mount 0 (asked_by (mount ∷ []) script)).session.events
+
+-- SERIAL TRANSACTIONS. The files' scripts ran in sessions of their own, and the logs are printed ones of these sessions. Each committed transaction whose
+-- reads are repeatable printed what one thread reads from plain arrays when commits and resizes run in printed order, and the store holds exactly these
+-- arrays in the end. A conflict names a chunk that was read, and a later commit or resize of another session that touched it. A transaction that only wrote
+-- is refused by a resize, a failed store or want of memory alone
+pub record IsSerialOutcome (contents : Option Contents) (words : List (List ℕ)) (old new : List Part) (outcome : Outcome) : Type 0 where
+  pub scripts : List (List ℕ)
+  pub read : AreReadOf contents words scripts
+  pub serial : IsSerialRun scripts old new outcome.history outcome.logs
+  -- each line that isn't blank has its answer, up to one that is want of memory, but where memory was wanting for an answer
+  pub whole : outcome.status ≢ 5 → AreWhole (names_of old) scripts outcome.logs
+  -- one script alone, where no call of the store failed and all answers were written, gives what the single session gives
+  pub single : HasAnswers outcome.status → (mount script : List ℕ) → names_of old ≡ mount ∷ [] → scripts ≡ script ∷ [] → faults_of new ≡ faults_of old → IsSingleOutcome mount script outcome
+
+-- no session was started
+pub record IsUnstarted (outcome : Outcome) : Type 0 where
+  pub history : outcome.history ≡ []
+  pub unfinished : outcome.unfinished ≡ []
+
+-- no place
+abbrev pub is_empty : List ℕ → Bool
+is_empty [] = true
+is_empty (p ∷ ps) = false
+
+-- 0 where every line did what it asks for and every mount was finished, else 1
+abbrev pub status_of : Outcome → ℕ
+status_of outcome = if are_all_ok outcome.logs && is_empty outcome.unfinished then 0 else 1
