@@ -1,5 +1,5 @@
 #!/usr/bin/env bash
-# Tries words of the program: for each, the status it must end with and the one line it must say on standard error.
+# Tries words of the program: for each, the status it must end with, the one line it must say on standard error, and what it must print.
 #
 # tools/program.sh PROGRAM
 set -u
@@ -29,34 +29,136 @@ tried() {
     fi
 }
 
-# wrote NAME FILE: the last answers are those of the file.
+# wrote NAME FILE..: the last answers are those of the files, one behind another.
 wrote() {
-    if ! cmp -s "$2" "$room/answers"; then
-        echo "$1: other answers than $2"
+    local name=$1
+    shift
+    if ! cat "$@" | cmp -s - "$room/answers"; then
+        echo "$name: other answers than in $*"
         failed=1
     fi
 }
 
-tried "a script" 0 "" "$top/examples/first.jsonl"
-wrote "a script" "$top/crates/tensor_run/stdout"
-tried "a script with refused lines" 1 "" "$top/examples/refused.jsonl"
+# holds FILE BYTES: a file of the store has these bytes, in hexadecimal digits.
+holds() {
+    if [ "$(od -An -v -tx1 "$1" 2>&1 | tr -d ' \n')" != "$2" ]; then
+        echo "$1: other bytes than $2"
+        failed=1
+    fi
+}
+
+# example STATUS NAME: the script of that name among the examples, and its answers beside it.
+example() {
+    tried "$2" "$1" "" "$top/examples/$2.jsonl"
+    wrote "$2" "$top/examples/$2.out"
+}
 
 : > "$room/nothing"
-tried "no word" 2 "tensor_run: words refused"
+first=$top/examples/first.jsonl
+refused="tensor_run: words refused"
+
+example 0 first
+example 1 several
+example 1 refused
+example 0 views
+example 1 layers
+example 1 transactions
+example 1 resize
+example 1 downsample
+example 1 joins
+example 1 formats
+
+left=$top/examples/left.jsonl
+right=$top/examples/right.jsonl
+tried "two sessions" 0 "" "$left" "$right"
+wrote "two sessions" "$top/examples/left.out" "$top/examples/right.out"
+tried "the words of options" 0 "" --workers 01 --cache=0 -- "$left" "$right"
+wrote "the words of options" "$top/examples/left.out" "$top/examples/right.out"
+stored=$top/crates/tensor_run
+tried "two workers" 0 "" --cache 4 --workers=2 "$stored/data/first.jsonl" "$stored/data/second.jsonl"
+wrote "two workers" "$stored/stdout"
+
+# The tour over one folder, script after script, and what it leaves there.
+toured() {
+    local status=$1 name scripts=() wanted=()
+    shift
+    for name in "$@"; do
+        scripts+=("$top/examples/$name.jsonl")
+        wanted+=("$top/examples/$name.out")
+    done
+    tried "$*" "$status" "" --root store "${scripts[@]}"
+    wrote "$*" "${wanted[@]}"
+}
+mkdir "$room/tour" && cd "$room/tour" || exit 1
+toured 0 tour_make
+holds store/sea/temperature/0.0 19fc19fc19fc19fc19fc0c00
+toured 1 tour_view
+toured 0 tour_join
+toured 0 tour_left tour_right
+toured 0 tour_retry
+toured 1 tour_grow
+cd store/sea/temperature || exit 1
+printf '%s' '{"chunks":[2,3],"compressor":null,"dimension_separator":".","dtype":"<i2","fill_value":-999,"filters":null,"order":"C","shape":[6,6],"zarr_format":2}' > "$room/metadata"
+cmp "$room/metadata" .zarray || failed=1
+[ "$(ls -A | sort | tr '\n' ' ')" = ".zarray 0.0 0.1 1.0 1.1 2.0 2.1 " ] || { echo "the tour leaves other files"; failed=1; }
+holds 0.0 00000100020019fc19fc0c00
+holds 0.1 19fc19fc19fc0d000e0019fc
+holds 1.0 19fc19fc16001e001f002000
+holds 1.1 1700180019fc210022002300
+holds 2.0 280029002a0019fc19fc19fc
+holds 2.1 2b002c002d0019fc19fc19fc
+
+# Two jobs on two workers: the numbers of events hang on which is first, the chunk doesn't.
+mkdir "$room/jobs" && cd "$room/jobs" || exit 1
+toured 0 tour_make
+tried "two jobs on two workers" 0 "" --root store --workers 2 "$top/examples/tour_left.jsonl" "$top/examples/tour_right.jsonl"
+holds store/sea/temperature/0.0 0000010019fc19fc19fc0c00
+
+cd "$room" || exit 1
+tried "files" 0 "" --root "$room/store" "$top/examples/files.jsonl"
+wrote "files" "$top/examples/files.out"
+holds "$room/store/grids/a/0" 0100000002000000
+holds "$room/store/grids/a/1" 0300000000000000
+tried "files that are there" 1 "" --root store "$top/examples/again.jsonl"
+wrote "files that are there" "$top/examples/again.out"
+mkdir "$room/here" && cd "$room/here" || exit 1
+tried "the current folder" 0 "" --root "" --workers 2 "$top/examples/files.jsonl"
+holds "$room/here/grids/a/1" 0300000000000000
+tried "a folder without a script" 2 "$refused" --root "$room/store"
+tried "a folder behind another option" 2 "$refused" --workers 1 --root "$room/store" "$first"
+tried "two folders" 2 "$refused" --root "$room/store" --root "$room/store" "$first"
+tried "no folder" 2 "$refused" --root
+wrote "no folder" "$room/nothing"
+
+tried "no word" 2 "$refused"
 wrote "no word" "$room/nothing"
-tried "two words" 2 "tensor_run: words refused" "$top/examples/first.jsonl" "$top/examples/first.jsonl"
-tried "an empty word" 2 "tensor_run: words refused" ""
-tried "an option" 2 "tensor_run: words refused" --help
-tried "a word that isn't UTF-8" 2 "tensor_run: words refused" $'\xff'
-wrote "a word that isn't UTF-8" "$room/nothing"
+tried "an empty word" 2 "$refused" ""
+tried "help" 2 "$refused" --help
+tried "a file before an option" 2 "$refused" "$first" --workers 1
+tried "no worker" 2 "$refused" --workers 0 "$first"
+tried "65 workers" 2 "$refused" --workers 65 "$first"
+tried "workers alone" 2 "$refused" --workers
+tried "workers twice" 2 "$refused" --workers 1 --workers=1 "$first"
+tried "a cache of 2^27 cells and one" 2 "$refused" --cache 134217729 "$first"
+tried "a made script" 2 "$refused" --make 7
+tried "a word that isn't UTF-8" 2 "$refused" $'\xff'
+tried "a folder that isn't UTF-8" 2 "$refused" --root $'\xff' "$first"
+wrote "a folder that isn't UTF-8" "$room/nothing"
 
 tried "a missing script" 3 "tensor_run: script 1 was not read" "$room/missing"
 wrote "a missing script" "$room/nothing"
+tried "a missing script behind another" 3 "tensor_run: script 2 was not read" "$first" "$room/missing" "$first"
+wrote "a missing script behind another" "$room/nothing"
+cp "$first" "$room/-x" && cd "$room" || exit 1
+tried "a file behind --" 0 "" -- -x
+wrote "a file behind --" "$top/examples/first.out"
+tried "a missing file behind --" 3 "tensor_run: script 1 was not read" -- --workers
 truncate -s 67108865 "$room/long"
 tried "a script of 2^26 bytes and one" 3 "tensor_run: script 1 was not read" "$room/long"
+tried "the same behind another" 3 "tensor_run: script 2 was not read" "$first" "$room/long"
 
 answers=/dev/full
-tried "a full disk" 4 "tensor_run: output failed" "$top/examples/first.jsonl"
+tried "a full disk" 4 "tensor_run: output failed" "$first"
 answers=
 
 truncate -s 67108864 "$room/large"
