@@ -1,0 +1,10 @@
+use Rattle.std.proofs.Common.{◌≡◌, ◌∙◌, ◌++◌, ◌∷◌, [], List, ap}
+use Rattle.kv_mounts.specs.Parts.{Part}
+use Rattle.run_cases.proofs.Mounted.{mounts_two}
+use Rattle.run_cases.proofs.mounts.two.Goals as goal
+
+pub returns : goal.returns
+returns c =
+    let items : c.push-2.new.self.items ≡ c.in_ok-mount.field-0 ∷ c.in_ok-mount-2.field-0 ∷ [] =
+    c.in_ok-push-2.ensures.items ∙ ap (λ (l : List Part). l ++ c.in_ok-mount-2.field-0 ∷ []) (c.in_ok-push.ensures.items ∙ ap (λ (l : List Part). l ++ c.in_ok-mount.field-0 ∷ []) c.new-mounts.ensures.items) in
+    mounts_two c.push-2.new.self.items c.in_ok-mount.field-0 c.in_ok-mount-2.field-0 items c.in_ok-mount.ensures.name c.in_ok-mount-2.ensures.name c.in_ok-mount.ensures.every c.in_ok-mount-2.ensures.every

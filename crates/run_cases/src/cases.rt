@@ -1,0 +1,24 @@
+use crate::fault::Fault;
+use crate::runs::run_line;
+use json_forms::parse;
+use std::alloc::{AllocError, Global};
+use std::sync::Wait;
+use std::thread::Threads;
+
+/// What a line gives, as lines of text; `no case` where it is no run.
+pub(crate) fn answer<R: Threads + Wait + Sync>(
+    rt: &R,
+    alloc: Global,
+    line: &str,
+) -> Result<String, AllocError> {
+    match told(rt, alloc, line) {
+        Ok(text) => Ok(text),
+        Err(Fault::Line) => String::from_str(alloc, "no case\n"),
+        Err(Fault::Memory) => Err(AllocError),
+    }
+}
+
+fn told<R: Threads + Wait + Sync>(rt: &R, alloc: Global, line: &str) -> Result<String, Fault> {
+    let v = parse(alloc, line.as_bytes())?;
+    run_line(rt, alloc, &v)
+}

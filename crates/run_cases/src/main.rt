@@ -1,0 +1,25 @@
+//! `run_cases`: each line of stdin is a run of scripts over mounts in memory, as JSON; stdout is what it gives.
+//!
+//! The lines stand in the file `stdin` and what they must give in `stdout`, worked out by hand. A run is told by its status, the script
+//! that wasn't read, the mounts that weren't finished, the number of its events, the text of its answers, and what stands under some keys.
+#![tactic(auto)]
+
+mod cases;
+mod fault;
+mod filling;
+mod gate;
+mod mounts;
+mod read;
+mod reports;
+mod runs;
+
+use cases::answer;
+use std::io;
+
+fn main(rt: HostRuntime) -> io::Result<()> {
+    for line in rt.lines(rt.alloc()) {
+        let text = answer(&rt, rt.alloc(), line?.as_str())?;
+        print!(rt; "{text}")?;
+    }
+    Ok(())
+}
