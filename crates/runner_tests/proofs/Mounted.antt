@@ -13,6 +13,10 @@ pub one_distinct : (cs : List Change) (c : Change) → cs ≡ c ∷ [] → IsDis
 unfolding IsDistinct
 one_distinct cs c is = subst (λ l. IsDistinct bytes_eq (keys_of l)) (sym is) (tt, tt)
 
+all_one : {X : Type 0} (P : X → Type 0) (a : X) → P a → All P (a ∷ [])
+all_one P a p zero d h = p
+all_one P a p (suc k) d h = absurd (omega (arith, h))
+
 all_two : {X : Type 0} (P : X → Type 0) (a b : X) → P a → P b → All P (a ∷ b ∷ [])
 all_two P a b p q zero d h = p
 all_two P a b p q (suc zero) d h = q
@@ -24,6 +28,9 @@ all_three P a b c p q r (suc zero) d h = q
 all_three P a b c p q r (suc (suc zero)) d h = r
 all_three P a b c p q r (suc (suc (suc k))) d h = absurd (omega (arith, h))
 
+name_memory : IsMountName (codes "memory")
+name_memory = record { some = omega arith; few = omega arith; plain = refl; free = λ e. absurd (let no_such : ⊥ = cc in no_such) }
+
 name_a : IsMountName (codes "a")
 name_a = record { some = omega arith; few = omega arith; plain = refl; free = λ e. absurd (let no_such : ⊥ = cc in no_such) }
 
@@ -33,6 +40,10 @@ name_b = record { some = omega arith; few = omega arith; plain = refl; free = λ
 name_c : IsMountName (codes "c")
 name_c = record { some = omega arith; few = omega arith; plain = refl; free = λ e. absurd (let no_such : ⊥ = cc in no_such) }
 
+distinct_one : IsDistinct bytes_eq (codes "memory" ∷ [])
+unfolding IsDistinct
+distinct_one = (tt, tt)
+
 distinct_three : IsDistinct bytes_eq three_names
 unfolding IsDistinct
 distinct_three = ((refl, (refl, tt)), ((refl, tt), (tt, tt)))
@@ -40,6 +51,17 @@ distinct_three = ((refl, (refl, tt)), ((refl, tt), (tt, tt)))
 distinct_two : IsDistinct bytes_eq (codes "a" ∷ codes "b" ∷ [])
 unfolding IsDistinct
 distinct_two = ((refl, tt), (tt, tt))
+
+pub mounts_one : (parts : List Part) (a : Part) → parts ≡ a ∷ [] → a.name ≡ codes "memory" → a.names ≡ None → AreMounts parts
+mounts_one parts a is p u =
+    let names : names_of parts ≡ codes "memory" ∷ [] = ap names_of is ∙ (λ i. p i ∷ []) in
+    record {
+      some = subst (λ ps. 0 < length ps) (sym is) (omega arith);
+      few = subst (λ ps. length ps ≤ 16) (sym is) (omega arith);
+      named = subst (λ ns. All IsMountName ns) (sym names) (all_one IsMountName (codes "memory") name_memory);
+      distinct = subst (λ ns. IsDistinct bytes_eq ns) (sym names) distinct_one;
+      every = subst (λ ps. All (λ (m : Part). m.names ≡ None) ps) (sym is) (all_one (λ (m : Part). m.names ≡ None) a u);
+    }
 
 -- the names of three mounts
 pub names_three : (parts : List Part) (a b c : Part) → parts ≡ a ∷ b ∷ c ∷ [] → a.name ≡ codes "a" → b.name ≡ codes "b" → c.name ≡ codes "c" → names_of parts ≡ three_names

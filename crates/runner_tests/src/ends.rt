@@ -1,5 +1,5 @@
 // The streams of a run: in memory, as files, and standard output.
-use script_runner::{FileScripts, MemoryScripts, MemorySink, Scripts, Sink, StdoutSink};
+use script_streams::{FileScripts, MemoryScripts, MemorySink, Scripts, Sink, StdoutSink};
 use std::fs;
 use std::process::Abort;
 use std::test::Fail;
