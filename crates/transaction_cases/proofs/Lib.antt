@@ -1,0 +1,3 @@
+pub mod MountLaws
+pub mod ViewLaws
+pub mod SeatLaws

@@ -1,0 +1,3 @@
+pub mod Mounted
+pub mod Shapes
+pub mod Seats
