@@ -1,0 +1,13 @@
+#!/usr/bin/env bash
+# Arrays in files, written by zarr-python and read by the program, and the other way round: compare.py, by a python3 that has zarr.
+#
+# examples/with_zarr_python/compare.sh PROGRAM
+set -u
+program=$(readlink -f "${1:-bin/tensor_run}")
+here=$(cd "$(dirname "$0")" && pwd)
+for python in python3 /usr/bin/python3; do
+    if "$python" -c 'import zarr, numpy' 2> /dev/null; then
+        exec "$python" -W ignore "$here/compare.py" "$program"
+    fi
+done
+echo "with_zarr_python: skipped, since no python3 here has zarr (Debian: apt-get install python3-zarr)"
