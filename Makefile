@@ -34,6 +34,7 @@ bench: bin/tensor_run bin/bench_views bin/bench_chunks bin/bench_stacks bin/benc
 	bench/chunks.sh bin/bench_chunks
 	bench/stacks.sh bin/bench_stacks
 	bench/lines.sh bin/bench_lines
+	bench/beside.sh bin/tensor_run
 
 # make ends with 2 where the script's run ends with another status than 0; `./run SCRIPT` ends with that status
 run:
@@ -43,6 +44,7 @@ test:
 	rt ci
 	@$(MAKE) -s bin/tensor_run
 	tools/program.sh bin/tensor_run
+	examples/with_zarr_python/compare.sh bin/tensor_run
 
 edits:
 	tools/edits.sh
