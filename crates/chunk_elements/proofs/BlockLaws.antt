@@ -1,5 +1,5 @@
 -- What the rows of a block's walk store.
-use Rattle.std.proofs.Common.{◌≡◌, ℕ, ◌+◌, ◌*◌, ◌<◌, ◌≤◌, ◌^◌, Bool, List, [], ◌++◌, length, get_or, take, drop, reverse, sym, ap, subst, ◌∙◌, arith, zero-add, mul_comm}
+use Rattle.std.proofs.Common.{◌≡◌, ℕ, ◌+◌, ◌*◌, ◌<◌, ◌≤◌, ◌^◌, Bool, List, [], ◌++◌, length, get_or, reverse, sym, ap, subst, ◌∙◌, arith, zero-add, mul_comm}
 use Rattle.std.proofs.Math.Nat.{mul-le-mul, mul-le-mul_left}
 use Rattle.cells.specs.Bytes.{byte_count, word_bytes}
 use Rattle.cells.specs.Elements.{element_bytes}

@@ -6,4 +6,5 @@ pub mod LongLaws
 pub mod PartLaws
 pub mod RowLaws
 pub mod RowSteps
+pub mod WholeLaws
 pub mod WordLaws

@@ -1,6 +1,5 @@
 -- Rows of elements, and what they spell.
-use Rattle.std.proofs.Common.{◌≡◌, ℕ, zero, suc, ◌+◌, ◌*◌, ◌-◌, ◌<◌, ◌≤◌, Bool, List, [], ◌∷◌, ◌++◌, map, length, get_or, take, drop, replicate, refl, sym, ap, subst, ◌∙◌, arith, add-zero, zero-add, append-nil, append_assoc}
-use Rattle.std.specs.Prelude.{All}
+use Rattle.std.proofs.Common.{◌≡◌, ℕ, ◌+◌, ◌*◌, ◌-◌, ◌<◌, ◌≤◌, Bool, List, [], ◌∷◌, ◌++◌, map, length, get_or, take, drop, replicate, refl, sym, ap, subst, ◌∙◌, arith, zero-add, append-nil, append_assoc}
 use Rattle.std.specs.List.{flat_map, range_with_len}
 use Rattle.std.proofs.Math.Nat.{mul-le-mul_left}
 use Rattle.std.proofs.Math.Seq.{take-length, take-append_seam}
@@ -12,7 +11,7 @@ use Rattle.cells.specs.Elements.{element_bytes}
 use Rattle.cells.specs.declared.dtype.Dtype.{Dtype}
 use Rattle.cells.proofs.Laws.{length-word_bytes, IsWord-word_of_bytes}
 use Rattle.chunk_elements.specs.Words.{AreSpelled, SpellsWords}
-use Rattle.chunk_elements.specs.Rows.{word_in, words_of_row, elements_of_row, words_of_rows, elements_of_rows}
+use Rattle.chunk_elements.specs.Rows.{word_in, words_of_row, elements_of_row, words_of_rows}
 use Rattle.chunk_elements.proofs.PartLaws.{bytes_of_part}
 use Rattle.chunk_elements.proofs.RowLaws.{length-rows}
 use Rattle.chunk_elements.proofs.RowSteps.{rows_more}

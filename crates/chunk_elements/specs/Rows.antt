@@ -1,5 +1,5 @@
 -- Words and elements, row by row.
-use Rattle.std.specs.Prelude.{ℕ, ◌+◌, ◌-◌, ◌*◌, Bool, true, false, ◌&&◌, ◌==◌, if◌then◌else◌, List, [], ◌∷◌, ◌++◌, map, take, drop, replicate, slice_index}
+use Rattle.std.specs.Prelude.{ℕ, ◌+◌, ◌-◌, ◌*◌, Bool, ◌&&◌, ◌==◌, if◌then◌else◌, List, [], ◌∷◌, ◌++◌, map, take, drop, replicate, slice_index}
 use Rattle.std.specs.List.{flat_map, range_with_len}
 use Rattle.cells.specs.Bytes.{byte_count, word_bytes, word_of_bytes}
 use Rattle.cells.specs.Places.{cell_count}

@@ -10,6 +10,7 @@ mod element;
 mod long;
 mod row;
 mod rows;
+mod whole;
 mod words;
 
 pub use block::{put_block, words_of_block};

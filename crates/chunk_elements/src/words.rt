@@ -3,7 +3,7 @@ ghost use Rattle.std.specs.Prelude.{◌≡◌, ◌*◌, ◌≤◌, ◌^◌, IfOk
 ghost use Rattle.cells.specs.Bytes.{byte_count};
 ghost use Rattle.chunk_elements.specs.Words.{AreSpelled, SpellsWords};
 
-use crate::row::{read_row, write_row};
+use crate::whole::{put_words, take_words};
 use cells::Dtype;
 use std::alloc::{AllocError, Global};
 
@@ -22,8 +22,8 @@ pub fn words_of(
     requires small { count ≤ 2 ^ 24 }
     ensures { IfOk result (λ words. AreSpelled dtype big count bytes.now words.items) }
 {
-    let mut words = Vec::with_capacity(alloc, count)?;
-    read_row(dtype, big, count, dtype.byte_count(), 0, bytes, &mut words)?;
+    let mut words = vec![in alloc; 0; count]?;
+    take_words(dtype, big, bytes, &mut words);
     Ok(words)
 }
 
@@ -40,7 +40,7 @@ pub fn bytes_of(
     requires { length words.now ≤ 2 ^ 24 }
     ensures { IfOk result (λ bytes. SpellsWords dtype big bytes.items words.now) }
 {
-    let mut bytes = Vec::with_capacity(alloc, words.len() * dtype.byte_count())?;
-    write_row(dtype, big, words.len(), 1, 0, words, &mut bytes)?;
+    let mut bytes = vec![in alloc; 0; words.len() * dtype.byte_count()]?;
+    put_words(dtype, big, words, &mut bytes);
     Ok(bytes)
 }

@@ -1,5 +1,4 @@
 use Rattle.std.proofs.Common.{◌≡◌, ◌<◌, ℕ, get_or, ◌∙◌, arith}
-use Rattle.cells.specs.Places.{cell_count}
 use Rattle.chunk_elements.specs.Rows.{of_long}
 use Rattle.chunk_elements.proofs.BlockLaws.{AreStored-long, few, long}
 use Rattle.chunk_elements.proofs.block.words_of_block.Goals as goal

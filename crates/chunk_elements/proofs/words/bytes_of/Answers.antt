@@ -1,9 +1,10 @@
-use Rattle.std.proofs.Common.{◌++◌, length, ap, ◌∙◌}
-use Rattle.chunk_elements.specs.Rows.{elements_of_row}
+use Rattle.std.proofs.Common.{◌∙◌, length, drop}
+use Rattle.chunk_elements.proofs.WholeLaws.{whole_over}
 use Rattle.chunk_elements.proofs.WordLaws.{written_spelled}
 use Rattle.chunk_elements.proofs.words.bytes_of.Goals as goal
 
 pub returns : goal.returns
 returns c =
-    written_spelled c.args.dtype c.args.big c.write_row.new.out.items c.args.words.now
-    (c.in_ok-write_row.ensures ∙ ap (λ l. l ++ elements_of_row c.args.dtype c.args.big (length c.args.words.now) 1 0 c.args.words.now) c.in_ok-bytes.ensures.items)
+    written_spelled c.args.dtype c.args.big _ c.args.words.now
+    (whole_over c.in_ok-bytes.bytes.len c.put_words.new.elements (drop (length c.put_words.new.elements) c.in_ok-bytes.bytes.items) (c.put_words.auto.elements ∙ c.deref_mut.ensures.len)
+    ∙ c.put_words.ensures)
