@@ -5,7 +5,7 @@ use Rattle.chunk_forms.specs.declared.form.Want.{Want}
 use Rattle.chunk_forms.specs.Metadata.{SpellsMetadata}
 use Rattle.chunk_forms.specs.Wants.{is_asked_form, metadata_name_asked}
 
--- a leaf of a view: where it lies, what is asked of it, and whether it may be opened where it is found and made where it isn't
+-- a leaf of a Spec: where it lies, what is asked of it, and whether it may be opened where it is found and made where it isn't
 pub record Leaf : Type 0 where
   pub mount : List ℕ
   pub path : List ℕ

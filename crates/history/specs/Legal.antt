@@ -83,7 +83,7 @@ IsPlaced (Zarr3 mount path meta) = IsMount mount
 IsPlaced (Local start) = Unit {0}
 
 -- a new array: its number is the count of those before it, no other lies at its place, above or below it, and it is as its
--- metadata says
+-- metadata says, a local array as its own numbers say
 pub record IsLegalOpening (before : History) (info : ArrayInfo) : Type 0 where
   pub number : info.number ≡ count_by is_opening before
   pub alone : (a : ℕ) → IsApartFrom (home_text info.home (length before + 1)) (known_after before a)
@@ -114,7 +114,7 @@ abbrev pub words_of : Op → List ℕ
 words_of (Write view words) = words
 words_of (Read view words) = words
 
--- the words of a Write are words of its view's dtype; what a Read gives is what was there
+-- the words of a Write are words of its view's dtype; those of a Read are what AreReads says
 abbrev pub AreWritten : Op → Type 0
 AreWritten (Write view words) = AllByRecursion (IsWord (look_of view).dtype) words
 AreWritten (Read view words) = Unit {0}

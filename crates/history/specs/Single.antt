@@ -87,7 +87,7 @@ abbrev pub unless_outside : Single → Option Transaction → Option Outside →
 unless_outside s t None done = done
 unless_outside s t (Some o) done = record { after = record s { transaction = t }; body = body.shrunk o.key (resized_after s.events o.array) }
 
--- what the session sees of a view
+-- what the session sees of a view; a cell without a word, which there is over no store that began empty, shows 0
 abbrev pub words_now : History → Transaction → View → List ℕ
 words_now events t view = map (λ word. unwrap_or word 0) (read_values (written t.ops (world_after finmap.empty events)) view)
 
