@@ -2,8 +2,8 @@
 use Rattle.std.proofs.Common.{◌≡◌, ◌∙◌, ℕ, zero, suc, ◌+◌, ◌<◌, ◌≤◌, List, [], ◌∷◌, length, set, get_or, refl, sym, ap, subst, arith, inl, inr, get_or-set_other, get_or-set_same}
 use Rattle.std.proofs.lemmas.List.{length-set, ext_get_or}
 use Rattle.cells.proofs.Laws.{equal_or_not}
-use Rattle.stack_driver.specs.Targets.{outwards}
-use Rattle.transaction_cells.specs.Casting.{casts_at}
+use Rattle.stack_driver.specs.Targets.{inwards, outwards}
+use Rattle.transaction_cells.specs.Casting.{ArePlain, casts_at, taken_back}
 use Rattle.transaction_cells.specs.Gathered.{taken_out}
 use Rattle.transaction_cells.specs.Lanes.{LaneSeen}
 
@@ -52,3 +52,26 @@ all_out lanes leaves old new k same le h =
     let out = length-taken_out lanes leaves old same in
     ext_get_or 0 new (taken_out lanes leaves old) (omega (arith, long, out))
     (λ i lt. h.before i (omega (arith, long, lt, same, le)) (omega (arith, long, lt)) ∙ sym (get_or-taken_out lanes leaves old i same (omega (arith, long, lt))))
+
+-- a leaf without casts, also one that isn't there
+plain_casts : (lanes : List LaneSeen) (leaf : ℕ) → ArePlain lanes → casts_at lanes leaf ≡ []
+plain_casts [] leaf plain = refl
+plain_casts (lane ∷ lanes) zero plain = plain.0
+plain_casts (lane ∷ lanes) (suc leaf) plain = plain_casts lanes leaf plain.1
+
+-- without casts a word is kept as it is shown
+pub plain_back : (lanes : List LaneSeen) (leaves words : List ℕ) → ArePlain lanes → length words ≡ length leaves → taken_back lanes leaves words ≡ words
+plain_back lanes [] [] plain same = refl
+plain_back lanes [] (word ∷ words) plain same = absurd (omega (arith, same))
+plain_back lanes (leaf ∷ leaves) [] plain same = refl
+plain_back lanes (leaf ∷ leaves) (word ∷ words) plain same =
+    ap (λ casts. inwards casts word ∷ taken_back lanes leaves words) (plain_casts lanes leaf plain)
+    ∙ ap (λ l. word ∷ l) (plain_back lanes leaves words plain (omega (arith, same)))
+
+pub plain_out : (lanes : List LaneSeen) (leaves words : List ℕ) → ArePlain lanes → length words ≡ length leaves → taken_out lanes leaves words ≡ words
+plain_out lanes [] [] plain same = refl
+plain_out lanes [] (word ∷ words) plain same = absurd (omega (arith, same))
+plain_out lanes (leaf ∷ leaves) [] plain same = refl
+plain_out lanes (leaf ∷ leaves) (word ∷ words) plain same =
+    ap (λ casts. outwards casts word ∷ taken_out lanes leaves words) (plain_casts lanes leaf plain)
+    ∙ ap (λ l. word ∷ l) (plain_out lanes leaves words plain (omega (arith, same)))

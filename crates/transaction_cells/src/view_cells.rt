@@ -1,6 +1,6 @@
-ghost use Rattle.std.specs.Prelude.{◌≡◌, length, IfOk};
+ghost use Rattle.std.specs.Prelude.{◌≡◌, length, IfOk, IsTrue};
 ghost use Rattle.std.specs.List.{AllByRecursion};
-ghost use Rattle.transaction_cells.specs.Casting.{HasLane, taken_back};
+ghost use Rattle.transaction_cells.specs.Casting.{ArePlain, HasLane, taken_back};
 ghost use Rattle.transaction_cells.specs.Gathered.{taken_out};
 
 use crate::lane::Lane;
@@ -62,6 +62,34 @@ fn back(
     requires lanes { AllByRecursion (HasLane lanes.now) leaves.now }
     ensures { IfOk result (λ kept. kept.items ≡ taken_back lanes.now leaves.now words.now) }
 {
+    if are_plain(lanes) {
+        return Ok(Vec::from_slice(alloc, words)?);
+    }
+    cast_back(alloc, lanes, leaves, words)
+}
+
+// Whether no leaf has a cast, so that each word is kept as it is shown.
+fn are_plain(lanes: &[Lane]) -> bool
+    ensures { IsTrue result → ArePlain lanes.now }
+{
+    for lane in lanes {
+        if !lane.casts.casts().is_empty() {
+            return false;
+        }
+    }
+    true
+}
+
+fn cast_back(
+    alloc: Global,
+    lanes: &[Lane],
+    leaves: &[u32],
+    words: &[u64],
+) -> Result<Vec<u64>, AllocError>
+    requires count { length words.now ≡ length leaves.now }
+    requires lanes { AllByRecursion (HasLane lanes.now) leaves.now }
+    ensures { IfOk result (λ kept. kept.items ≡ taken_back lanes.now leaves.now words.now) }
+{
     let mut kept = Vec::with_capacity(alloc, words.len())?;
     for (cell, leaf) in leaves.iter().enumerate() {
         let lane = &lanes[*leaf as usize];
@@ -71,6 +99,16 @@ fn back(
 }
 
 fn out(lanes: &[Lane], leaves: &[u32], words: &mut [u64])
+    requires count { length words.old ≡ length leaves.now }
+    requires lanes { AllByRecursion (HasLane lanes.now) leaves.now }
+    ensures { words.new ≡ taken_out lanes.now leaves.now words.old }
+{
+    if !are_plain(lanes) {
+        cast_out(lanes, leaves, words);
+    }
+}
+
+fn cast_out(lanes: &[Lane], leaves: &[u32], words: &mut [u64])
     requires count { length words.old ≡ length leaves.now }
     requires lanes { AllByRecursion (HasLane lanes.now) leaves.now }
     ensures { words.new ≡ taken_out lanes.now leaves.now words.old }

@@ -1,7 +1,7 @@
 use Rattle.std.proofs.Common.{◌≡◌, ◌++◌, drop}
 use Rattle.std.specs.List.{AllByRecursion}
 use Rattle.transaction_cells.specs.Casting.{HasLane, taken_back}
-use Rattle.transaction_cells.proofs.view_cells.back.Given as goal
+use Rattle.transaction_cells.proofs.view_cells.cast_back.Given as goal
 
 -- the words so far, and those of the cells that are left
 abbrev pub invariant-loop-cell : goal.invariant-loop-cell
