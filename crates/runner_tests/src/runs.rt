@@ -3,9 +3,8 @@ ghost use Rattle.std.specs.Prelude.{◌≡◌, None, codes, IfOk};
 ghost use Rattle.kv_mounts.specs.Parts.{AreMounts};
 
 use crate::counted::Counted;
-use crate::stores::change;
-use cells::Name;
-use kv_face::{KvStore, MemoryKv};
+use cells::{List, Name};
+use kv_face::{Change, KvStore, MemoryKv};
 use script_runner::{Gate, MemoryScripts, MemorySink, Mount, Outcome, run};
 use std::alloc::{AllocError, Global};
 use std::str;
@@ -31,8 +30,13 @@ pub(crate) fn put(
     key: &str,
     bytes: &[u8],
 ) -> Result<(), Fail> {
-    let change = change(alloc, key, Some(bytes))?;
+    let change = change(alloc, Name::wrap(String::from_str(alloc, key)?), bytes)?;
     Ok(store.apply(&[change])?)
+}
+
+fn change(alloc: Global, key: Name, bytes: &[u8]) -> Result<Change, AllocError> {
+    let bytes = Some(List::wrap(Vec::from_slice(alloc, bytes)?));
+    Ok(Change { key, bytes })
 }
 
 /// Runs each text as a script, the first in session 0, with these words in front of the scripts' names `0`, `1` and so on. What comes, as

@@ -1,6 +1,6 @@
 use Rattle.std.proofs.Common.{◌∙◌, ◌≡◌, ◌<◌, ◌++◌, ℕ, List, take, drop, length, get_or, sym, ap, subst, arith, append-nil}
 use Rattle.std.proofs.Math.Seq.{take-length, drop-length}
-use Rattle.runner_tests.proofs.turns.add_all.Goals as goal
+use Rattle.store_tests.proofs.turns.add_all.Goals as goal
 
 -- the passes after they were lent as a slice
 lent : {A : Type 0} (n : ℕ) (items new : List A) → length items ≡ n → length new ≡ n → take n (new ++ drop (length new) items) ≡ new

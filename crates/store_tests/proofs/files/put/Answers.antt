@@ -1,5 +1,5 @@
-use Rattle.runner_tests.proofs.Mounted.{one_distinct}
-use Rattle.runner_tests.proofs.files.put.Goals as goal
+use Rattle.store_tests.proofs.Mounted.{one_distinct}
+use Rattle.store_tests.proofs.files.put.Goals as goal
 
 pub apply-requires-clause-distinct : goal.apply-requires-clause-distinct
 apply-requires-clause-distinct c = one_distinct c.from_ref.result.now _ c.from_ref.ensures.value

@@ -1,8 +1,8 @@
 use Rattle.std.proofs.Common.{◌≡◌, ◌∙◌, ◌++◌, ◌∷◌, [], List, ap}
 use Rattle.std.proofs.lemmas.Str.{IsCharBoundary-start}
 use Rattle.kv_face.specs.declared.change.Change.{Change}
-use Rattle.runner_tests.proofs.Mounted.{boundaries}
-use Rattle.runner_tests.proofs.mounts.together.Goals as goal
+use Rattle.store_tests.proofs.Mounted.{boundaries}
+use Rattle.store_tests.proofs.mounts.together.Goals as goal
 
 pub together-requires : goal.together-requires
 together-requires g c =

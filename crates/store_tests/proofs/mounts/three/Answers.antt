@@ -1,7 +1,7 @@
 use Rattle.std.proofs.Common.{◌≡◌, ◌∙◌, ◌++◌, ◌∷◌, [], List, ap, length}
 use Rattle.kv_mounts.specs.Parts.{Part, names_of}
-use Rattle.runner_tests.proofs.Mounted.{mounts_three, names_three}
-use Rattle.runner_tests.proofs.mounts.three.Goals as goal
+use Rattle.store_tests.proofs.Mounted.{mounts_three, names_three}
+use Rattle.store_tests.proofs.mounts.three.Goals as goal
 
 pub new-requires : goal.new-requires
 new-requires c =

@@ -45,16 +45,16 @@ fn a_sink_in_memory_fails_where_named(rt: HostRuntime) -> Result<(), Fail> {
 
 #[test]
 fn files_are_scripts(rt: HostRuntime) -> Result<(), Fail> {
-    fs::write(&rt, "runner_tests_script", "abc")?;
+    fs::write(&rt, "store_tests_script", "abc")?;
     let mut scripts = FileScripts::new(rt);
     let mut buf = [0u8; 8];
     assert!(rt; scripts.next(&mut buf) == Ok(0));
-    assert!(rt; scripts.select("runner_tests_script").is_ok());
+    assert!(rt; scripts.select("store_tests_script").is_ok());
     assert!(rt; scripts.next(&mut buf) == Ok(3));
     assert!(rt; buf == *b"abc\0\0\0\0\0");
     assert!(rt; scripts.next(&mut buf) == Ok(0));
-    fs::remove_file(&rt, "runner_tests_script")?;
-    assert!(rt; scripts.select("runner_tests_script").is_err());
+    fs::remove_file(&rt, "store_tests_script")?;
+    assert!(rt; scripts.select("store_tests_script").is_err());
     assert!(rt; scripts.next(&mut buf) == Ok(0));
     Ok(())
 }

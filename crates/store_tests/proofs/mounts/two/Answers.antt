@@ -1,7 +1,7 @@
 use Rattle.std.proofs.Common.{◌≡◌, ◌∙◌, ◌++◌, ◌∷◌, [], List, ap}
 use Rattle.kv_mounts.specs.Parts.{Part}
-use Rattle.runner_tests.proofs.Mounted.{mounts_two}
-use Rattle.runner_tests.proofs.mounts.two.Goals as goal
+use Rattle.store_tests.proofs.Mounted.{mounts_two}
+use Rattle.store_tests.proofs.mounts.two.Goals as goal
 
 pub new-requires-3 : goal.new-requires-3
 new-requires-3 c =

@@ -44,7 +44,7 @@ fn file_has(rt: HostRuntime, path: &str, bytes: &[u8]) -> bool {
 
 #[test]
 fn keys_are_files_below_a_folder(rt: HostRuntime) -> Result<(), Fail> {
-    let mut store = FileKv::new(rt, "runner_tests_keys")?;
+    let mut store = FileKv::new(rt, "store_tests_keys")?;
     assert!(rt; has(&mut store, "a/b/0", None));
     assert!(rt; put(rt, &mut store, "a/b/0", None)? == Ok(()));
     assert!(rt; put(rt, &mut store, "a/b/0", Some(b"old"))? == Ok(()));
@@ -53,21 +53,21 @@ fn keys_are_files_below_a_folder(rt: HostRuntime) -> Result<(), Fail> {
     assert!(rt; put(rt, &mut store, "a/.zarray", Some(b""))? == Ok(()));
     assert!(rt; has(&mut store, "a/b/0", Some(b"newer")));
     assert!(rt; has(&mut store, "a/.zarray", Some(b"")));
-    assert!(rt; file_has(rt, "runner_tests_keys/a/b/0", b"newer"));
-    assert!(rt; fs::metadata(&rt, "runner_tests_keys/a/b/0~new").is_err());
-    fs::write(&rt, "runner_tests_keys/a/b/1", "other")?;
+    assert!(rt; file_has(rt, "store_tests_keys/a/b/0", b"newer"));
+    assert!(rt; fs::metadata(&rt, "store_tests_keys/a/b/0~new").is_err());
+    fs::write(&rt, "store_tests_keys/a/b/1", "other")?;
     assert!(rt; has(&mut store, "a/b/1", Some(b"other")));
     assert!(rt; put(rt, &mut store, "a/b/0", None)? == Ok(()));
     assert!(rt; has(&mut store, "a/b/0", None));
-    assert!(rt; fs::metadata(&rt, "runner_tests_keys/a/b/0").is_err());
+    assert!(rt; fs::metadata(&rt, "store_tests_keys/a/b/0").is_err());
     assert!(rt; store.finish().is_ok());
-    fs::remove_dir_all(&rt, "runner_tests_keys")?;
+    fs::remove_dir_all(&rt, "store_tests_keys")?;
     Ok(())
 }
 
 #[test]
 fn keys_stay_below_the_folder(rt: HostRuntime) -> Result<(), Fail> {
-    let mut store = FileKv::new(rt, "runner_tests_below/in")?;
+    let mut store = FileKv::new(rt, "store_tests_below/in")?;
     assert!(rt; put(rt, &mut store, "../x", Some(b"1"))? == Err(KvError::Failed));
     assert!(rt; put(rt, &mut store, "a/../../x", Some(b"1"))? == Err(KvError::Failed));
     assert!(rt; put(rt, &mut store, "/x", Some(b"1"))? == Err(KvError::Failed));
@@ -77,21 +77,21 @@ fn keys_stay_below_the_folder(rt: HostRuntime) -> Result<(), Fail> {
     assert!(rt; put(rt, &mut store, "", Some(b"1"))? == Err(KvError::Failed));
     assert!(rt; get_fails(&mut store, "../x"));
     assert!(rt; get_fails(&mut store, ""));
-    assert!(rt; fs::metadata(&rt, "runner_tests_below").is_err());
+    assert!(rt; fs::metadata(&rt, "store_tests_below").is_err());
     Ok(())
 }
 
 #[test]
 fn folders_and_files_in_the_way_are_faults(rt: HostRuntime) -> Result<(), Fail> {
-    let mut store = FileKv::new(rt, "runner_tests_way")?;
+    let mut store = FileKv::new(rt, "store_tests_way")?;
     assert!(rt; put(rt, &mut store, "a/b", Some(b"1"))? == Ok(()));
     assert!(rt; get_fails(&mut store, "a"));
     assert!(rt; put(rt, &mut store, "a", Some(b"2"))? == Err(KvError::Failed));
     assert!(rt; put(rt, &mut store, "a", None)? == Err(KvError::Failed));
-    assert!(rt; fs::metadata(&rt, "runner_tests_way/a~new").is_err());
+    assert!(rt; fs::metadata(&rt, "store_tests_way/a~new").is_err());
     assert!(rt; put(rt, &mut store, "a/b/c", Some(b"2"))? == Err(KvError::Failed));
     assert!(rt; has(&mut store, "a/b", Some(b"1")));
-    fs::remove_dir_all(&rt, "runner_tests_way")?;
+    fs::remove_dir_all(&rt, "store_tests_way")?;
     Ok(())
 }
 
@@ -108,22 +108,22 @@ fn closed_fails(rt: HostRuntime, store: &mut FileKv<HostRuntime>) -> Result<bool
     let replaced = put(rt, store, "a/b", Some(b"2"))?.is_ok();
     let removed = put(rt, store, "a/b", None)?.is_ok();
     let kept = has(store, "a/b", Some(b"1"));
-    set_mode(rt, "runner_tests_closed/a/b", 0)?;
+    set_mode(rt, "store_tests_closed/a/b", 0)?;
     Ok(!replaced && !removed && kept && get_fails(store, "a/b"))
 }
 
 #[test]
 fn want_of_permission_is_a_fault(rt: HostRuntime) -> Result<(), Fail> {
-    let mut store = FileKv::new(rt, "runner_tests_closed")?;
+    let mut store = FileKv::new(rt, "store_tests_closed")?;
     assert!(rt; put(rt, &mut store, "a/b", Some(b"1"))? == Ok(()));
-    set_mode(rt, "runner_tests_closed/a", 0o555)?;
-    if fs::write(&rt, "runner_tests_closed/a/c", "").is_ok() {
+    set_mode(rt, "store_tests_closed/a", 0o555)?;
+    if fs::write(&rt, "store_tests_closed/a/c", "").is_ok() {
         println!(rt; "want of permission isn't tried: whoever runs this may write everywhere")?;
     } else {
         assert!(rt; closed_fails(rt, &mut store)?);
     }
-    set_mode(rt, "runner_tests_closed/a", 0o755)?;
-    fs::remove_dir_all(&rt, "runner_tests_closed")?;
+    set_mode(rt, "store_tests_closed/a", 0o755)?;
+    fs::remove_dir_all(&rt, "store_tests_closed")?;
     Ok(())
 }
 
@@ -133,14 +133,14 @@ fn a_full_device_is_a_fault(rt: HostRuntime) -> Result<(), Fail> {
         println!(rt; "a full device isn't tried: this machine has none")?;
         return Ok(());
     }
-    let mut store = FileKv::new(rt, "runner_tests_full")?;
+    let mut store = FileKv::new(rt, "store_tests_full")?;
     assert!(rt; put(rt, &mut store, "a", Some(b"1"))? == Ok(()));
-    symlink(&rt, "/dev/full", "runner_tests_full/a~new")?;
+    symlink(&rt, "/dev/full", "store_tests_full/a~new")?;
     assert!(rt; put(rt, &mut store, "a", Some(b"2"))? == Err(KvError::Failed));
     assert!(rt; has(&mut store, "a", Some(b"1")));
-    assert!(rt; fs::symlink_metadata(&rt, "runner_tests_full/a~new").is_err());
+    assert!(rt; fs::symlink_metadata(&rt, "store_tests_full/a~new").is_err());
     assert!(rt; put(rt, &mut store, "a", Some(b"3"))? == Ok(()));
     assert!(rt; has(&mut store, "a", Some(b"3")));
-    fs::remove_dir_all(&rt, "runner_tests_full")?;
+    fs::remove_dir_all(&rt, "store_tests_full")?;
     Ok(())
 }

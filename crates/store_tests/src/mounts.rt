@@ -2,7 +2,7 @@
 ghost use Rattle.std.specs.Prelude.{◌≡◌, ◌≤◌, ◌∷◌, ◌++◌, [], length, None, Some, IfOk, true};
 ghost use Rattle.kv_face.specs.Store.{takes};
 ghost use Rattle.kv_mounts.specs.Parts.{names_of};
-ghost use Rattle.runner_tests.specs.Three.{three_names};
+ghost use Rattle.store_tests.specs.Three.{three_names};
 
 use crate::stores::change;
 use cells::Name;
