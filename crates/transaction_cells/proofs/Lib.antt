@@ -17,3 +17,6 @@ pub mod TypeLaws
 pub mod LaterLaws
 pub mod OutsideLaws
 pub mod TypedLaws
+pub mod AlongLaws
+pub mod GridPieces
+pub mod AlongCells

@@ -10,3 +10,4 @@ pub mod Operations
 pub mod Needs
 pub mod Gathered
 pub mod Outside
+pub mod Along

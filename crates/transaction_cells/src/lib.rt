@@ -4,6 +4,7 @@
 //! cell the word that the transaction's operations put there last, and `gather` shows a view through both.
 #![tactic(auto)]
 
+mod along_runs;
 mod cuts;
 mod gathering;
 mod lane;

@@ -16,6 +16,7 @@ ghost use Rattle.transaction_cells.specs.Operations.{HasSites};
 ghost use Rattle.transaction_cells.specs.Pieces.{AreCells, ArePieces};
 ghost use Rattle.transaction_cells.specs.Sites.{Site, sites_of, site_by, told_sites, AreTold, IsLanded};
 
+use crate::along_runs::{along_runs, array_within};
 use crate::cuts::{Cuts, pieces_of, put};
 use crate::lane::Lane;
 use crate::lanes::lanes_of;
@@ -34,6 +35,23 @@ use std::collections::BTreeMap;
 /// - `OutOfRange` or `Uncovered` with the first cell in C order that has no target, and why it has none.
 /// - `Memory`, which may come before another is seen.
 pub fn locate(alloc: Global, v: &View) -> Result<ViewCells, TargetsError>
+    requires view { IsView v.now }
+    requires finite { IsTrue (list_all is_finite (look_of v.now).dims) }
+    requires few { length (cells_of (look_of v.now).dims) ≤ 4194304 }
+    requires alike { AreAlike (leaves_of v.now) }
+    ensures cells { IfOk result (λ cells. AreCells (sites_of v.now) cells) }
+    ensures sites { OnOk result (HasSites v.now) }
+    ensures err { IfErr result (λ e. e ≢ TargetsError.Memory → all_targets v.now ≡ Err e) }
+    ensures lanes { IfOk result (λ cells. cells.lanes ≡ map lane_of (leaves_of v.now)) }
+{
+    match array_within(v) {
+        Some(array) => Ok(along_runs(alloc, v, array)?),
+        None => cell_by_cell(alloc, v),
+    }
+}
+
+// The same, by each cell's own target.
+fn cell_by_cell(alloc: Global, v: &View) -> Result<ViewCells, TargetsError>
     requires view { IsView v.now }
     requires finite { IsTrue (list_all is_finite (look_of v.now).dims) }
     requires few { length (cells_of (look_of v.now).dims) ≤ 4194304 }

@@ -4,7 +4,7 @@ use Rattle.stack_driver.specs.Views.{look_of}
 use Rattle.stack_targets.specs.Buffers.{told_landings}
 use Rattle.stack_targets.specs.Landings.{leaves_of}
 use Rattle.transaction_cells.proofs.ToldLaws.{all_landed, cells_told, length-landings, has_sites}
-use Rattle.transaction_cells.proofs.locating.locate.Goals as goal
+use Rattle.transaction_cells.proofs.locating.cell_by_cell.Goals as goal
 
 pub cut-requires-clause-few : goal.cut-requires-clause-few
 cut-requires-clause-few c =
