@@ -5,7 +5,8 @@ which does the lines of a script one by one: it reads the line's JSON, does what
 sides do the same work on the same text, and their answers to reads are compared.
 
 A time is processor time, user and system, the least of some runs (of one, where that takes more than 10 seconds on the clock), with what an
-empty script takes taken off; the time on the clock stands beside it. Peak memory is what the process had at most, as the system counts it.
+empty script takes taken off; the time on the clock stands beside it. An empty script runs before each of these runs, and the least of its
+times counts, so that both are measured while the machine is alike. Peak memory is what the process had at most, as the system counts it.
 The machine should be quiet: its load is printed.
 """
 
@@ -208,7 +209,7 @@ CASES = [
 ]
 # by lines: name, sizes, scripts, lines of a size, words
 LINES = [
-    ("staged", "four sessions stage rows of one array on four workers, n rows each", (250, 500), lambda n: four(lambda s: staged(s, n, 500)), lambda n: 4 * n, ["--workers", "4"]),
+    ("staged", "four sessions stage rows of one array on four workers, n rows each", (1000, 2000), lambda n: four(lambda s: staged(s, n, 500)), lambda n: 4 * n, ["--workers", "4"]),
     ("lines", "n lines of one cell", (50000, 100000), lambda n: [written_cells(n)], lambda n: n, []),
 ]
 
@@ -240,15 +241,21 @@ def measured(words, room):
     return Measure(clock, used.ru_utime + used.ru_stime, peak)
 
 
-def least(words, room, times, root):
-    every = []
+def least(every):
+    return Measure(min(m.clock for m in every), min(m.processor for m in every), max(m.peak for m in every))
+
+
+def beside_empty(words, empty, room, times, root):
+    """Some runs of a command, and before each of them one of the same command with an empty script. The least of either is kept."""
+    every, none = [], []
     for _ in range(times):
-        shutil.rmtree(root, ignore_errors=True)
-        os.mkdir(root)
-        every.append(measured(words, room))
+        for runs, command in (none, empty), (every, words):
+            shutil.rmtree(root, ignore_errors=True)
+            os.mkdir(root)
+            runs.append(measured(command, room))
         if every[0].clock > 10:
             break
-    return Measure(min(m.clock for m in every), min(m.processor for m in every), max(m.peak for m in every))
+    return least(every), least(none)
 
 
 def values(room):
@@ -269,9 +276,11 @@ class Bench:
         self.program, self.python, self.room = program, python, room
         self.root = f"{room}/root"
         self.short = []
-        nothing = self.put([iter(["\n"])])
-        self.empty = self.ours(nothing, [], 5)
-        self.none = self.theirs(nothing, 3) if python else None
+        self.nothing = f"{room}/nothing.jsonl"
+        with open(self.nothing, "w") as file:
+            file.write("\n")
+        self.empty = self.ours([self.nothing], [], 5)[1]
+        self.none = self.theirs([self.nothing], 3)[1] if python else None
 
     def put(self, scripts):
         files = []
@@ -282,10 +291,14 @@ class Bench:
         return files
 
     def ours(self, files, words, times=3):
-        return least([self.program, "--root", self.root, *words, *files], self.room, times, self.root)
+        """The program's times and those of an empty script."""
+        command = [self.program, "--root", self.root, *words]
+        return beside_empty([*command, *files], [*command, self.nothing], self.room, times, self.root)
 
-    def theirs(self, files, times=2):
-        return least([self.python, "-W", "ignore", os.path.abspath(__file__), "--do", self.root, *files], self.room, times, self.root)
+    def theirs(self, files, times=3):
+        """The same of zarr-python."""
+        command = [self.python, "-W", "ignore", os.path.abspath(__file__), "--do", self.root]
+        return beside_empty([*command, *files], [*command, self.nothing], self.room, times, self.root)
 
     def falls_short(self, text):
         self.short.append(text)
@@ -295,21 +308,21 @@ class Bench:
         before = None
         for n in sizes:
             files = self.put(scripts(n))
-            ours = self.ours(files, words)
-            time_of = max(ours.processor - self.empty.processor, 0.001)
-            text = f"  n = {n:7d}: {time_of:8.3f} s ({ours.clock - self.empty.clock:.3f} on the clock), {ours.peak / 1024:6.0f} MiB"
+            ours, empty = self.ours(files, words)
+            time_of = max(ours.processor - empty.processor, 0.001)
+            text = f"  n = {n:7d}: {time_of:8.3f} s ({ours.clock - empty.clock:.3f} on the clock), {ours.peak / 1024:6.0f} MiB"
             if before:
                 text += f", {time_of / before[0] * before[1] / count(n):5.2f} times as long for each cell as before"
             before = (time_of, count(n))
             if self.python:
                 mine = values(self.room)
-                theirs = self.theirs(files)
+                theirs, none = self.theirs(files)
                 if values(self.room) != mine:
                     self.falls_short(f"{name}, n = {n}: the two sides read other numbers")
-                their_time = max(theirs.processor - self.none.processor, 0.001)
-                text += f"\n{'':15}zarr-python {their_time:8.3f} s ({theirs.clock - self.none.clock:.3f} on the clock), {theirs.peak / 1024:6.0f} MiB: {their_time / time_of:.1f} times as long"
+                their_time = max(theirs.processor - none.processor, 0.001)
+                text += f"\n{'':15}zarr-python {their_time:8.3f} s ({theirs.clock - none.clock:.3f} on the clock), {theirs.peak / 1024:6.0f} MiB: {their_time / time_of:.1f} times as long"
             print(text, flush=True)
-        bytes_each = max(ours.peak - self.empty.peak, 0) * 1024 / count(n)
+        bytes_each = max(ours.peak - empty.peak, 0) * 1024 / count(n)
         print(f"  {bytes_each:.1f} bytes of memory for each of {count(n):,} cells, beyond an empty run", flush=True)
         if bytes_each > 48:
             self.falls_short(f"{name}: {bytes_each:.1f} bytes a cell, and not at most 48")
@@ -323,10 +336,10 @@ class Bench:
         print(name)
         each = []
         for n in sizes:
-            ours = self.ours(self.put(scripts(n)), words, 5)
-            time_of = max(ours.processor - self.empty.processor, 0.001)
+            ours, empty = self.ours(self.put(scripts(n)), words, 5)
+            time_of = max(ours.processor - empty.processor, 0.001)
             each.append(time_of / lines(n))
-            print(f"  n = {n:7d}: {time_of:8.3f} s ({ours.clock - self.empty.clock:.3f} on the clock), {each[-1] * 1e6:.1f} microseconds a line, {ours.peak / 1024:6.0f} MiB", flush=True)
+            print(f"  n = {n:7d}: {time_of:8.3f} s ({ours.clock - empty.clock:.3f} on the clock), {each[-1] * 1e6:.1f} microseconds a line, {ours.peak / 1024:6.0f} MiB", flush=True)
         growth = each[1] / each[0]
         print(f"  {growth:.3f} times as long a line", flush=True)
         if growth > 1.05:
@@ -341,7 +354,7 @@ def main(words):
     with tempfile.TemporaryDirectory() as room:
         bench = Bench(program, None if python == "none" else python, room)
         print(f"an empty script: {bench.empty.processor:.3f} s, {bench.empty.peak / 1024:.0f} MiB", end="")
-        print(f"; zarr-python {bench.none.processor:.3f} s, {bench.none.peak / 1024:.0f} MiB; taken off below" if bench.none else "")
+        print(f"; zarr-python {bench.none.processor:.3f} s, {bench.none.peak / 1024:.0f} MiB" if bench.none else "")
         for case in CASES:
             if not chosen or case[0] in chosen:
                 bench.case(*case)
