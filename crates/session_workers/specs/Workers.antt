@@ -6,12 +6,15 @@ use Rattle.answer_text.specs.declared.answer.Answer.{Answer}
 use Rattle.answer_text.specs.declared.answer.Body.TheVariants.{Memory}
 use Rattle.history.specs.declared.event.Event.{Event}
 use Rattle.history.specs.History.{History}
-use Rattle.session_runs.specs.Scripts.{asked_by, HasRunScript}
-use Rattle.session_runs.specs.Session.{SessionSeen, IsSessionOn, numbers_from}
+use Rattle.session_runs.specs.Scripts.{HasRunScript}
+use Rattle.session_runs.specs.Session.{SessionSeen, IsSessionOn}
 use Rattle.state_laws.specs.Agreement.{Opening}
 use Rattle.transactions.specs.Turns.{owner_of}
 use Rattle.turn_book.specs.History.{entries_of}
 use Rattle.turn_book.specs.Passes.{BookView, PassView, IsIdle}
+-- what a script asks, line by line, and the numbers of those that aren't blank
+pub use Rattle.session_runs.specs.Scripts.{asked_by}
+pub use Rattle.session_runs.specs.Session.{numbers_from}
 
 -- a session that was given no line yet
 pub record IsFresh (book : BookView Opening) (s : SessionSeen) : Type 0 where

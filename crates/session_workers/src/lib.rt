@@ -10,3 +10,4 @@ mod running;
 mod working;
 
 pub use running::{Ended, run_scripts};
+pub use transactions::Gate;
