@@ -44,3 +44,16 @@ row_at f P (x ∷ xs) (suc k) d low all = row_at f P xs k d (omega (arith, low))
 
 pub row_all_at : {A : Type 0} (f : A → List SessionSeen) (P : SessionSeen → Type 0) (xs ys : List A) → ys ≡ xs → AllByRecursion (AllByRecursion P) (map f xs) → (k : ℕ) (d : A) → k < length ys → AllByRecursion P (f (get_or ys k d))
 row_all_at f P xs ys same all k d low = row_at f P ys k d low (subst (λ zs. AllByRecursion (AllByRecursion P) (map f zs)) (sym same) all)
+
+-- what holds at each place of two parts holds at each place of both together
+pub both_parts : {A : Type 0} (R : A → A → Type 0) (xs ys xs' ys' : List A) → length xs' ≡ length xs → ((i : ℕ) (d : A) → i < length xs → R (get_or xs i d) (get_or xs' i d)) → ((i : ℕ) (d : A) → i < length ys → R (get_or ys i d) (get_or ys' i d))
+    → (i : ℕ) (d : A) → i < length (xs ++ ys) → R (get_or (xs ++ ys) i d) (get_or (xs' ++ ys') i d)
+both_parts R [] ys [] ys' e first others i d low = others i d low
+both_parts R [] ys (x' ∷ xs') ys' e first others i d low = absurd (omega (arith, e))
+both_parts R (x ∷ xs) ys [] ys' e first others i d low = absurd (omega (arith, e))
+both_parts R (x ∷ xs) ys (x' ∷ xs') ys' e first others zero d low = first 0 d (omega arith)
+both_parts R (x ∷ xs) ys (x' ∷ xs') ys' e first others (suc i) d low = both_parts R xs ys xs' ys' (omega (arith, e)) (λ j d small. first (suc j) d (omega (arith, small))) others i d (omega (arith, low))
+
+pub both_at : {A : Type 0} (whole xs ys xs' ys' : List A) (R : A → A → Type 0) → whole ≡ xs ++ ys → length xs' ≡ length xs → ((i : ℕ) (d : A) → i < length xs → R (get_or xs i d) (get_or xs' i d)) → ((i : ℕ) (d : A) → i < length ys → R (get_or ys i d) (get_or ys' i d))
+    → (i : ℕ) (d : A) → i < length whole → R (get_or whole i d) (get_or (xs' ++ ys') i d)
+both_at {A} whole xs ys xs' ys' R is e first others = subst (λ zs. (i : ℕ) (d : A) → i < length zs → R (get_or zs i d) (get_or (xs' ++ ys') i d)) (sym is) (both_parts R xs ys xs' ys' e first others)

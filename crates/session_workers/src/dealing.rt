@@ -42,19 +42,36 @@ fn idle_worker<K: KvStore>(alloc: Global, room: usize) -> Result<Worker<K>, Allo
     })
 }
 
-/// Gives session i, which has pass i, to worker i modulo their number.
-pub(crate) fn deal<K: KvStore>(alloc: Global, passes: Vec<Pass<State<K>>>, row: &mut [Worker<K>])
-    requires some { 0 < length row.old }
+/// Gives session i, which has pass i, to worker i modulo the number of those in front; the last `behind` sessions to the last worker of all.
+pub(crate) fn deal<K: KvStore>(
+    alloc: Global,
+    passes: Vec<Pass<State<K>>>,
+    row: &mut [Worker<K>],
+    front: usize,
+    behind: usize,
+)
+    requires some { 0 < front }
+    requires front { front ≤ length row.old }
     requires rooms { All (λ w. (w.sessions.items ≡ []) × (length passes.items ≤ vec_capacity w.sessions)) row.old }
     ensures count { length row.new ≡ length row.old }
     ensures dealt { (book : BookView Opening) → book.passes ≡ length passes.items → AreNew book passes.items
         → AreDealt (IsFresh book) (map (λ w. map (λ s. session_with s.pass (get_by_text s.names) s.txn s.log.items s.ended) w.sessions.items) row.new) (length passes.items) }
 {
+    let ahead = passes.len().saturating_sub(behind);
     let mut next = 0;
     for pass in passes {
-        add(row, next, Session::new(alloc, pass));
-        next = place_behind(next, row.len());
+        let place = place_of(pass.number() as usize, ahead, next, row.len());
+        add(row, place, Session::new(alloc, pass));
+        next = place_behind(next, front);
     }
+}
+
+// The place of the worker for the session of this number: the next one, or the last where the session isn't among those ahead.
+fn place_of(number: usize, ahead: usize, next: usize, count: usize) -> usize
+    requires { next < count }
+    ensures { result < count }
+{
+    if number < ahead { next } else { count - 1 }
 }
 
 // The place behind this one, or the first behind the last.

@@ -11,7 +11,7 @@ ghost use Rattle.turn_book.specs.Passes.{BookView, AreNew};
 
 use crate::dealing::{Worker, deal, workers};
 use crate::gathering::{are_full, gather};
-use crate::working::work;
+use crate::working::work_in_turn;
 use answer_text::Answer;
 use cells::{List, Name};
 use kv_face::KvStore;
@@ -32,7 +32,8 @@ pub struct Ended<K: KvStore> {
 }
 
 /// Runs each script in a session of its own, over one state that begins over a store with a cache of at most so many cells. Session i runs on
-/// worker i modulo their number; a worker runs its sessions one after the other.
+/// worker i modulo their number; a worker runs its sessions one after the other. The last `behind` sessions start once all others were joined;
+/// they have a worker of their own.
 ///
 /// # Errors
 /// There was no memory before the first session was started. The store comes back.
@@ -44,6 +45,7 @@ pub fn run_scripts<K: KvStore + Send, R: Threads + Wait + Sync, G: Gate + Sync>(
     mounts: &[Name],
     scripts: &[Vec<u8>],
     threads: usize,
+    behind: usize,
     gate: &G,
 ) -> Result<Ended<K>, StateRefused<K>>
     requires limit { limit ≤ 2 ^ 27 }
@@ -61,7 +63,8 @@ pub fn run_scripts<K: KvStore + Send, R: Threads + Wait + Sync, G: Gate + Sync>(
         IfOk result (λ r. Agrees (record { store = seen store; limit = limit }) (seen r.state.store) r.state.log) }
     ensures handed_back { IfErr result (λ refused. refused.store ≡ store) }
 {
-    let Ok(row) = workers(alloc, threads.min(scripts.len()), scripts.len()) else {
+    let front = threads.min(scripts.len());
+    let Ok(row) = workers(alloc, front + behind.min(1), scripts.len()) else {
         return Err(StateRefused { store });
     };
     let Ok(back) = Vec::with_capacity(alloc, scripts.len()) else {
@@ -71,8 +74,8 @@ pub fn run_scripts<K: KvStore + Send, R: Threads + Wait + Sync, G: Gate + Sync>(
         return Err(StateRefused { store });
     };
     let (book, passes) = State::behind_turn(alloc, store, limit, scripts.len() as u32)?;
-    let row = dealt(alloc, passes, row);
-    let row = worked(alloc, rt, &book, mounts, scripts, row, threads, gate);
+    let row = dealt(alloc, passes, row, front, behind);
+    let row = worked(alloc, rt, &book, mounts, scripts, row, front, gate);
     Ok(gathered(book, row, back, logs))
 }
 
@@ -81,17 +84,21 @@ fn dealt<K: KvStore>(
     alloc: Global,
     passes: Vec<Pass<State<K>>>,
     mut row: Vec<Worker<K>>,
+    front: usize,
+    behind: usize,
 ) -> Vec<Worker<K>>
-    requires some { 0 < length row.items }
+    requires some { 0 < front }
+    requires front { front ≤ length row.items }
     requires rooms { All (λ w. (w.sessions.items ≡ []) × (length passes.items ≤ vec_capacity w.sessions)) row.items }
+    ensures count { length result.items ≡ length row.items }
     ensures dealt { (book : BookView Opening) → book.passes ≡ length passes.items → AreNew book passes.items
         → AreDealt (IsFresh book) (map (λ w. map (λ s. session_with s.pass (get_by_text s.names) s.txn s.log.items s.ended) w.sessions.items) result.items) (length passes.items) }
 {
-    deal(alloc, passes, row.as_mut_slice());
+    deal(alloc, passes, row.as_mut_slice(), front, behind);
     row
 }
 
-// Lets the workers work.
+// Lets the workers work, those in front before the others.
 fn worked<K: KvStore + Send, R: Threads + Wait + Sync, G: Gate + Sync>(
     alloc: Global,
     rt: &R,
@@ -99,24 +106,25 @@ fn worked<K: KvStore + Send, R: Threads + Wait + Sync, G: Gate + Sync>(
     mounts: &[Name],
     scripts: &[Vec<u8>],
     mut row: Vec<Worker<K>>,
-    threads: usize,
+    front: usize,
     gate: &G,
 ) -> Vec<Worker<K>>
-    requires threads { 0 < threads }
+    requires some { 0 < front }
+    requires front { front ≤ length row.items }
     requires dealt { AreDealt (IsFresh book.now) (map (λ w. map (λ s. session_with s.pass (get_by_text s.names) s.txn s.log.items s.ended) w.sessions.items) row.items) (length scripts.now) }
     requires mounts { HasMounts book.now mounts.now }
     requires passes { book.now.passes ≡ length scripts.now }
     requires short { All (λ s. length s.items < 2 ^ 62) scripts.now }
     ensures { AreDealt (HasRun book.now mounts.now (map (λ v. v.items) scripts.now) false) (map (λ w. map (λ s. session_with s.pass (get_by_text s.names) s.txn s.log.items s.ended) w.sessions.items) result.items) (length scripts.now) }
 {
-    work(
+    work_in_turn(
         alloc,
         rt,
         book,
         mounts,
         scripts,
         row.as_mut_slice(),
-        threads,
+        front,
         gate,
     );
     row

@@ -1,5 +1,5 @@
 // Workers at work.
-ghost use Rattle.std.specs.Prelude.{◌≡◌, ◌<◌, ◌^◌, ℕ, length, map, All, slice_index_or};
+ghost use Rattle.std.specs.Prelude.{◌≡◌, ◌≤◌, ◌<◌, ◌^◌, ℕ, length, map, All, slice_index_or};
 ghost use Rattle.std.specs.List.{AllByRecursion};
 ghost use Rattle.indexmap.specs.IndexMap.{get_by_text};
 ghost use Rattle.session_runs.specs.Session.{session_with, HasMounts};
@@ -17,8 +17,33 @@ use std::thread::Threads;
 use transactions::Gate;
 use turn_book::TurnBook;
 
-/// Runs each worker's sessions one after the other, each with the script of its number; the workers run beside each other.
-pub(crate) fn work<K: KvStore + Send, R: Threads + Wait + Sync, G: Gate + Sync>(
+/// Lets the workers in front work, and the others once these were joined.
+pub(crate) fn work_in_turn<K: KvStore + Send, R: Threads + Wait + Sync, G: Gate + Sync>(
+    alloc: Global,
+    rt: &R,
+    book: &TurnBook<State<K>>,
+    mounts: &[Name],
+    scripts: &[Vec<u8>],
+    row: &mut [Worker<K>],
+    front: usize,
+    gate: &G,
+)
+    requires some { 0 < front }
+    requires front { front ≤ length row.old }
+    requires fresh { All (λ w. AllByRecursion (IsFresh book.now) (map (λ s. session_with s.pass (get_by_text s.names) s.txn s.log.items s.ended) w.sessions.items)) row.old }
+    requires mounts { HasMounts book.now mounts.now }
+    requires passes { book.now.passes ≡ length scripts.now }
+    requires short { All (λ s. length s.items < 2 ^ 62) scripts.now }
+    ensures count { length row.new ≡ length row.old }
+    ensures worked { (i : ℕ) (d : _) → i < length row.old → AreWorked book.now mounts.now (map (λ v. v.items) scripts.now) (map (λ s. session_with s.pass (get_by_text s.names) s.txn s.log.items s.ended) (slice_index_or row.old i d).sessions.items) (map (λ s. session_with s.pass (get_by_text s.names) s.txn s.log.items s.ended) (slice_index_or row.new i d).sessions.items) }
+{
+    let (first, others) = row.split_at_mut(front);
+    work(alloc, rt, book, mounts, scripts, first, front, gate);
+    work(alloc, rt, book, mounts, scripts, others, 1, gate);
+}
+
+// Runs each worker's sessions one after the other, each with the script of its number; the workers run beside each other.
+fn work<K: KvStore + Send, R: Threads + Wait + Sync, G: Gate + Sync>(
     alloc: Global,
     rt: &R,
     book: &TurnBook<State<K>>,

@@ -29,8 +29,8 @@ loop-pass-preserved g c =
       dealt = λ book passes new.
           let at = new_at book c.args.passes.items c.loop-pass.yielded _ c.in-Some.pass whole passes new in
           let same = c.new.ensures.pass in
-          dealt_step (λ w. w.sessions.items) (λ s. session_with s.pass (get_by_text s.names) s.txn s.log.items s.ended) (IsFresh book) c.loop-pass.row c.add.new.row (length c.loop-pass.yielded) c.loop-pass.next _ c.new.result
-          c.loop-pass.invariant.next c.add.ensures.added (c.loop-pass.invariant.dealt book passes new)
+          dealt_step (λ w. w.sessions.items) (λ s. session_with s.pass (get_by_text s.names) s.txn s.log.items s.ended) (IsFresh book) c.loop-pass.row c.add.new.row (length c.loop-pass.yielded) c.place_of-place.result _ c.new.result
+          c.place_of-place.ensures c.add.ensures.added (c.loop-pass.invariant.dealt book passes new)
           (record {
             going = c.new.ensures.going;
             on = c.new.ensures.on book (rested book c.in-Some.pass _ at.0) (unseen book c.in-Some.pass _ at.0);
