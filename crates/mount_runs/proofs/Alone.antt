@@ -1,6 +1,6 @@
 -- A run of one script alone: it is the single session, as far as it goes.
-use Rattle.std.proofs.Common.{◌≡◌, ◌∙◌, ◌⊎◌, ℕ, zero, suc, ◌+◌, ◌<◌, ◌≤◌, Bool, true, false, List, [], ◌∷◌, ◌++◌, length, drop, cond, inl, inr, Option, Some, None, refl, sym, ap, subst, append-nil, append_assoc, arith}
-use Rattle.std.specs.Prelude.{fold, filter, filter_map, count_by, IsTrue}
+use Rattle.std.proofs.Common.{◌≡◌, ◌∙◌, ℕ, zero, suc, ◌+◌, ◌<◌, ◌≤◌, Bool, true, false, List, [], ◌∷◌, ◌++◌, length, drop, cond, Some, None, refl, sym, ap, subst, append_assoc, arith}
+use Rattle.std.specs.Prelude.{fold, filter, filter_map, count_by}
 use Rattle.std.specs.FinMap as finmap
 use Rattle.std.specs.List.{AllByRecursion}
 use Rattle.std.proofs.lemmas.List.{length-append}
@@ -14,15 +14,14 @@ use Rattle.history.specs.Answers.{Text, Answer}
 use Rattle.history.specs.Bound.{IsWithin}
 use Rattle.history.specs.Commit.{Fixed}
 use Rattle.history.specs.Legal.{IsLegal}
-use Rattle.history.specs.Lines.{Line}
 use Rattle.history.specs.Own.{own_events, numbered}
-use Rattle.history.specs.Sessions.{SessionState, at_first}
+use Rattle.history.specs.Sessions.{SessionState}
 use Rattle.history.specs.Single.{Run, after_line, begun_run, single_session}
-use Rattle.history.specs.Steps.{SessionStep, is_memory, IsSessionRun, no_line, blank_line, next_line, last_line}
+use Rattle.history.specs.Steps.{is_memory, IsSessionRun, no_line, blank_line, next_line, last_line}
 use Rattle.history.proofs.Alone.{own_all, alone_drop}
 use Rattle.history.proofs.AloneEnds.{AreFirst, run_begins_single}
 use Rattle.history.proofs.AloneRuns.{run_is_single}
-use Rattle.history.proofs.AloneWanting.{HasGone, run_grows}
+use Rattle.history.proofs.AloneWanting.{run_grows}
 use Rattle.mount_runs.specs.Alone.{IsBegunBy, IsAloneRun}
 use Rattle.serial_runs.specs.Runs.{Script, IsLog}
 use Rattle.state_laws.specs.Agreement.{fails, is_fault}

@@ -1,14 +1,14 @@
 -- What finishing mounts leaves as it was.
-use Rattle.std.proofs.Common.{◌≡◌, ◌≢◌, ◌∙◌, ℕ, ◌+◌, ◌≤◌, ◌<◌, Bool, true, false, List, [], ◌∷◌, ◌++◌, map, inl, inr, Option, Some, None, refl, sym, ap, subst, arith}
-use Rattle.std.specs.Prelude.{◌⊎◌, All, option_map, option_and_then, sum_by, if◌then◌else◌}
+use Rattle.std.proofs.Common.{◌≡◌, ◌≢◌, ◌∙◌, ℕ, ◌+◌, ◌≤◌, ◌<◌, Bool, true, false, List, [], ◌∷◌, ◌++◌, map, inl, inr, refl, sym, ap, arith}
+use Rattle.std.specs.Prelude.{◌⊎◌, All, option_map, option_and_then, if◌then◌else◌}
 use Rattle.std.specs.List.{AllByRecursion}
 use Rattle.std.specs.FinMap as finmap
 use Rattle.std.proofs.lemmas.List.Elements.{All-from_recursion}
 use Rattle.std.proofs.lemmas.List.Sums.{sum_by-cons}
-use Rattle.kv_face.specs.Store.{Contents, Standing, opened, finished, failing}
+use Rattle.kv_face.specs.Store.{Standing, opened, finished, failing}
 use Rattle.kv_mounts.specs.Finish.{IsFinished, AreFinished, failed_from}
 use Rattle.kv_mounts.specs.Parts.{Part, below, names_of}
-use Rattle.kv_mounts.specs.Union.{has_failed, entries_of, entries_below, faults_of, prefixes_of, union_of, sum_told, change_count_of, Entries}
+use Rattle.kv_mounts.specs.Union.{has_failed, entries_of, entries_below, faults_of, prefixes_of, union_of, sum_told, change_count_of}
 
 module _ (p q : Part) (is : IsFinished p q) where
   name_is : q.name ≡ p.name

@@ -1,13 +1,12 @@
 -- Names of mounts are such that a session may ask for arrays below them.
-use Rattle.std.proofs.Common.{◌≡◌, ◌≢◌, ◌∙◌, ℕ, ◌<◌, Bool, true, false, List, [], ◌∷◌, ◌++◌, length, get_or, inl, inr, Some, refl, sym, ap, subst, arith, append_assoc}
-use Rattle.std.specs.Prelude.{codes, ◌||◌, ◌&&◌, ◌==◌, nat_eq, All}
+use Rattle.std.proofs.Common.{◌≡◌, ◌≢◌, ℕ, Bool, true, false, List, [], ◌∷◌, ◌++◌, Some, refl, subst, arith, append_assoc}
+use Rattle.std.specs.Prelude.{◌||◌, ◌&&◌, nat_eq}
 use Rattle.std.proofs.lemmas.Bool.Decides.{nat_tests}
 use Rattle.std.specs.List.{AllByRecursion, list_all, list_any, starts_with}
 use Rattle.std.proofs.lemmas.List.Elements.{recursion_from_All}
 use Rattle.cells.proofs.Laws.{both}
 use Rattle.history.specs.Legal.{IsMount}
-use Rattle.kv_face.specs.Store.{takes}
-use Rattle.kv_mounts.specs.Parts.{Part, AreMounts, IsMountName, is_plain, begins, below, names_of}
+use Rattle.kv_mounts.specs.Parts.{Part, AreMounts, IsMountName, is_plain, names_of}
 use Rattle.state_laws.specs.Agreement.{TakesMount}
 
 no_slash : (b : ℕ) → is_plain b ≡ true → b ≢ 47

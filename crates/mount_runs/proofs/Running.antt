@@ -1,13 +1,11 @@
 -- A run over mounts is one that its contract says.
-use Rattle.std.proofs.Common.{◌≡◌, ◌∙◌, ℕ, ◌+◌, ◌≤◌, Bool, true, List, [], ◌∷◌, ◌++◌, map, length, Option, Some, None, refl, sym, ap, subst, arith}
-use Rattle.std.specs.Prelude.{count_by, option_map}
+use Rattle.std.proofs.Common.{◌≡◌, ◌∙◌, ℕ, Bool, true, List, [], ◌∷◌, ◌++◌, map, length, Option, Some, refl, sym, ap, subst, arith}
+use Rattle.std.specs.Prelude.{count_by}
 use Rattle.std.specs.FinMap as finmap
 use Rattle.answer_text.specs.declared.answer.Answer.{Answer}
 use Rattle.history.specs.Alone.{single_store}
 use Rattle.history.specs.Answers as plain
-use Rattle.history.specs.Commit.{Fixed}
 use Rattle.history.specs.Counting.{IsCounted}
-use Rattle.history.specs.History.{History}
 use Rattle.kv_face.specs.Store.{Contents}
 use Rattle.line_answers.specs.Bodies.{answer_of}
 use Rattle.kv_mounts.specs.Finish.{AreFinished, failed_places}
@@ -21,8 +19,7 @@ use Rattle.mount_runs.proofs.Finishing.{names_stay, union_stays, prefixes_stay, 
 use Rattle.serial_runs.specs.Runs.{IsRunOf, AreLogs, AreOfMount}
 use Rattle.serial_runs.specs.Serial.{IsSerial}
 use Rattle.serial_runs.proofs.Laws.{serial}
-use Rattle.session_runs.specs.Scripts.{asked_by}
-use Rattle.session_workers.specs.Workers.{AreSessionLogs, AreWhole}
+use Rattle.session_workers.specs.Workers.{AreSessionLogs, AreWhole, asked_by}
 use Rattle.session_workers.specs.Runs.{ArePrinted}
 use Rattle.session_workers.proofs.Laws.{run_logs, of_mount}
 use Rattle.state_laws.specs.Agreement.{Opening, Agrees, IsTrueTo, is_fault}

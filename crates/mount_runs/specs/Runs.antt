@@ -12,7 +12,7 @@ use Rattle.line_answers.specs.Bodies.{answer_of}
 use Rattle.mount_runs.specs.Alone.{IsAloneRun}
 use Rattle.serial_runs.specs.Runs.{IsRunOf}
 use Rattle.serial_runs.specs.Serial.{IsSerial}
-use Rattle.session_runs.specs.Scripts.{asked_by}
+use Rattle.session_workers.specs.Workers.{asked_by}
 
 -- the stores began with these contents, and make changes together as they say
 abbrev pub fixed_over : List Part → Contents → Fixed

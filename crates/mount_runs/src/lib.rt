@@ -9,3 +9,4 @@ mod runs;
 
 pub use kv_mounts::{BoxedStore, Mount};
 pub use runs::{Finished, run_over};
+pub use session_workers::Gate;

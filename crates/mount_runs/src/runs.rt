@@ -10,11 +10,10 @@ use cells::List;
 use history::Event;
 use kv_face::KvStore;
 use kv_mounts::{FinishList, Mount, Mounts};
-use session_workers::{Ended, run_scripts};
+use session_workers::{Ended, Gate, run_scripts};
 use std::alloc::Global;
 use std::sync::Wait;
 use std::thread::Threads;
-use transactions::Gate;
 
 /// What a run over mounts hands back.
 #[derive(Drop)]
@@ -69,6 +68,7 @@ pub fn run_over<K: KvStore + Send, R: Threads + Wait + Sync, G: Gate + Sync>(
         names.as_slice(),
         scripts,
         workers as usize,
+        0,
         gate,
     ) {
         Ok(ended) => Ok(finish(ended, list)),
