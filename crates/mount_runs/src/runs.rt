@@ -31,7 +31,8 @@ pub struct Finished<K: KvStore> {
 }
 
 /// Runs each script in a session of its own over the mounts, on so many workers, with a cache of at most so many cells. Session i runs on
-/// worker i modulo their number. Each mount is finished once, behind the last event.
+/// worker i modulo their number; the last `behind` sessions start once all others were joined, on a worker of their own. Each mount is finished
+/// once, behind the last event.
 ///
 /// # Errors
 /// There was no memory before the first session was started. The mounts come back as they were.
@@ -42,6 +43,7 @@ pub fn run_over<K: KvStore + Send, R: Threads + Wait + Sync, G: Gate + Sync>(
     scripts: &[Vec<u8>],
     workers: u32,
     cache: u64,
+    behind: usize,
     gate: &G,
 ) -> Result<Finished<K>, Vec<Mount<K>>>
     requires mounts { AreMounts mounts.items }
@@ -68,7 +70,7 @@ pub fn run_over<K: KvStore + Send, R: Threads + Wait + Sync, G: Gate + Sync>(
         names.as_slice(),
         scripts,
         workers as usize,
-        0,
+        behind,
         gate,
     ) {
         Ok(ended) => Ok(finish(ended, list)),
