@@ -5,7 +5,7 @@ use Rattle.kv_face.specs.Store.{Contents}
 use Rattle.kv_mounts.specs.Parts.{Part, names_of}
 use Rattle.kv_mounts.specs.Union.{faults_of}
 use Rattle.line_answers.specs.Bodies.{answer_of}
-use Rattle.mount_runs.specs.Finished.{IsRun}
+use Rattle.mount_runs.specs.Finished.{IsRun, IsWhole}
 use Rattle.mount_runs.specs.Runs.{IsEmptyMount, IsSingleRun}
 use Rattle.run_words.specs.Options.{Text}
 use Rattle.script_runner.specs.Asked.{AskFor}
@@ -14,7 +14,6 @@ use Rattle.script_runner.specs.Promises.{HasRun, HasRunFiles, HasAnswers, IsSing
 use Rattle.script_runner.specs.declared.outcome.Outcome.{Outcome}
 use Rattle.script_streams.specs.Standing as standing
 use Rattle.script_streams.specs.Standing.{holds_memory}
-use Rattle.session_workers.specs.Workers.{IsWhole}
 
 -- files that are asked for were run
 pub run_asked : (contents : Option Contents) (words files : List Text) (old new : List Part) (outcome : Outcome) → AskFor words files → HasRunFiles contents files old new outcome → HasRun contents words old new outcome

@@ -5,13 +5,11 @@ use Rattle.kv_face.specs.Store.{Contents}
 use Rattle.kv_mounts.specs.Parts.{Part, names_of}
 use Rattle.kv_mounts.specs.Union.{faults_of}
 use Rattle.line_answers.specs.Bodies.{answer_of}
-use Rattle.mount_runs.specs.Finished.{IsRun}
+use Rattle.mount_runs.specs.Finished.{IsRun, AreWhole, asked_by}
 use Rattle.mount_runs.specs.Runs.{IsSerialRun}
 use Rattle.script_runner.specs.Asked.{AreReadOf, AreOfFiles}
 use Rattle.script_runner.specs.declared.outcome.Outcome.{Outcome}
 use Rattle.script_streams.specs.Standing.{are_all_ok}
-use Rattle.session_runs.specs.Scripts.{asked_by}
-use Rattle.session_workers.specs.Workers.{AreWhole}
 
 -- these scripts were run over the mounts. Unless memory was wanting, each line that isn't blank has its answer, up to one that is want of memory
 pub record HasRunTexts (scripts : List (List ℕ)) (old new : List Part) (outcome : Outcome) : Type 0 where

@@ -9,8 +9,7 @@ mod top;
 mod writing;
 
 pub use kv_face::{KvStore, MemoryKv};
-pub use mount_runs::{BoxedStore, Mount};
+pub use mount_runs::{BoxedStore, Gate, Mount};
 pub use outcome::Outcome;
 pub use script_streams::{FileScripts, MemoryScripts, MemorySink, Scripts, Sink, StdoutSink};
 pub use top::run;
-pub use transactions::Gate;

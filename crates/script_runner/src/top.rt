@@ -14,14 +14,13 @@ use crate::outcome::{Outcome, unstarted};
 use crate::writing::status_of;
 use cells::List;
 use kv_face::KvStore;
-use mount_runs::{Finished, Mount, run_over};
+use mount_runs::{Finished, Gate, Mount, run_over};
 use run_words::{Input, Settings, read_words};
 use script_streams::{Scripts, Sink, Unread, read_scripts};
 use std::alloc::Global;
 use std::mem;
 use std::sync::Wait;
 use std::thread::Threads;
-use transactions::Gate;
 
 /// Runs the scripts that the words name, each in a session of its own, over the mounts, and writes the answers of all sessions to the sink,
 /// in the order of the files.
@@ -165,7 +164,7 @@ fn run_texts<O: Sink, K: KvStore + Send, R: Threads + Wait + Sync, G: Gate + Syn
     ensures unwritten { Rises (O.faults sink.old) (O.faults sink.new) (result.status ≡ 4) }
 {
     let list = mem::replace(mounts, Vec::new(alloc));
-    match run_over(alloc, rt, list, texts, workers, cache, gate) {
+    match run_over(alloc, rt, list, texts, workers, cache, 0, gate) {
         Ok(finished) => told(alloc, sink, mounts, finished),
         Err(back) => {
             *mounts = back;
