@@ -1,3 +1,5 @@
 mod Loops
 mod Pushed
 mod Sums
+pub mod Lengths
+pub mod Laws

@@ -13,7 +13,7 @@ numbers_more k =
     sym (map-id (range_with_len 0 (k + 1))) ∙ map-range_with_len_more (λ n. n) 0 k k (omega arith) ∙ ap (λ ns. ns ++ k ∷ []) (map-id (range_with_len 0 k))
 
 -- no parts
-parts_none : (part : ℕ → List ℕ) → parts 0 part ≡ []
+pub parts_none : (part : ℕ → List ℕ) → parts 0 part ≡ []
 unfolding parts
 parts_none part = refl
 
