@@ -1,15 +1,19 @@
 -- What words ask for, and the scripts that are read of it.
-use Rattle.std.proofs.Common.{◌≡◌, ◌≤◌, ◌<◌, ◌-◌, ◌^◌, ℕ, List, Option, Ok, Err, length, drop, take, sym, ap, subst, ◌∙◌, arith}
+use Rattle.std.proofs.Common.{◌≡◌, ◌≤◌, ◌<◌, ◌-◌, ◌^◌, ℕ, List, Option, Ok, Err, length, drop, take, get_or, sym, ap, subst, ◌∙◌, arith}
 use Rattle.std.specs.Prelude.{All, Result, String, string_bytes, Vec}
 use Rattle.std.specs.declared.alloc.Global.{Global}
 use Rattle.std.proofs.lemmas.List.{take_rest, length-map, length-drop, drop-map, get_or-map}
+use Rattle.std.proofs.lemmas.List.FromFn.{length-map-range_with_len}
 use Rattle.kv_face.specs.Store.{Contents}
+use Rattle.made_scripts.specs.Scripts.{made, script_of}
+use Rattle.made_scripts.proofs.Laws.{made_short}
 use Rattle.run_words.specs.Options.{Text, texts_of}
 use Rattle.run_words.specs.Words.{IsSettings, KeepsLimits, HasFilesFrom}
+use Rattle.run_words.specs.declared.settings.Input.{Input}
 use Rattle.run_words.specs.declared.settings.Input.TheVariants.{Files, Made}
 use Rattle.run_words.specs.declared.settings.Settings.{Settings}
 use Rattle.run_words.specs.declared.error.WordsError.{WordsError}
-use Rattle.script_runner.specs.Asked.{AskFor, AreRefused, IsUnread, IsUnreadFile}
+use Rattle.script_runner.specs.Asked.{AskFor, AskToMake, AreRefused, IsUnread, IsUnreadFile}
 use Rattle.script_streams.specs.Reading.{AreShort, texts_in}
 
 -- the texts of the words from a place on, as a slice has them
@@ -20,19 +24,30 @@ texts_from ws n = ap texts_of (take_rest ws n) ∙ sym (drop-map string_bytes n 
 pub ask_for : (ws : List (String Global)) (s : Settings) (first : ℕ) → IsSettings (texts_of ws) s → s.input ≡ Files first → AskFor (texts_of ws) (texts_of (take (length ws - first) (drop first ws)))
 ask_for ws s first is from = record { settings = s; asked = is; first = first; from = from; are = texts_from ws first }
 
-made_none : (s t : Settings) (r : Result Settings WordsError) (number first : ℕ) → r ≡ Ok s → r ≡ Ok t → t.input ≡ Made number → s.input ≡ Files first → ⊥
-made_none s t r number first is other made files = let same : s ≡ t = cc in let two : Files first ≡ Made number = sym files ∙ ap (λ (x : Settings). x.input) same ∙ made in let no_such : ⊥ = cc in no_such
+-- words that have settings with a number ask for the scripts that are made from it
+pub ask_to_make : (words : List Text) (s : Settings) (number : ℕ) → IsSettings words s → s.input ≡ Made number → AskToMake words number
+ask_to_make words s number is from = record { settings = s; asked = is; from = from }
 
--- words that ask for made scripts ask for no files
-pub made_asks : (words : List Text) (r : Result Settings WordsError) (t : Settings) (number : ℕ) → ((s : Settings) → IsSettings words s → r ≡ Ok s) → r ≡ Ok t → t.input ≡ Made number → AreRefused words
-made_asks words r t number only is made = λ files asked. made_none asked.settings t r number asked.first (only asked.settings asked.asked) is made asked.from
+same_input : (r : Result Settings WordsError) (s t : Settings) → r ≡ Ok s → r ≡ Ok t → s.input ≡ t.input
+same_input r s t is other = let same : s ≡ t = cc in ap (λ (x : Settings). x.input) same
+
+-- what holds of the input that was read holds of that of all settings that the words have
+pub of_input : (P : Input → Type 0) (words : List Text) (r : Result Settings WordsError) (t : Settings) (input : Input) → ((s : Settings) → IsSettings words s → r ≡ Ok s) → r ≡ Ok t → t.input ≡ input → P input → (s : Settings) → IsSettings words s → P s.input
+of_input P words r t input only is at holds s has = subst P (sym (same_input r s t (only s has) is ∙ at)) holds
+
+files_none : (s t : Settings) (r : Result Settings WordsError) (number first : ℕ) → r ≡ Ok s → r ≡ Ok t → s.input ≡ Made number → t.input ≡ Files first → ⊥
+files_none s t r number first is other made files = let two : Files first ≡ Made number = sym files ∙ same_input r t s other is ∙ made in let no_such : ⊥ = cc in no_such
+
+-- words that ask for files ask for no scripts that are made
+pub files_asked : (words : List Text) (r : Result Settings WordsError) (t : Settings) (first number : ℕ) → ((s : Settings) → IsSettings words s → r ≡ Ok s) → r ≡ Ok t → t.input ≡ Files first → AskToMake words number → ⊥
+files_asked words r t first number only is files asked = files_none asked.settings t r number first (only asked.settings asked.asked) is asked.from files
 
 error_none : (s : Settings) (e : WordsError) (r : Result Settings WordsError) → r ≡ Ok s → r ≡ Err e → ⊥
 error_none s e r is other = let two : Ok s ≡ Err e = sym is ∙ other in let no_such : ⊥ = cc in no_such
 
--- words that are refused ask for none
+-- words that are refused ask for nothing
 pub error_asks : (words : List Text) (r : Result Settings WordsError) (e : WordsError) → ((s : Settings) → IsSettings words s → r ≡ Ok s) → r ≡ Err e → AreRefused words
-error_asks words r e only is = λ files asked. error_none asked.settings e r (only asked.settings asked.asked) is
+error_asks words r e only is = λ s asked. error_none s e r (only s asked) is
 
 -- the files of settings are 1 to 1,024
 pub count_of_files : (ws : List (String Global)) (s : Settings) (first : ℕ) → KeepsLimits (texts_of ws) s → s.input ≡ Files first → (0 < length (take (length ws - first) (drop first ws))) × (length (take (length ws - first) (drop first ws)) ≤ 1024)
@@ -55,4 +70,16 @@ pub short_each : (read : List (Vec ℕ Global)) → AreShort (texts_in read) →
 short_each read short k d within =
     let at = short.each k (d.items) (omega (arith, within, texts_count read)) in
     let is = get_or-map (λ v. v.items) read k d d.items within in
+    omega (arith, at, ap length is)
+
+-- nine scripts are made
+pub made_count : (number : ℕ) (texts : List (Vec ℕ Global)) → texts_in texts ≡ made number → length texts ≡ 9
+made_count number texts are = sym (texts_count texts) ∙ ap length are ∙ length-map-range_with_len (script_of number) 0 9
+
+-- and they are short enough to be run
+pub made_each : (number : ℕ) (texts : List (Vec ℕ Global)) → texts_in texts ≡ made number → All (λ s. length s.items < 2 ^ 62) texts
+made_each number texts are k d within =
+    let low : k < length (made number) = subst (λ ts. k < length ts) are (subst (λ n. k < n) (sym (texts_count texts)) within) in
+    let at = made_short number k (d.items) low in
+    let is = sym (ap (λ ts. get_or ts k (d.items)) are) ∙ get_or-map (λ v. v.items) texts k d d.items within in
     omega (arith, at, ap length is)

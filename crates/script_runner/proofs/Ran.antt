@@ -5,12 +5,13 @@ use Rattle.kv_face.specs.Store.{Contents}
 use Rattle.kv_mounts.specs.Parts.{Part, names_of}
 use Rattle.kv_mounts.specs.Union.{faults_of}
 use Rattle.line_answers.specs.Bodies.{answer_of}
+use Rattle.made_scripts.specs.Scripts.{made}
 use Rattle.mount_runs.specs.Finished.{IsRun, IsWhole}
 use Rattle.mount_runs.specs.Runs.{IsEmptyMount, IsSingleRun}
 use Rattle.run_words.specs.Options.{Text}
-use Rattle.script_runner.specs.Asked.{AskFor}
+use Rattle.script_runner.specs.Asked.{AskFor, AskToMake}
 use Rattle.script_runner.proofs.Single.{none_of, all_good, as_many}
-use Rattle.script_runner.specs.Promises.{HasRun, HasRunFiles, HasAnswers, IsSingleOutcome, IsSerialOutcome}
+use Rattle.script_runner.specs.Promises.{HasRun, HasRunFiles, HasRunTexts, HasAnswers, IsSingleOutcome, IsSerialOutcome}
 use Rattle.script_runner.specs.declared.outcome.Outcome.{Outcome}
 use Rattle.script_streams.specs.Standing as standing
 use Rattle.script_streams.specs.Standing.{holds_memory}
@@ -19,8 +20,16 @@ use Rattle.script_streams.specs.Standing.{holds_memory}
 pub run_asked : (contents : Option Contents) (words files : List Text) (old new : List Part) (outcome : Outcome) → AskFor words files → HasRunFiles contents files old new outcome → HasRun contents words old new outcome
 run_asked contents words files old new outcome asked ran = record {
   scripts = ran.scripts;
-  read = record { files = files; asked = asked; read = ran.read };
+  asked = inl (record { files = files; asked = asked; read = ran.read });
   ran = ran.ran;
+}
+
+-- and so were scripts that are made
+pub run_made : (contents : Option Contents) (words : List Text) (number : ℕ) (old new : List Part) (outcome : Outcome) → AskToMake words number → HasRunTexts (made number) old new outcome → HasRun contents words old new outcome
+run_made contents words number old new outcome asked ran = record {
+  scripts = made number;
+  asked = inr (record { number = number; asked = asked; are = refl });
+  ran = ran;
 }
 
 -- where all answers were written, the status isn't 5
@@ -43,7 +52,7 @@ single_outcome old new outcome mount script whole run full good empty named quie
 pub serial_run : (contents : Option Contents) (words : List Text) (old new : List Part) (outcome : Outcome) → IsEmptyMount old → (HasAnswers outcome.status → holds_memory outcome.logs ≡ false) → HasRun contents words old new outcome → IsSerialOutcome contents words old new outcome
 serial_run contents words old new outcome empty good run = record {
   scripts = run.scripts;
-  read = run.read;
+  asked = run.asked;
   serial = run.ran.run.serial empty;
   whole = λ other. run.ran.run.answered (run.ran.full other);
   single = λ answers mount script named one quiet.

@@ -1,9 +1,10 @@
--- What the words of a run ask for, and the scripts that are read.
+-- What the words of a run ask for, and the scripts that are run.
 use Rattle.std.specs.Prelude.{◌≡◌, ◌⊎◌, ℕ, List, length, drop, Option, Some}
 use Rattle.kv_face.specs.Store.{Contents}
 use Rattle.kv_face.specs.Streams.{HasRisen, WhereTold}
+use Rattle.made_scripts.specs.Scripts.{made}
 use Rattle.run_words.specs.Words.{IsSettings}
-use Rattle.run_words.specs.declared.settings.Input.TheVariants.{Files}
+use Rattle.run_words.specs.declared.settings.Input.TheVariants.{Files, Made}
 use Rattle.run_words.specs.declared.settings.Settings.{Settings}
 use Rattle.script_streams.specs.Reading.{AreScripts, AreShort, IsCause}
 use Rattle.script_streams.specs.declared.reading.Unread.TheVariants.{Failed, TooLong}
@@ -16,9 +17,15 @@ pub record AskFor (words files : List (List ℕ)) : Type 0 where
   pub from : settings.input ≡ Files first
   pub are : files ≡ drop first words
 
--- the words ask for no files
+-- the words ask for scripts that are made from this number
+pub record AskToMake (words : List (List ℕ)) (number : ℕ) : Type 0 where
+  pub settings : Settings
+  pub asked : IsSettings words settings
+  pub from : settings.input ≡ Made number
+
+-- the words ask for nothing
 abbrev pub AreRefused : List (List ℕ) → Type 0
-AreRefused words = (files : List (List ℕ)) → ¬ AskFor words files
+AreRefused words = (settings : Settings) → ¬ IsSettings words settings
 
 -- these scripts were read: where scripts are told, they are those of the files, in their order
 pub record AreOfFiles (contents : Option Contents) (files scripts : List (List ℕ)) : Type 0 where
@@ -31,6 +38,16 @@ pub record AreReadOf (contents : Option Contents) (words scripts : List (List �
   pub files : List (List ℕ)
   pub asked : AskFor words files
   pub read : AreOfFiles contents files scripts
+
+-- they are the nine that are made from the number that the words ask for
+pub record AreMadeFor (words scripts : List (List ℕ)) : Type 0 where
+  pub number : ℕ
+  pub asked : AskToMake words number
+  pub are : scripts ≡ made number
+
+-- they are the scripts that the words ask for: those of files, or those that are made
+abbrev pub AreAskedFor : Option Contents → List (List ℕ) → List (List ℕ) → Type 0
+AreAskedFor contents words scripts = AreReadOf contents words scripts ⊎ AreMadeFor words scripts
 
 -- the script at this place was not read: the scripts failed there, or it passes a limit, by itself or with those before it
 pub record IsUnreadFile (contents : Option Contents) (files : List (List ℕ)) (before now : ℕ) (place : Option ℕ) : Type 0 where

@@ -1,15 +1,23 @@
 -- What a run promises.
 use Rattle.std.specs.Prelude.{◌≡◌, ◌≢◌, ◌⊎◌, ◌&&◌, ℕ, List, [], ◌∷◌, map, Bool, true, false, Option, if◌then◌else◌}
+use Rattle.answer_text.specs.declared.answer.Answer.{Answer}
+use Rattle.history.specs.declared.event.Event.{Event}
 use Rattle.history.specs.Single.{single_session}
 use Rattle.kv_face.specs.Store.{Contents}
 use Rattle.kv_mounts.specs.Parts.{Part, names_of}
 use Rattle.kv_mounts.specs.Union.{faults_of}
 use Rattle.line_answers.specs.Bodies.{answer_of}
+use Rattle.made_scripts.specs.Summary.{summary_text}
 use Rattle.mount_runs.specs.Finished.{IsRun, AreWhole, asked_by}
 use Rattle.mount_runs.specs.Runs.{IsSerialRun}
-use Rattle.script_runner.specs.Asked.{AreReadOf, AreOfFiles}
+use Rattle.run_words.specs.declared.settings.Input.{Input}
+use Rattle.run_words.specs.declared.settings.Input.TheVariants.{Files, Made}
+use Rattle.script_runner.specs.Asked.{AreAskedFor, AreOfFiles}
 use Rattle.script_runner.specs.declared.outcome.Outcome.{Outcome}
+use Rattle.script_runner.specs.declared.writing.Report.{Report}
+use Rattle.script_runner.specs.declared.writing.Report.TheVariants.{Answers, Summary}
 use Rattle.script_streams.specs.Standing.{are_all_ok}
+use Rattle.script_streams.specs.Writing.{text_of_logs}
 
 -- these scripts were run over the mounts. Unless memory was wanting, each line that isn't blank has its answer, up to one that is want of memory
 pub record HasRunTexts (scripts : List (List ℕ)) (old new : List Part) (outcome : Outcome) : Type 0 where
@@ -23,13 +31,13 @@ pub record HasRunFiles (contents : Option Contents) (files : List (List ℕ)) (o
   pub read : AreOfFiles contents files scripts
   pub ran : HasRunTexts scripts old new outcome
 
--- sessions were started: the scripts of the files that the words ask for were read, and run over the mounts, each in a session of its own
+-- sessions were started: the scripts that the words ask for were run over the mounts, each in a session of its own
 pub record HasRun (contents : Option Contents) (words : List (List ℕ)) (old new : List Part) (outcome : Outcome) : Type 0 where
   pub scripts : List (List ℕ)
-  pub read : AreReadOf contents words scripts
+  pub asked : AreAskedFor contents words scripts
   pub ran : HasRunTexts scripts old new outcome
 
--- all answers were written
+-- all that is to be told of a run was written
 abbrev pub HasAnswers : ℕ → Type 0
 HasAnswers status = (status ≡ 0) ⊎ (status ≡ 1)
 
@@ -38,13 +46,13 @@ pub record IsSingleOutcome (mount script : List ℕ) (outcome : Outcome) : Type 
   pub answers : outcome.logs ≡ map answer_of (single_session mount 0 (asked_by (mount ∷ []) script)).answers ∷ []
   pub events : outcome.history ≡ (single_session mount 0 (asked_by (mount ∷ []) script)).session.events
 
--- SERIAL TRANSACTIONS. The files' scripts ran in sessions of their own, and the logs are printed ones of these sessions. Each committed transaction whose
+-- SERIAL TRANSACTIONS. The scripts ran in sessions of their own, and the logs are printed ones of these sessions. Each committed transaction whose
 -- reads are repeatable printed what one thread reads from plain arrays when commits and resizes run in printed order, and the store holds exactly these
 -- arrays in the end. A conflict names a chunk that was read, and a later commit or resize of another session that touched it. A transaction that only wrote
 -- is refused by a resize, a failed store or want of memory alone
 pub record IsSerialOutcome (contents : Option Contents) (words : List (List ℕ)) (old new : List Part) (outcome : Outcome) : Type 0 where
   pub scripts : List (List ℕ)
-  pub read : AreReadOf contents words scripts
+  pub asked : AreAskedFor contents words scripts
   pub serial : IsSerialRun scripts old new outcome.history outcome.logs
   -- each line that isn't blank has its answer, up to one that is want of memory, but where memory was wanting for an answer
   pub whole : outcome.status ≢ 5 → AreWhole (names_of old) scripts outcome.logs
@@ -64,3 +72,13 @@ is_empty (p ∷ ps) = false
 -- 0 where every line did what it asks for and every mount was finished, else 1
 abbrev pub status_of : Outcome → ℕ
 status_of outcome = if are_all_ok outcome.logs && is_empty outcome.unfinished then 0 else 1
+
+-- what is written of a run by words with this input: the text of all logs where they name files, one line where the scripts are made
+abbrev pub text_by : Input → Outcome → List ℕ
+text_by (Files first) outcome = text_of_logs outcome.logs
+text_by (Made number) outcome = summary_text outcome.logs outcome.history
+
+-- what is to be told of logs and a history
+abbrev pub text_of : Report → List (List Answer) → List Event → List ℕ
+text_of Answers logs history = text_of_logs logs
+text_of Summary logs history = summary_text logs history

@@ -1,19 +1,24 @@
 // The top call.
-ghost use Rattle.std.specs.Prelude.{◌≡◌, ◌≢◌, ◌≤◌, ◌<◌, ◌^◌, ◌++◌, ◌⊎◌, ◌↔◌, [], length, true, false, None, Some};
+ghost use Rattle.std.specs.Prelude.{◌≡◌, ◌≢◌, ◌≤◌, ◌<◌, ◌^◌, ◌++◌, ◌⊎◌, ◌↔◌, ℕ, [], All, length, true, false, None, Some};
 ghost use Rattle.kv_face.specs.Streams.{WhereTold, Rises, IsPartOf};
 ghost use Rattle.kv_mounts.specs.Parts.{AreMounts};
+ghost use Rattle.made_scripts.specs.Scripts.{made};
+ghost use Rattle.made_scripts.specs.Summary.{summary_text};
 ghost use Rattle.mount_runs.specs.Runs.{IsEmptyMount};
 ghost use Rattle.run_words.specs.Options.{texts_of};
-ghost use Rattle.script_runner.specs.Asked.{AreRefused, IsUnread, IsUnreadFile};
-ghost use Rattle.script_runner.specs.Promises.{HasRun, HasRunFiles, HasRunTexts, IsSerialOutcome, IsUnstarted, HasAnswers, status_of};
-ghost use Rattle.script_streams.specs.Reading.{AreShort, texts_in};
+ghost use Rattle.run_words.specs.Words.{IsSettings};
+ghost use Rattle.run_words.specs.declared.settings.Settings.{Settings};
+ghost use Rattle.script_runner.specs.Asked.{AskToMake, AreRefused, IsUnread, IsUnreadFile};
+ghost use Rattle.script_runner.specs.Promises.{HasRun, HasRunFiles, HasRunTexts, IsSerialOutcome, IsUnstarted, HasAnswers, status_of, text_by, text_of};
+ghost use Rattle.script_streams.specs.Reading.{texts_in};
 ghost use Rattle.script_streams.specs.Standing.{holds_memory};
 ghost use Rattle.script_streams.specs.Writing.{text_of_logs};
 
 use crate::outcome::{Outcome, unstarted};
-use crate::writing::status_of;
+use crate::writing::{Report, status_of};
 use cells::List;
 use kv_face::KvStore;
+use made_scripts::make_scripts;
 use mount_runs::{Finished, Gate, Mount, run_over};
 use run_words::{Input, Settings, read_words};
 use script_streams::{Scripts, Sink, Unread, read_scripts};
@@ -28,6 +33,9 @@ use std::thread::Threads;
 /// The words are options and files: `--workers N` (1 to 64) and `--cache CELLS` (up to 134217728), then 1 to 1,024 files. A script has at
 /// most 2^26 bytes, all together at most 2^28. All are read before the first session starts. Session i runs on worker i modulo their number.
 /// A transaction that is open at a script's end is dropped. Each mount is finished once, behind the last event.
+///
+/// With `--make NUMBER` no file is named or read: nine scripts are made from the number, the last session starts once the others were joined,
+/// and one line about the run is written in place of the answers.
 pub fn run<S: Scripts, O: Sink, K: KvStore + Send, R: Threads + Wait + Sync, G: Gate + Sync>(
     alloc: Global,
     rt: &R,
@@ -45,9 +53,11 @@ pub fn run<S: Scripts, O: Sink, K: KvStore + Send, R: Threads + Wait + Sync, G: 
     // Where none was, nothing was done or written.
     ensures unstarted { result.logs ≡ [] → IsUnstarted result × (mounts.new.items ≡ mounts.old.items) × (sink.new ≡ sink.old) }
     ensures known { result.status ≤ 5 }
-    // The words are refused exactly where they ask for no files; no script was opened then.
+    // The words are refused exactly where they ask for nothing; no script was opened then.
     ensures refused { result.status ≡ 2 ↔ AreRefused (texts_of words.now) }
     ensures unopened { result.status ≡ 2 → scripts.new ≡ scripts.old }
+    // Nor is one where the words ask for scripts that are made.
+    ensures made { (number : ℕ) → AskToMake (texts_of words.now) number → (scripts.new ≡ scripts.old) × (result.status ≢ 3) }
     // A script is not read only where the scripts failed or a limit is passed.
     ensures unread { result.status ≡ 3 → IsUnread (S.contents scripts.old) (texts_of words.now) (S.faults scripts.old) (S.faults scripts.new) result.script }
     ensures place { result.status ≢ 3 → result.script ≡ None }
@@ -55,9 +65,9 @@ pub fn run<S: Scripts, O: Sink, K: KvStore + Send, R: Threads + Wait + Sync, G: 
     ensures some { (result.status ≢ 2) → (result.status ≢ 3) → (result.status ≢ 5) → result.logs ≢ [] }
     ensures contents { S.contents scripts.new ≡ S.contents scripts.old }
     ensures reading { S.faults scripts.old ≤ S.faults scripts.new }
-    // What was written is the text of all logs, or a front part of it where the sink failed or memory was wanting.
-    ensures written { HasAnswers result.status → WhereTold (O.content sink.old) (λ before. O.content sink.new ≡ Some (before ++ text_of_logs result.logs)) }
-    ensures part { WhereTold (O.content sink.old) (λ before. IsPartOf (O.content sink.new) before (text_of_logs result.logs)) }
+    // What was written is the text that the words ask for, or a front part of it where the sink failed or memory was wanting.
+    ensures written { (settings : Settings) → IsSettings (texts_of words.now) settings → HasAnswers result.status → WhereTold (O.content sink.old) (λ before. O.content sink.new ≡ Some (before ++ text_by settings.input result)) }
+    ensures part { (settings : Settings) → IsSettings (texts_of words.now) settings → WhereTold (O.content sink.old) (λ before. IsPartOf (O.content sink.new) before (text_by settings.input result)) }
     ensures status { HasAnswers result.status → (result.status ≡ status_of result) × (holds_memory result.logs ≡ false) }
     ensures unwritten { Rises (O.faults sink.old) (O.faults sink.new) (result.status ≡ 4) }
 {
@@ -81,11 +91,11 @@ pub fn run<S: Scripts, O: Sink, K: KvStore + Send, R: Threads + Wait + Sync, G: 
         ),
         Ok(
             Settings {
-                workers: _,
-                cache: _,
-                input: Input::Made { number: _ },
+                workers,
+                cache,
+                input: Input::Made { number },
             },
-        ) => unstarted(alloc, 2, None),
+        ) => make_and_run(alloc, rt, number, workers, cache, sink, mounts, gate),
         Err(_) => unstarted(alloc, 2, None),
     }
 }
@@ -127,6 +137,7 @@ fn read_and_run<S: Scripts, O: Sink, K: KvStore + Send, R: Threads + Wait + Sync
             texts.as_slice(),
             workers,
             cache,
+            Report::Answers,
             sink,
             mounts,
             gate,
@@ -137,11 +148,11 @@ fn read_and_run<S: Scripts, O: Sink, K: KvStore + Send, R: Threads + Wait + Sync
     }
 }
 
-// Runs scripts that were read, and writes the answers.
-fn run_texts<O: Sink, K: KvStore + Send, R: Threads + Wait + Sync, G: Gate + Sync>(
+// Makes the scripts and runs them.
+fn make_and_run<O: Sink, K: KvStore + Send, R: Threads + Wait + Sync, G: Gate + Sync>(
     alloc: Global,
     rt: &R,
-    texts: &[Vec<u8>],
+    number: u32,
     workers: u32,
     cache: u64,
     sink: &mut O,
@@ -149,8 +160,49 @@ fn run_texts<O: Sink, K: KvStore + Send, R: Threads + Wait + Sync, G: Gate + Syn
     gate: &G,
 ) -> Outcome
     requires mounts { AreMounts mounts.old.items }
+    requires workers { 0 < workers }
+    requires cache { cache ≤ 2 ^ 27 }
+    ensures started { result.logs ≢ [] → HasRunTexts (made number) mounts.old.items mounts.new.items result }
+    ensures unstarted { result.logs ≡ [] → IsUnstarted result × (mounts.new.items ≡ mounts.old.items) × (sink.new ≡ sink.old) }
+    ensures known { (result.status ≤ 5) × (result.status ≢ 2) × (result.status ≢ 3) }
+    ensures place { result.script ≡ None }
+    ensures some { result.status ≢ 5 → result.logs ≢ [] }
+    ensures written { HasAnswers result.status → WhereTold (O.content sink.old) (λ before. O.content sink.new ≡ Some (before ++ summary_text result.logs result.history)) }
+    ensures part { WhereTold (O.content sink.old) (λ before. IsPartOf (O.content sink.new) before (summary_text result.logs result.history)) }
+    ensures status { HasAnswers result.status → (result.status ≡ status_of result) × (holds_memory result.logs ≡ false) }
+    ensures unwritten { Rises (O.faults sink.old) (O.faults sink.new) (result.status ≡ 4) }
+{
+    match make_scripts(alloc, number) {
+        Ok(scripts) => run_texts(
+            alloc,
+            rt,
+            scripts.as_slice(),
+            workers,
+            cache,
+            Report::Summary,
+            sink,
+            mounts,
+            gate,
+        ),
+        Err(_) => unstarted(alloc, 5, None),
+    }
+}
+
+// Runs scripts, and writes what is to be told of the run. Those that were made run so that the last session is behind the others.
+fn run_texts<O: Sink, K: KvStore + Send, R: Threads + Wait + Sync, G: Gate + Sync>(
+    alloc: Global,
+    rt: &R,
+    texts: &[Vec<u8>],
+    workers: u32,
+    cache: u64,
+    report: Report,
+    sink: &mut O,
+    mounts: &mut Vec<Mount<K>>,
+    gate: &G,
+) -> Outcome
+    requires mounts { AreMounts mounts.old.items }
     requires texts { (0 < length texts.now) × (length texts.now ≤ 1024) }
-    requires short { AreShort (texts_in texts.now) }
+    requires short { All (λ s. length s.items < 2 ^ 62) texts.now }
     requires workers { 0 < workers }
     requires cache { cache ≤ 2 ^ 27 }
     ensures started { result.logs ≢ [] → HasRunTexts (texts_in texts.now) mounts.old.items mounts.new.items result }
@@ -158,14 +210,14 @@ fn run_texts<O: Sink, K: KvStore + Send, R: Threads + Wait + Sync, G: Gate + Syn
     ensures known { (result.status ≤ 5) × (result.status ≢ 2) × (result.status ≢ 3) }
     ensures place { result.script ≡ None }
     ensures some { result.status ≢ 5 → result.logs ≢ [] }
-    ensures written { HasAnswers result.status → WhereTold (O.content sink.old) (λ before. O.content sink.new ≡ Some (before ++ text_of_logs result.logs)) }
-    ensures part { WhereTold (O.content sink.old) (λ before. IsPartOf (O.content sink.new) before (text_of_logs result.logs)) }
+    ensures written { HasAnswers result.status → WhereTold (O.content sink.old) (λ before. O.content sink.new ≡ Some (before ++ text_of report result.logs result.history)) }
+    ensures part { WhereTold (O.content sink.old) (λ before. IsPartOf (O.content sink.new) before (text_of report result.logs result.history)) }
     ensures status { HasAnswers result.status → (result.status ≡ status_of result) × (holds_memory result.logs ≡ false) }
     ensures unwritten { Rises (O.faults sink.old) (O.faults sink.new) (result.status ≡ 4) }
 {
     let list = mem::replace(mounts, Vec::new(alloc));
-    match run_over(alloc, rt, list, texts, workers, cache, 0, gate) {
-        Ok(finished) => told(alloc, sink, mounts, finished),
+    match run_over(alloc, rt, list, texts, workers, cache, behind(report), gate) {
+        Ok(finished) => told(alloc, sink, report, mounts, finished),
         Err(back) => {
             *mounts = back;
             unstarted(alloc, 5, None)
@@ -173,10 +225,19 @@ fn run_texts<O: Sink, K: KvStore + Send, R: Threads + Wait + Sync, G: Gate + Syn
     }
 }
 
-// Puts the mounts back and writes the answers.
+// How many sessions run behind the others.
+fn behind(report: Report) -> usize {
+    match report {
+        Report::Answers => 0,
+        Report::Summary => 1,
+    }
+}
+
+// Puts the mounts back and writes what is to be told.
 fn told<O: Sink, K: KvStore>(
     alloc: Global,
     sink: &mut O,
+    report: Report,
     mounts: &mut Vec<Mount<K>>,
     finished: Finished<K>,
 ) -> Outcome
@@ -187,8 +248,8 @@ fn told<O: Sink, K: KvStore>(
     ensures known { (result.status ≤ 5) × (result.status ≢ 2) × (result.status ≢ 3) }
     ensures place { result.script ≡ None }
     ensures full { result.status ≢ 5 → finished.whole ≡ true }
-    ensures written { HasAnswers result.status → WhereTold (O.content sink.old) (λ before. O.content sink.new ≡ Some (before ++ text_of_logs result.logs)) }
-    ensures part { WhereTold (O.content sink.old) (λ before. IsPartOf (O.content sink.new) before (text_of_logs result.logs)) }
+    ensures written { HasAnswers result.status → WhereTold (O.content sink.old) (λ before. O.content sink.new ≡ Some (before ++ text_of report result.logs result.history)) }
+    ensures part { WhereTold (O.content sink.old) (λ before. IsPartOf (O.content sink.new) before (text_of report result.logs result.history)) }
     ensures status { HasAnswers result.status → (result.status ≡ status_of result) × (holds_memory result.logs ≡ false) }
     ensures unwritten { Rises (O.faults sink.old) (O.faults sink.new) (result.status ≡ 4) }
 {
@@ -200,7 +261,15 @@ fn told<O: Sink, K: KvStore>(
         unfinished,
     } = finished;
     *mounts = back;
-    let status = status_of(alloc, sink, logs.as_slice(), whole, unfinished.as_slice());
+    let status = status_of(
+        alloc,
+        sink,
+        report,
+        logs.as_slice(),
+        history.as_slice(),
+        whole,
+        unfinished.as_slice(),
+    );
     Outcome {
         status,
         script: None,

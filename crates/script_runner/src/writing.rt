@@ -1,20 +1,31 @@
-// The status of a run whose sessions were started, and its answers.
-ghost use Rattle.std.specs.Prelude.{◌≡◌, ◌≢◌, ◌≤◌, ◌⊎◌, ◌&&◌, ◌++◌, Some, true, false, if◌then◌else◌};
+// The status of a run whose sessions were started, and what is written of it.
+ghost use Rattle.std.specs.Prelude.{◌≡◌, ◌≢◌, ◌≤◌, ◌⊎◌, ◌&&◌, ◌++◌, Some, true, false, OnOk, IsErrOf, if◌then◌else◌};
 ghost use Rattle.kv_face.specs.Streams.{WhereTold, Rises, IsPartOf};
-ghost use Rattle.script_runner.specs.Promises.{HasAnswers, is_empty};
+ghost use Rattle.made_scripts.specs.Summary.{summary_text};
+ghost use Rattle.script_runner.specs.Promises.{HasAnswers, is_empty, text_of};
 ghost use Rattle.script_streams.specs.Standing.{are_all_ok, holds_memory};
-ghost use Rattle.script_streams.specs.Writing.{text_of_logs};
 
 use answer_text::Answer;
 use cells::List;
-use script_streams::{Sink, Unwritten, are_all_ok, has_memory, write_logs};
+use history::Event;
+use made_scripts::summary;
+use script_streams::{Sink, Unwritten, Writer, are_all_ok, has_memory, write_logs};
 use std::alloc::Global;
 
-/// Writes the answers of all sessions, unless one ended without an answer to a line, and tells the status.
+/// What is written of a run: the answers of all sessions, or one line about them.
+#[derive(Clone, Copy)]
+pub(crate) enum Report {
+    Answers,
+    Summary,
+}
+
+/// Writes what is to be told of a run, unless a session ended without an answer to a line, and tells the status.
 pub(crate) fn status_of<O: Sink>(
     alloc: Global,
     sink: &mut O,
+    report: Report,
     logs: &[List<Answer>],
+    history: &[Event],
     whole: bool,
     unfinished: &[u32],
 ) -> u8
@@ -22,21 +33,53 @@ pub(crate) fn status_of<O: Sink>(
     ensures status { HasAnswers result → result ≡ (if are_all_ok logs.now && is_empty unfinished.now then 0 else 1) }
     ensures answers { HasAnswers result → holds_memory logs.now ≡ false }
     ensures full { result ≢ 5 → whole ≡ true }
-    ensures written { HasAnswers result → WhereTold (O.content sink.old) (λ before. O.content sink.new ≡ Some (before ++ text_of_logs logs.now)) }
-    ensures part { WhereTold (O.content sink.old) (λ before. IsPartOf (O.content sink.new) before (text_of_logs logs.now)) }
+    ensures written { HasAnswers result → WhereTold (O.content sink.old) (λ before. O.content sink.new ≡ Some (before ++ text_of report logs.now history.now)) }
+    ensures part { WhereTold (O.content sink.old) (λ before. IsPartOf (O.content sink.new) before (text_of report logs.now history.now)) }
     ensures unwritten { Rises (O.faults sink.old) (O.faults sink.new) (result ≡ 4) }
 {
     if !whole {
         return 5;
     }
-    match write_logs(alloc, sink, logs) {
+    match write_report(alloc, sink, report, logs, history) {
         Ok(()) => status_by(logs, unfinished),
         Err(Unwritten::Failed) => 4,
         Err(Unwritten::Memory) => 5,
     }
 }
 
-// The status where all answers were written.
+fn write_report<O: Sink>(
+    alloc: Global,
+    sink: &mut O,
+    report: Report,
+    logs: &[List<Answer>],
+    history: &[Event],
+) -> Result<(), Unwritten>
+    ensures all { OnOk result (WhereTold (O.content sink.old) (λ before. O.content sink.new ≡ Some (before ++ text_of report logs.now history.now))) }
+    ensures part { WhereTold (O.content sink.old) (λ before. IsPartOf (O.content sink.new) before (text_of report logs.now history.now)) }
+    ensures faults { Rises (O.faults sink.old) (O.faults sink.new) (IsErrOf result Unwritten.Failed) }
+{
+    match report {
+        Report::Answers => write_logs(alloc, sink, logs),
+        Report::Summary => write_summary(alloc, sink, logs, history),
+    }
+}
+
+fn write_summary<O: Sink>(
+    alloc: Global,
+    sink: &mut O,
+    logs: &[List<Answer>],
+    history: &[Event],
+) -> Result<(), Unwritten>
+    ensures all { OnOk result (WhereTold (O.content sink.old) (λ before. O.content sink.new ≡ Some (before ++ summary_text logs.now history.now))) }
+    ensures part { WhereTold (O.content sink.old) (λ before. IsPartOf (O.content sink.new) before (summary_text logs.now history.now)) }
+    ensures faults { Rises (O.faults sink.old) (O.faults sink.new) (IsErrOf result Unwritten.Failed) }
+{
+    let line = summary(alloc, logs, history)?;
+    sink.put(line.as_slice())?;
+    Ok(())
+}
+
+// The status where all was written.
 fn status_by(logs: &[List<Answer>], unfinished: &[u32]) -> u8
     ensures known { (result ≡ 5) × (holds_memory logs.now ≡ true) ⊎ (holds_memory logs.now ≡ false) × (result ≡ (if are_all_ok logs.now && is_empty unfinished.now then 0 else 1)) }
 {
