@@ -1,7 +1,8 @@
 //! Tests of runs of several sessions: what no line of a program of cases reaches.
 //!
 //! It has no code of its own. `meetings` runs two sessions of which a gate holds one until the other has come so far, `faults` such over a
-//! store that fails, `four` four sessions beside each other, `wants` sessions over a store that wants memory.
+//! store that fails, `four` four sessions beside each other, `made` the scripts that are made from a number, `wants` sessions over a store
+//! that wants memory.
 #![tactic(auto)]
 
 #[cfg(test)]
@@ -12,6 +13,8 @@ mod faults;
 mod four;
 #[cfg(test)]
 mod gates;
+#[cfg(test)]
+mod made;
 #[cfg(test)]
 mod meetings;
 #[cfg(test)]
