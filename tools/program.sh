@@ -78,6 +78,13 @@ stored=$top/crates/tensor_run
 tried "two workers" 0 "" --cache 4 --workers=2 "$stored/data/first.jsonl" "$stored/data/second.jsonl"
 wrote "two workers" "$stored/stdout"
 
+# Scripts that are made: one line, whatever the workers.
+echo '{"at":90,"commits":85,"events":90,"refused":0,"sum":506518000}' > "$room/made"
+tried "made scripts" 0 "" --make 7
+wrote "made scripts" "$room/made"
+tried "made scripts on four workers" 0 "" --workers=4 --make=7
+wrote "made scripts on four workers" "$room/made"
+
 # The tour over one folder, script after script, and what it leaves there.
 toured() {
     local status=$1 name scripts=() wanted=()
@@ -140,7 +147,8 @@ tried "65 workers" 2 "$refused" --workers 65 "$first"
 tried "workers alone" 2 "$refused" --workers
 tried "workers twice" 2 "$refused" --workers 1 --workers=1 "$first"
 tried "a cache of 2^27 cells and one" 2 "$refused" --cache 134217729 "$first"
-tried "a made script" 2 "$refused" --make 7
+tried "a file behind a number" 2 "$refused" --make 7 "$first"
+tried "no number" 2 "$refused" --make
 tried "a word that isn't UTF-8" 2 "$refused" $'\xff'
 tried "a folder that isn't UTF-8" 2 "$refused" --root $'\xff' "$first"
 wrote "a folder that isn't UTF-8" "$room/nothing"

@@ -1,5 +1,5 @@
 //! `tensor_run [--root DIR] [--workers N] [--cache CELLS] FILE..`: runs scripts of JSON lines, each in a session of its own, and prints the
-//! answers.
+//! answers. With `--make NUMBER` in place of files it makes the scripts, and prints one line about the run.
 //!
 //! All that it does is to make the real ends, to call `run`, and to say on standard error in one line each what went wrong.
 #![tactic(auto)]
