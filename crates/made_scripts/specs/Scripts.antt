@@ -36,7 +36,7 @@ write_rows number first end =
     ++ rows_text number first
     ++ codes ",\"write\":\"m\"}\n"
 
--- the part of a session that writes rows: each 100 rows in a transaction of its own
+-- the part of a session that writes every fourth row: those of 100 rows in a transaction of its own
 unfoldable pub write_block : ℕ → ℕ → ℕ → List ℕ
 write_block number session block = begin ++ write_rows number (100 * block + session) (100 * block + 100) ++ commit
 

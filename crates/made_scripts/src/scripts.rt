@@ -9,7 +9,7 @@ use std::alloc::{AllocError, Global};
 const OPEN_SHARED: &str =
     "{\"open\":\"m\",\"spec\":{\"create\":true,\"driver\":\"zarr\",\"kvstore\":{\"driver\":\"memory\",\"path\":\"made\"},\"metadata\":{\"chunks\":[100,100],\"dtype\":\"<i4\",\"shape\":[1000,1000]},\"open\":true}}\n";
 
-/// The nine scripts that are made from a number. Four sessions write every fourth row of one array, each 100 rows in a transaction; four
+/// The nine scripts that are made from a number. Four sessions write every fourth row of one array, in a transaction those of 100 rows; four
 /// have an array of their own, of which they read and write 100 cells in a transaction; the last reads all of these arrays in one. The
 /// number tells which numbers are written.
 ///

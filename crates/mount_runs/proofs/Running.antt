@@ -1,11 +1,13 @@
 -- A run over mounts is one that its contract says.
-use Rattle.std.proofs.Common.{◌≡◌, ◌∙◌, ℕ, Bool, true, List, [], ◌∷◌, ◌++◌, map, length, Option, Some, refl, sym, ap, subst, arith}
+use Rattle.std.proofs.Common.{◌≡◌, ◌∙◌, ℕ, ◌+◌, Bool, true, List, [], ◌∷◌, ◌++◌, map, length, Option, Some, None, refl, sym, ap, subst, arith}
 use Rattle.std.specs.Prelude.{count_by}
+use mathlib.Core.List.{IsPrefix}
 use Rattle.std.specs.FinMap as finmap
 use Rattle.answer_text.specs.declared.answer.Answer.{Answer}
 use Rattle.history.specs.Alone.{single_store}
 use Rattle.history.specs.Answers as plain
 use Rattle.history.specs.Counting.{IsCounted}
+use Rattle.history.specs.Lines.{Line}
 use Rattle.kv_face.specs.Store.{Contents}
 use Rattle.line_answers.specs.Bodies.{answer_of}
 use Rattle.kv_mounts.specs.Finish.{AreFinished, failed_places}
@@ -15,11 +17,11 @@ use Rattle.kv_mounts.specs.Union.{union_of, faults_of, prefixes_of, standing_of,
 use Rattle.mount_runs.specs.Finished.{AreBack, IsRun}
 use Rattle.mount_runs.specs.Runs.{fixed_over, IsPrintedRun, IsEmptyMount, IsSerialRun, IsSingleRun}
 use Rattle.mount_runs.proofs.Alone.{alone_where, alone_run}
-use Rattle.mount_runs.proofs.Finishing.{names_stay, union_stays, prefixes_stay, count_stays, faults_rise, failed_rise, all_closed}
+use Rattle.mount_runs.proofs.Finishing.{names_stay, union_stays, prefixes_stay, count_stays, faults_rise, all_closed}
 use Rattle.serial_runs.specs.Runs.{IsRunOf, AreLogs, AreOfMount}
 use Rattle.serial_runs.specs.Serial.{IsSerial}
 use Rattle.serial_runs.proofs.Laws.{serial}
-use Rattle.session_workers.specs.Workers.{AreSessionLogs, AreWhole, asked_by}
+use Rattle.session_workers.specs.Workers.{AreSessionLogs, AreWhole, asked_by, numbers_from}
 use Rattle.session_workers.specs.Runs.{ArePrinted}
 use Rattle.session_workers.proofs.Laws.{run_logs, of_mount}
 use Rattle.state_laws.specs.Agreement.{Opening, Agrees, IsTrueTo, is_fault}
@@ -57,20 +59,31 @@ no_entries m e = no_items (finmap.entries m) (sym (finmap.len-entries m) ∙ ap 
 some_names : (xs ys : List (List ℕ)) → Some xs ≡ Some ys → xs ≡ ys
 some_names xs ys e = cc
 
+numbers-append : (n : ℕ) (xs ys : List (Option Line)) → (m : ℕ) × (numbers_from n (xs ++ ys) ≡ numbers_from n xs ++ numbers_from m ys)
+numbers-append n [] ys = (n, refl)
+numbers-append n (None ∷ xs) ys = numbers-append (n + 1) xs ys
+numbers-append n (Some line ∷ xs) ys = let more = numbers-append (n + 1) xs ys in (more.0, ap (λ l. n ∷ l) more.1)
+
+-- the lines that have answers are the first ones
+answered_first : (asked given left : List (Option Line)) (answered : List ℕ) → asked ≡ given ++ left → answered ≡ numbers_from 1 given → IsPrefix answered (numbers_from 1 asked)
+answered_first asked given left answered parts is =
+    let more = numbers-append 1 given left in
+    (numbers_from more.0 left, sym (ap (numbers_from 1) parts ∙ more.1 ∙ ap (λ l. l ++ numbers_from more.0 left) (sym is)))
+
 module _ (scripts : List (List ℕ)) (old mid new : List Part) (limit : ℕ) (log : Log) (logs : List (List Answer)) (whole : Bool) (ended : AreSessionLogs (opening_over old limit) (names_of old) scripts log.events logs)
     (full : whole ≡ true → AreWhole (names_of old) scripts logs) (agrees : Agrees (opening_over old limit) (seen_over mid) log) (finished : AreFinished mid new) where
   back : AreMounts new → AreBack old new log.events (failed_places new)
   back are =
-      let more = agrees.faults in
-      let rise = faults_rise mid new finished in
       record {
         are = are;
         names = names_stay mid new finished ∙ some_names (names_of mid) (names_of old) agrees.frame.names;
         prefixes = prefixes_stay mid new finished ∙ agrees.frame.prefixes;
         closed = all_closed mid new finished;
         failed = refl;
-        faults = omega (arith, more, rise);
-        cause = λ some. let rise = failed_rise 0 mid new finished some in omega (arith, more, rise);
+        behind = mid;
+        named = some_names (names_of mid) (names_of old) agrees.frame.names;
+        faults = agrees.faults;
+        finished = finished;
       }
 
   run_of : (start : Contents) → IsTrueTo start (opening_over old limit) (seen_over mid) log → (printed : ArePrinted (fixed_over old start) (names_of old) scripts log.events logs)
@@ -87,7 +100,8 @@ module _ (scripts : List (List ℕ)) (old mid new : List Part) (limit : ℕ) (lo
   printed_run : (start : Contents) → union_of old ≡ Some start → IsPrintedRun start scripts old new log.events logs
   printed_run start is =
       let printed : ArePrinted (fixed_over old start) (names_of old) scripts log.events logs = run_logs (opening_over old limit) start is (names_of old) scripts log.events logs ended in
-      record { answers = printed.answers; printed = printed.printed; run = run_of start (agrees.holds start is) printed }
+      let holds = agrees.holds start is in
+      record { answers = printed.answers; printed = printed.printed; run = run_of start holds printed; store = holds.contents; still = union_stays mid new finished ∙ holds.told }
 
   module _ (empty : IsEmptyMount old) where
     union_empty : union_of old ≡ Some finmap.empty
@@ -158,6 +172,10 @@ module _ (scripts : List (List ℕ)) (old mid new : List Part) (limit : ℕ) (lo
   run_is are = record {
     count = ended.count;
     answered = full;
+    numbered = λ k script log here at. let one = ended.each k script log here at in
+        subst (λ l. IsPrefix (map (λ (a : Answer). a.line) l) (numbers_from 1 (asked_by (names_of old) script))) one.log_is
+        (answered_first (asked_by (names_of old) script) one.run.given one.run.left (map (λ (a : Answer). a.line) one.session.log) one.run.parts one.run.on.answered);
+    owners = ended.owners;
     back = back are;
     told = printed_run;
     serial = serial_run;

@@ -15,7 +15,8 @@ pub record IsBegunBy (answers others : List Answer) : Type 0 where
   pub parts : others ≡ front ++ rest
   pub ends : (answers ≡ front) ⊎ ((line : ℕ) × (answers ≡ front ++ record { line = line; body = body.memory } ∷ []))
 
--- a run of one script is the single session on its lines, as far as it goes: its events and its answers are first ones of that one's, and all of them where
+-- a run of one script is the single session on its lines, as far as it goes: its events and its answers are first ones of that one's, with want
+-- of memory behind these where it was wanting, and all of them where
 -- each line that isn't blank has its answer and none is want of memory
 pub record IsAloneRun (mount : Text) (script : Script) (history : History) (answers : List Answer) : Type 0 where
   pub more : History

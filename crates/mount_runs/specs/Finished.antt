@@ -1,9 +1,12 @@
 -- A run over mounts with all that it hands back.
-use Rattle.std.specs.Prelude.{◌≡◌, ◌≢◌, ◌≤◌, ◌<◌, ◌+◌, ℕ, List, [], ◌∷◌, length, count_by, All, Bool, true, Some}
+use Rattle.std.specs.Prelude.{◌≡◌, ◌≢◌, ◌≤◌, ◌<◌, ◌+◌, ℕ, List, [], ◌∷◌, length, map, count_by, All, Bool, true, Some}
+use Rattle.std.specs.List.{slice_get, AllByRecursion}
+use mathlib.Core.List.{IsPrefix}
 use Rattle.answer_text.specs.declared.answer.Answer.{Answer}
 use Rattle.history.specs.History.{History}
+use Rattle.history.specs.declared.event.Event.{Event}
 use Rattle.kv_face.specs.Store.{Contents, opened}
-use Rattle.kv_mounts.specs.Finish.{failed_places}
+use Rattle.kv_mounts.specs.Finish.{AreFinished, failed_places}
 use Rattle.kv_mounts.specs.Parts.{Part, AreMounts, names_of}
 use Rattle.kv_mounts.specs.Union.{faults_of, prefixes_of, union_of}
 use Rattle.mount_runs.specs.Runs.{IsPrintedRun, IsEmptyMount, IsSerialRun, IsSingleRun}
@@ -11,7 +14,8 @@ use Rattle.state_laws.specs.Agreement.{is_fault}
 -- what a script asks, and that a log has its answers
 pub use Rattle.session_workers.specs.Workers.{AreWhole, IsWhole, ends_in_want, asked_by, numbers_from}
 
--- the mounts as a run hands them back: in their order, and none stands open; as many calls failed as the history has events of failed calls, or more
+-- the mounts as a run hands them back: in their order, and none stands open. Behind the last event each was finished once, and until then as many calls
+-- had failed as the history has events of failed calls, or more
 pub record AreBack (old new : List Part) (history : History) (unfinished : List ℕ) : Type 0 where
   pub are : AreMounts new
   pub names : names_of new ≡ names_of old
@@ -19,15 +23,21 @@ pub record AreBack (old new : List Part) (history : History) (unfinished : List 
   pub closed : All (λ (p : Part). p.standing ≢ opened) new
   -- the places of those that stand failed
   pub failed : unfinished ≡ failed_places new
-  pub faults : faults_of old + count_by is_fault history ≤ faults_of new
-  -- one that can't be finished is a failed call more
-  pub cause : unfinished ≢ [] → faults_of old + count_by is_fault history < faults_of new
+  -- behind the last event
+  pub behind : List Part
+  pub named : names_of behind ≡ names_of old
+  pub faults : faults_of old + count_by is_fault history ≤ faults_of behind
+  pub finished : AreFinished behind new
 
 -- these scripts were run over the mounts, each in a session of its own; where `whole` is so, no session ended without an answer to a line
 pub record IsRun (scripts : List (List ℕ)) (old new : List Part) (history : History) (logs : List (List Answer)) (whole : Bool) (unfinished : List ℕ) : Type 0 where
   pub count : length logs ≡ length scripts
   -- whatever the stores tell: each line that isn't blank has its answer, up to one that is want of memory
   pub answered : whole ≡ true → AreWhole (names_of old) scripts logs
+  -- and at every end the lines that have answers are the first ones
+  pub numbered : (k : ℕ) (script : List ℕ) (log : List Answer) → slice_get scripts k ≡ Some script → slice_get logs k ≡ Some log
+      → IsPrefix (map (λ (a : Answer). a.line) log) (numbers_from 1 (asked_by (names_of old) script))
+  pub owners : AllByRecursion (λ (e : Event). e.owner < length scripts) history
   pub back : AreBack old new history unfinished
   -- where the stores told their contents, the history is legal, the logs are those of sessions that ran the scripts over it, and the stores hold what it
   -- says

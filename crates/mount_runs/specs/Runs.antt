@@ -24,6 +24,9 @@ pub record IsPrintedRun (start : Contents) (scripts : List (List ℕ)) (old new 
   pub answers : List (List plain.Answer)
   pub printed : logs ≡ map (map answer_of) answers
   pub run : IsRunOf (fixed_over old start) (map (asked_by (names_of old)) scripts) history answers (union_of new) (change_count_of old) (change_count_of new)
+  -- the stores still tell what they hold
+  pub store : Contents
+  pub still : union_of new ≡ Some store
 
 -- one mount, whose store is empty and makes all its changes together
 pub record IsEmptyMount (parts : List Part) : Type 0 where

@@ -42,6 +42,20 @@ files_none s t r number first is other made files = let two : Files first ≡ Ma
 pub files_asked : (words : List Text) (r : Result Settings WordsError) (t : Settings) (first number : ℕ) → ((s : Settings) → IsSettings words s → r ≡ Ok s) → r ≡ Ok t → t.input ≡ Files first → AskToMake words number → ⊥
 files_asked words r t first number only is files asked = files_none asked.settings t r number first (only asked.settings asked.asked) is asked.from files
 
+-- words that ask for scripts that are made ask for no files
+pub made_asked : (words files : List Text) (r : Result Settings WordsError) (t : Settings) (number : ℕ) → ((s : Settings) → IsSettings words s → r ≡ Ok s) → r ≡ Ok t → t.input ≡ Made number → AskFor words files → ⊥
+made_asked words files r t number only is made asked = files_none t asked.settings r number asked.first is (only asked.settings asked.asked) made asked.from
+
+one_first : (a b : ℕ) → Files a ≡ Files b → a ≡ b
+one_first a b is = cc
+
+-- the files that words ask for are those from the place that was read
+pub same_files : (ws : List (String Global)) (r : Result Settings WordsError) (t : Settings) (first : ℕ) (files : List Text) → ((s : Settings) → IsSettings (texts_of ws) s → r ≡ Ok s) → r ≡ Ok t → t.input ≡ Files first → AskFor (texts_of ws) files
+    → files ≡ texts_of (take (length ws - first) (drop first ws))
+same_files ws r t first files only is at asked =
+    let place : asked.first ≡ first = one_first asked.first first (sym asked.from ∙ same_input r asked.settings t (only asked.settings asked.asked) is ∙ at) in
+    asked.are ∙ ap (λ n. drop n (texts_of ws)) place ∙ sym (texts_from ws first)
+
 error_none : (s : Settings) (e : WordsError) (r : Result Settings WordsError) → r ≡ Ok s → r ≡ Err e → ⊥
 error_none s e r is other = let two : Ok s ≡ Err e = sym is ∙ other in let no_such : ⊥ = cc in no_such
 

@@ -1,3 +1,4 @@
 mod Asking
 mod Single
 mod Ran
+mod Written

@@ -17,16 +17,16 @@ use Rattle.script_streams.specs.Standing as standing
 use Rattle.script_streams.specs.Standing.{holds_memory}
 
 -- files that are asked for were run
-pub run_asked : (contents : Option Contents) (words files : List Text) (old new : List Part) (outcome : Outcome) → AskFor words files → HasRunFiles contents files old new outcome → HasRun contents words old new outcome
-run_asked contents words files old new outcome asked ran = record {
+pub run_asked : (contents : Option Contents) (words files : List Text) (old new : List Part) (outcome : Outcome) (silent : Type 0) → AskFor words files → HasRunFiles contents files old new outcome silent → HasRun contents words old new outcome silent
+run_asked contents words files old new outcome silent asked ran = record {
   scripts = ran.scripts;
   asked = inl (record { files = files; asked = asked; read = ran.read });
   ran = ran.ran;
 }
 
 -- and so were scripts that are made
-pub run_made : (contents : Option Contents) (words : List Text) (number : ℕ) (old new : List Part) (outcome : Outcome) → AskToMake words number → HasRunTexts (made number) old new outcome → HasRun contents words old new outcome
-run_made contents words number old new outcome asked ran = record {
+pub run_made : (contents : Option Contents) (words : List Text) (number : ℕ) (old new : List Part) (outcome : Outcome) (silent : Type 0) → AskToMake words number → HasRunTexts (made number) old new outcome silent → HasRun contents words old new outcome silent
+run_made contents words number old new outcome silent asked ran = record {
   scripts = made number;
   asked = inr (record { number = number; asked = asked; are = refl });
   ran = ran;
@@ -49,8 +49,8 @@ single_outcome old new outcome mount script whole run full good empty named quie
     record { answers = one.printed ∙ ap (λ answers. map answer_of answers ∷ []) (sym same.0); events = sym same.1 }
 
 -- over one empty store, what was run is serial
-pub serial_run : (contents : Option Contents) (words : List Text) (old new : List Part) (outcome : Outcome) → IsEmptyMount old → (HasAnswers outcome.status → holds_memory outcome.logs ≡ false) → HasRun contents words old new outcome → IsSerialOutcome contents words old new outcome
-serial_run contents words old new outcome empty good run = record {
+pub serial_run : (contents : Option Contents) (words : List Text) (old new : List Part) (outcome : Outcome) (silent : Type 0) → IsEmptyMount old → (HasAnswers outcome.status → holds_memory outcome.logs ≡ false) → HasRun contents words old new outcome silent → IsSerialOutcome contents words old new outcome
+serial_run contents words old new outcome silent empty good run = record {
   scripts = run.scripts;
   asked = run.asked;
   serial = run.ran.run.serial empty;

@@ -16,30 +16,40 @@ use Rattle.script_runner.specs.Asked.{AreAskedFor, AreOfFiles}
 use Rattle.script_runner.specs.declared.outcome.Outcome.{Outcome}
 use Rattle.script_runner.specs.declared.writing.Report.{Report}
 use Rattle.script_runner.specs.declared.writing.Report.TheVariants.{Answers, Summary}
+use Rattle.script_streams.specs.Putting.{Takes, IsGoing, IsBroken, IsStopped}
 use Rattle.script_streams.specs.Standing.{are_all_ok}
 use Rattle.script_streams.specs.Writing.{text_of_logs}
 
--- these scripts were run over the mounts. Unless memory was wanting, each line that isn't blank has its answer, up to one that is want of memory
-pub record HasRunTexts (scripts : List (List ℕ)) (old new : List Part) (outcome : Outcome) : Type 0 where
+-- these scripts were run over the mounts. Unless memory was wanting, each line that isn't blank has its answer, up to one that is want of memory;
+-- where a session ended without an answer to a line nothing was written, which `silent` says
+pub record HasRunTexts (scripts : List (List ℕ)) (old new : List Part) (outcome : Outcome) (silent : Type 0) : Type 0 where
   pub whole : Bool
   pub run : IsRun scripts old new outcome.history outcome.logs whole outcome.unfinished
   pub full : outcome.status ≢ 5 → whole ≡ true
+  pub unwritten : whole ≡ false → silent
 
 -- these files were read and run so
-pub record HasRunFiles (contents : Option Contents) (files : List (List ℕ)) (old new : List Part) (outcome : Outcome) : Type 0 where
+pub record HasRunFiles (contents : Option Contents) (files : List (List ℕ)) (old new : List Part) (outcome : Outcome) (silent : Type 0) : Type 0 where
   pub scripts : List (List ℕ)
   pub read : AreOfFiles contents files scripts
-  pub ran : HasRunTexts scripts old new outcome
+  pub ran : HasRunTexts scripts old new outcome silent
 
 -- sessions were started: the scripts that the words ask for were run over the mounts, each in a session of its own
-pub record HasRun (contents : Option Contents) (words : List (List ℕ)) (old new : List Part) (outcome : Outcome) : Type 0 where
+pub record HasRun (contents : Option Contents) (words : List (List ℕ)) (old new : List Part) (outcome : Outcome) (silent : Type 0) : Type 0 where
   pub scripts : List (List ℕ)
   pub asked : AreAskedFor contents words scripts
-  pub ran : HasRunTexts scripts old new outcome
+  pub ran : HasRunTexts scripts old new outcome silent
 
 -- all that is to be told of a run was written
 abbrev pub HasAnswers : ℕ → Type 0
 HasAnswers status = (status ≡ 0) ⊎ (status ≡ 1)
+
+-- what became of a text by the status: all of it was given and taken; the sink took no more of it; or a front part was taken and memory was wanting, in
+-- the run or for the rest
+pub record IsPut {X : Type 0} (takes : Takes X) (from : X) (text : List ℕ) (status : ℕ) (to : X) : Type 0 where
+  pub whole : HasAnswers status → IsGoing takes from text [] to
+  pub refused : status ≡ 4 → IsBroken takes from text to
+  pub stopped : status ≡ 5 → IsStopped takes from text to
 
 -- one script alone: the answers are those of the single session on plain arrays as they are printed, and so are the events
 pub record IsSingleOutcome (mount script : List ℕ) (outcome : Outcome) : Type 0 where

@@ -1,15 +1,15 @@
 // The top call.
-ghost use Rattle.std.specs.Prelude.{◌≡◌, ◌≢◌, ◌≤◌, ◌<◌, ◌^◌, ◌++◌, ◌⊎◌, ◌↔◌, ℕ, [], All, length, true, false, None, Some};
+ghost use Rattle.std.specs.Prelude.{◌≡◌, ◌≢◌, ◌≤◌, ◌<◌, ◌^◌, ◌++◌, ◌⊎◌, ◌↔◌, ℕ, List, [], All, length, true, false, None, Some};
 ghost use Rattle.kv_face.specs.Streams.{WhereTold, Rises, IsPartOf};
 ghost use Rattle.kv_mounts.specs.Parts.{AreMounts};
 ghost use Rattle.made_scripts.specs.Scripts.{made};
 ghost use Rattle.made_scripts.specs.Summary.{summary_text};
 ghost use Rattle.mount_runs.specs.Runs.{IsEmptyMount};
-ghost use Rattle.run_words.specs.Options.{texts_of};
+ghost use Rattle.run_words.specs.Options.{Text, texts_of};
 ghost use Rattle.run_words.specs.Words.{IsSettings};
 ghost use Rattle.run_words.specs.declared.settings.Settings.{Settings};
-ghost use Rattle.script_runner.specs.Asked.{AskToMake, AreRefused, IsUnread, IsUnreadFile};
-ghost use Rattle.script_runner.specs.Promises.{HasRun, HasRunFiles, HasRunTexts, IsSerialOutcome, IsUnstarted, HasAnswers, status_of, text_by, text_of};
+ghost use Rattle.script_runner.specs.Asked.{AskFor, AskToMake, AreRefused, HasAsked, IsUnread, IsUnreadFile};
+ghost use Rattle.script_runner.specs.Promises.{HasRun, HasRunFiles, HasRunTexts, IsSerialOutcome, IsUnstarted, HasAnswers, IsPut, status_of, text_by, text_of};
 ghost use Rattle.script_streams.specs.Reading.{texts_in};
 ghost use Rattle.script_streams.specs.Standing.{holds_memory};
 ghost use Rattle.script_streams.specs.Writing.{text_of_logs};
@@ -21,7 +21,7 @@ use kv_face::KvStore;
 use made_scripts::make_scripts;
 use mount_runs::{Finished, Gate, Mount, run_over};
 use run_words::{Input, Settings, read_words};
-use script_streams::{Scripts, Sink, Unread, read_scripts};
+use script_streams::{Reader, Unread, Writer, read_scripts};
 use std::alloc::Global;
 use std::mem;
 use std::sync::Wait;
@@ -36,7 +36,7 @@ use std::thread::Threads;
 ///
 /// With `--make NUMBER` no file is named or read: nine scripts are made from the number, the last session starts once the others were joined,
 /// and one line about the run is written in place of the answers.
-pub fn run<S: Scripts, O: Sink, K: KvStore + Send, R: Threads + Wait + Sync, G: Gate + Sync>(
+pub fn run<S: Reader, O: Writer, K: KvStore + Send, R: Threads + Wait + Sync, G: Gate + Sync>(
     alloc: Global,
     rt: &R,
     words: &[String],
@@ -49,8 +49,8 @@ pub fn run<S: Scripts, O: Sink, K: KvStore + Send, R: Threads + Wait + Sync, G: 
     // Serial transactions: over one empty store that makes all changes of a commit together.
     ensures serial { result.logs ≢ [] → IsEmptyMount mounts.old.items → IsSerialOutcome (S.contents scripts.old) (texts_of words.now) mounts.old.items mounts.new.items result }
     // Over any mounts, where sessions were started, whatever the status.
-    ensures started { result.logs ≢ [] → HasRun (S.contents scripts.old) (texts_of words.now) mounts.old.items mounts.new.items result }
-    // Where none was, nothing was done or written.
+    ensures started { result.logs ≢ [] → HasRun (S.contents scripts.old) (texts_of words.now) mounts.old.items mounts.new.items result (sink.new ≡ sink.old) }
+    // Where none was, no mount was touched and nothing was written.
     ensures unstarted { result.logs ≡ [] → IsUnstarted result × (mounts.new.items ≡ mounts.old.items) × (sink.new ≡ sink.old) }
     ensures known { result.status ≤ 5 }
     // The words are refused exactly where they ask for nothing; no script was opened then.
@@ -58,13 +58,17 @@ pub fn run<S: Scripts, O: Sink, K: KvStore + Send, R: Threads + Wait + Sync, G: 
     ensures unopened { result.status ≡ 2 → scripts.new ≡ scripts.old }
     // Nor is one where the words ask for scripts that are made.
     ensures made { (number : ℕ) → AskToMake (texts_of words.now) number → (scripts.new ≡ scripts.old) × (result.status ≢ 3) }
-    // A script is not read only where the scripts failed or a limit is passed.
+    // The files that the words name are asked for in their order, each once and none behind the first that isn't given; what was given is run.
+    ensures asked { (files : List Text) → AskFor (texts_of words.now) files → HasAsked S.gives scripts.old files result (λ texts. HasRunTexts texts mounts.old.items mounts.new.items result (sink.new ≡ sink.old)) scripts.new }
+    // A script is not read where the scripts failed or, as far as they are told, it passes a limit.
     ensures unread { result.status ≡ 3 → IsUnread (S.contents scripts.old) (texts_of words.now) (S.faults scripts.old) (S.faults scripts.new) result.script }
     ensures place { result.status ≢ 3 → result.script ≡ None }
     ensures none { (result.status ≡ 2) ⊎ (result.status ≡ 3) → result.logs ≡ [] }
     ensures some { (result.status ≢ 2) → (result.status ≢ 3) → (result.status ≢ 5) → result.logs ≢ [] }
     ensures contents { S.contents scripts.new ≡ S.contents scripts.old }
     ensures reading { S.faults scripts.old ≤ S.faults scripts.new }
+    // What the words ask for is given to the sink in pieces, each once and none behind the first that wasn't taken.
+    ensures put { (settings : Settings) → IsSettings (texts_of words.now) settings → result.logs ≢ [] → IsPut O.takes sink.old (text_by settings.input result) result.status sink.new }
     // What was written is the text that the words ask for, or a front part of it where the sink failed or memory was wanting.
     ensures written { (settings : Settings) → IsSettings (texts_of words.now) settings → HasAnswers result.status → WhereTold (O.content sink.old) (λ before. O.content sink.new ≡ Some (before ++ text_by settings.input result)) }
     ensures part { (settings : Settings) → IsSettings (texts_of words.now) settings → WhereTold (O.content sink.old) (λ before. IsPartOf (O.content sink.new) before (text_by settings.input result)) }
@@ -101,7 +105,7 @@ pub fn run<S: Scripts, O: Sink, K: KvStore + Send, R: Threads + Wait + Sync, G: 
 }
 
 // Reads the scripts of the files and runs them.
-fn read_and_run<S: Scripts, O: Sink, K: KvStore + Send, R: Threads + Wait + Sync, G: Gate + Sync>(
+fn read_and_run<S: Reader, O: Writer, K: KvStore + Send, R: Threads + Wait + Sync, G: Gate + Sync>(
     alloc: Global,
     rt: &R,
     files: &[String],
@@ -116,7 +120,8 @@ fn read_and_run<S: Scripts, O: Sink, K: KvStore + Send, R: Threads + Wait + Sync
     requires files { (0 < length files.now) × (length files.now ≤ 1024) }
     requires workers { 0 < workers }
     requires cache { cache ≤ 2 ^ 27 }
-    ensures started { result.logs ≢ [] → HasRunFiles (S.contents scripts.old) (texts_of files.now) mounts.old.items mounts.new.items result }
+    ensures started { result.logs ≢ [] → HasRunFiles (S.contents scripts.old) (texts_of files.now) mounts.old.items mounts.new.items result (sink.new ≡ sink.old) }
+    ensures asked { HasAsked S.gives scripts.old (texts_of files.now) result (λ texts. HasRunTexts texts mounts.old.items mounts.new.items result (sink.new ≡ sink.old)) scripts.new }
     ensures unstarted { result.logs ≡ [] → IsUnstarted result × (mounts.new.items ≡ mounts.old.items) × (sink.new ≡ sink.old) }
     ensures known { (result.status ≤ 5) × (result.status ≢ 2) }
     ensures unread { result.status ≡ 3 → IsUnreadFile (S.contents scripts.old) (texts_of files.now) (S.faults scripts.old) (S.faults scripts.new) result.script }
@@ -125,6 +130,7 @@ fn read_and_run<S: Scripts, O: Sink, K: KvStore + Send, R: Threads + Wait + Sync
     ensures some { (result.status ≢ 3) → (result.status ≢ 5) → result.logs ≢ [] }
     ensures contents { S.contents scripts.new ≡ S.contents scripts.old }
     ensures reading { S.faults scripts.old ≤ S.faults scripts.new }
+    ensures put { result.logs ≢ [] → IsPut O.takes sink.old (text_of_logs result.logs) result.status sink.new }
     ensures written { HasAnswers result.status → WhereTold (O.content sink.old) (λ before. O.content sink.new ≡ Some (before ++ text_of_logs result.logs)) }
     ensures part { WhereTold (O.content sink.old) (λ before. IsPartOf (O.content sink.new) before (text_of_logs result.logs)) }
     ensures status { HasAnswers result.status → (result.status ≡ status_of result) × (holds_memory result.logs ≡ false) }
@@ -149,7 +155,7 @@ fn read_and_run<S: Scripts, O: Sink, K: KvStore + Send, R: Threads + Wait + Sync
 }
 
 // Makes the scripts and runs them.
-fn make_and_run<O: Sink, K: KvStore + Send, R: Threads + Wait + Sync, G: Gate + Sync>(
+fn make_and_run<O: Writer, K: KvStore + Send, R: Threads + Wait + Sync, G: Gate + Sync>(
     alloc: Global,
     rt: &R,
     number: u32,
@@ -162,11 +168,12 @@ fn make_and_run<O: Sink, K: KvStore + Send, R: Threads + Wait + Sync, G: Gate + 
     requires mounts { AreMounts mounts.old.items }
     requires workers { 0 < workers }
     requires cache { cache ≤ 2 ^ 27 }
-    ensures started { result.logs ≢ [] → HasRunTexts (made number) mounts.old.items mounts.new.items result }
+    ensures started { result.logs ≢ [] → HasRunTexts (made number) mounts.old.items mounts.new.items result (sink.new ≡ sink.old) }
     ensures unstarted { result.logs ≡ [] → IsUnstarted result × (mounts.new.items ≡ mounts.old.items) × (sink.new ≡ sink.old) }
     ensures known { (result.status ≤ 5) × (result.status ≢ 2) × (result.status ≢ 3) }
     ensures place { result.script ≡ None }
     ensures some { result.status ≢ 5 → result.logs ≢ [] }
+    ensures put { result.logs ≢ [] → IsPut O.takes sink.old (summary_text result.logs result.history) result.status sink.new }
     ensures written { HasAnswers result.status → WhereTold (O.content sink.old) (λ before. O.content sink.new ≡ Some (before ++ summary_text result.logs result.history)) }
     ensures part { WhereTold (O.content sink.old) (λ before. IsPartOf (O.content sink.new) before (summary_text result.logs result.history)) }
     ensures status { HasAnswers result.status → (result.status ≡ status_of result) × (holds_memory result.logs ≡ false) }
@@ -189,7 +196,7 @@ fn make_and_run<O: Sink, K: KvStore + Send, R: Threads + Wait + Sync, G: Gate + 
 }
 
 // Runs scripts, and writes what is to be told of the run. Those that were made run so that the last session is behind the others.
-fn run_texts<O: Sink, K: KvStore + Send, R: Threads + Wait + Sync, G: Gate + Sync>(
+fn run_texts<O: Writer, K: KvStore + Send, R: Threads + Wait + Sync, G: Gate + Sync>(
     alloc: Global,
     rt: &R,
     texts: &[Vec<u8>],
@@ -205,11 +212,12 @@ fn run_texts<O: Sink, K: KvStore + Send, R: Threads + Wait + Sync, G: Gate + Syn
     requires short { All (λ s. length s.items < 2 ^ 62) texts.now }
     requires workers { 0 < workers }
     requires cache { cache ≤ 2 ^ 27 }
-    ensures started { result.logs ≢ [] → HasRunTexts (texts_in texts.now) mounts.old.items mounts.new.items result }
+    ensures started { result.logs ≢ [] → HasRunTexts (texts_in texts.now) mounts.old.items mounts.new.items result (sink.new ≡ sink.old) }
     ensures unstarted { result.logs ≡ [] → IsUnstarted result × (mounts.new.items ≡ mounts.old.items) × (sink.new ≡ sink.old) }
     ensures known { (result.status ≤ 5) × (result.status ≢ 2) × (result.status ≢ 3) }
     ensures place { result.script ≡ None }
     ensures some { result.status ≢ 5 → result.logs ≢ [] }
+    ensures put { result.logs ≢ [] → IsPut O.takes sink.old (text_of report result.logs result.history) result.status sink.new }
     ensures written { HasAnswers result.status → WhereTold (O.content sink.old) (λ before. O.content sink.new ≡ Some (before ++ text_of report result.logs result.history)) }
     ensures part { WhereTold (O.content sink.old) (λ before. IsPartOf (O.content sink.new) before (text_of report result.logs result.history)) }
     ensures status { HasAnswers result.status → (result.status ≡ status_of result) × (holds_memory result.logs ≡ false) }
@@ -234,7 +242,7 @@ fn behind(report: Report) -> usize {
 }
 
 // Puts the mounts back and writes what is to be told.
-fn told<O: Sink, K: KvStore>(
+fn told<O: Writer, K: KvStore>(
     alloc: Global,
     sink: &mut O,
     report: Report,
@@ -248,6 +256,8 @@ fn told<O: Sink, K: KvStore>(
     ensures known { (result.status ≤ 5) × (result.status ≢ 2) × (result.status ≢ 3) }
     ensures place { result.script ≡ None }
     ensures full { result.status ≢ 5 → finished.whole ≡ true }
+    ensures silent { finished.whole ≡ false → sink.new ≡ sink.old }
+    ensures put { IsPut O.takes sink.old (text_of report result.logs result.history) result.status sink.new }
     ensures written { HasAnswers result.status → WhereTold (O.content sink.old) (λ before. O.content sink.new ≡ Some (before ++ text_of report result.logs result.history)) }
     ensures part { WhereTold (O.content sink.old) (λ before. IsPartOf (O.content sink.new) before (text_of report result.logs result.history)) }
     ensures status { HasAnswers result.status → (result.status ≡ status_of result) × (holds_memory result.logs ≡ false) }

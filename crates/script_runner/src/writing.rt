@@ -1,15 +1,16 @@
 // The status of a run whose sessions were started, and what is written of it.
-ghost use Rattle.std.specs.Prelude.{◌≡◌, ◌≢◌, ◌≤◌, ◌⊎◌, ◌&&◌, ◌++◌, Some, true, false, OnOk, IsErrOf, if◌then◌else◌};
+ghost use Rattle.std.specs.Prelude.{◌≡◌, ◌≢◌, ◌≤◌, ◌⊎◌, ◌&&◌, ◌++◌, [], Some, true, false, OnOk, IsErrOf, if◌then◌else◌};
 ghost use Rattle.kv_face.specs.Streams.{WhereTold, Rises, IsPartOf};
 ghost use Rattle.made_scripts.specs.Summary.{summary_text};
-ghost use Rattle.script_runner.specs.Promises.{HasAnswers, is_empty, text_of};
+ghost use Rattle.script_runner.specs.Promises.{HasAnswers, IsPut, is_empty, text_of};
+ghost use Rattle.script_streams.specs.Putting.{IsPutting};
 ghost use Rattle.script_streams.specs.Standing.{are_all_ok, holds_memory};
 
 use answer_text::Answer;
 use cells::List;
 use history::Event;
 use made_scripts::summary;
-use script_streams::{Sink, Unwritten, Writer, are_all_ok, has_memory, write_logs};
+use script_streams::{Unwritten, Writer, are_all_ok, has_memory, write_logs};
 use std::alloc::Global;
 
 /// What is written of a run: the answers of all sessions, or one line about them.
@@ -20,7 +21,7 @@ pub(crate) enum Report {
 }
 
 /// Writes what is to be told of a run, unless a session ended without an answer to a line, and tells the status.
-pub(crate) fn status_of<O: Sink>(
+pub(crate) fn status_of<O: Writer>(
     alloc: Global,
     sink: &mut O,
     report: Report,
@@ -33,6 +34,8 @@ pub(crate) fn status_of<O: Sink>(
     ensures status { HasAnswers result → result ≡ (if are_all_ok logs.now && is_empty unfinished.now then 0 else 1) }
     ensures answers { HasAnswers result → holds_memory logs.now ≡ false }
     ensures full { result ≢ 5 → whole ≡ true }
+    ensures silent { whole ≡ false → sink.new ≡ sink.old }
+    ensures put { IsPut O.takes sink.old (text_of report logs.now history.now) result sink.new }
     ensures written { HasAnswers result → WhereTold (O.content sink.old) (λ before. O.content sink.new ≡ Some (before ++ text_of report logs.now history.now)) }
     ensures part { WhereTold (O.content sink.old) (λ before. IsPartOf (O.content sink.new) before (text_of report logs.now history.now)) }
     ensures unwritten { Rises (O.faults sink.old) (O.faults sink.new) (result ≡ 4) }
@@ -47,7 +50,7 @@ pub(crate) fn status_of<O: Sink>(
     }
 }
 
-fn write_report<O: Sink>(
+fn write_report<O: Writer>(
     alloc: Global,
     sink: &mut O,
     report: Report,
@@ -57,6 +60,7 @@ fn write_report<O: Sink>(
     ensures all { OnOk result (WhereTold (O.content sink.old) (λ before. O.content sink.new ≡ Some (before ++ text_of report logs.now history.now))) }
     ensures part { WhereTold (O.content sink.old) (λ before. IsPartOf (O.content sink.new) before (text_of report logs.now history.now)) }
     ensures faults { Rises (O.faults sink.old) (O.faults sink.new) (IsErrOf result Unwritten.Failed) }
+    ensures run { IsPutting O.takes sink.old (text_of report logs.now history.now) result [] sink.new }
 {
     match report {
         Report::Answers => write_logs(alloc, sink, logs),
@@ -64,7 +68,7 @@ fn write_report<O: Sink>(
     }
 }
 
-fn write_summary<O: Sink>(
+fn write_summary<O: Writer>(
     alloc: Global,
     sink: &mut O,
     logs: &[List<Answer>],
@@ -73,14 +77,30 @@ fn write_summary<O: Sink>(
     ensures all { OnOk result (WhereTold (O.content sink.old) (λ before. O.content sink.new ≡ Some (before ++ summary_text logs.now history.now))) }
     ensures part { WhereTold (O.content sink.old) (λ before. IsPartOf (O.content sink.new) before (summary_text logs.now history.now)) }
     ensures faults { Rises (O.faults sink.old) (O.faults sink.new) (IsErrOf result Unwritten.Failed) }
+    ensures run { IsPutting O.takes sink.old (summary_text logs.now history.now) result [] sink.new }
 {
-    let line = summary(alloc, logs, history)?;
-    sink.put(line.as_slice())?;
-    Ok(())
+    match summary(alloc, logs, history) {
+        Ok(line) => put_line(sink, line.as_slice()),
+        Err(_) => Err(Unwritten::Memory),
+    }
+}
+
+// Gives the sink a text as one piece.
+fn put_line<O: Writer>(sink: &mut O, line: &[u8]) -> Result<(), Unwritten>
+    ensures all { OnOk result (WhereTold (O.content sink.old) (λ before. O.content sink.new ≡ Some (before ++ line.now))) }
+    ensures part { WhereTold (O.content sink.old) (λ before. IsPartOf (O.content sink.new) before line.now) }
+    ensures faults { Rises (O.faults sink.old) (O.faults sink.new) (IsErrOf result Unwritten.Failed) }
+    ensures run { IsPutting O.takes sink.old line.now result [] sink.new }
+{
+    match sink.put(line) {
+        Ok(()) => Ok(()),
+        Err(_) => Err(Unwritten::Failed),
+    }
 }
 
 // The status where all was written.
 fn status_by(logs: &[List<Answer>], unfinished: &[u32]) -> u8
+    ensures other { result ≢ 4 }
     ensures known { (result ≡ 5) × (holds_memory logs.now ≡ true) ⊎ (holds_memory logs.now ≡ false) × (result ≡ (if are_all_ok logs.now && is_empty unfinished.now then 0 else 1)) }
 {
     if has_memory(logs) {

@@ -1,4 +1,4 @@
-use Rattle.std.proofs.Common.{◌∙◌, [], Some, refl, sym, ap, subst, arith, append-nil}
+use Rattle.std.proofs.Common.{◌≡◌, ◌∙◌, [], Some, refl, sym, ap, subst, arith, append-nil}
 use Rattle.made_scripts.specs.Summary.{summary_text}
 use Rattle.script_runner.specs.Promises.{HasRunTexts}
 use Rattle.script_runner.proofs.Asking.{made_count, made_each}
@@ -13,7 +13,7 @@ run_texts-requires-clause-short g c κs within = made_each c.args.number c.as_sl
 
 pub returns-in-Ok-clause-started : goal.returns-in-Ok-clause-started
 returns-in-Ok-clause-started g c = λ some.
-    subst (λ ts. HasRunTexts ts c.args.mounts.now.items c.run_texts.new.mounts.items c.run_texts.result) (ap texts_in c.as_slice.ensures.value ∙ c.in-Ok.ensures) (c.run_texts.ensures.started some)
+    subst (λ ts. HasRunTexts ts c.args.mounts.now.items c.run_texts.new.mounts.items c.run_texts.result (c.run_texts.new.sink ≡ c.args.sink.now)) (ap texts_in c.as_slice.ensures.value ∙ c.in-Ok.ensures) (c.run_texts.ensures.started some)
 
 pub returns-in-Err-clause-part : goal.returns-in-Err-clause-part
 returns-in-Err-clause-part g c = λ before is. record {
