@@ -1,6 +1,7 @@
 // A run by the words of the command line.
 ghost use Rattle.std.specs.Prelude.{IfOk};
 ghost use Rattle.kv_mounts.specs.Parts.{AreMounts};
+ghost use Rattle.script_runner.specs.Promises.{IsEmptyMount};
 
 use crate::gate::Open;
 use crate::said::{say, say_unfinished};
@@ -21,8 +22,17 @@ pub(crate) fn run_words<R: Threads + Wait + Sync>(
         [option, folder, rest @ ..] if option.as_str() == "--root" => {
             run_over(host, rt, rest, new_mounts(host, Some(folder.as_str())))
         }
-        _ => run_over(host, rt, words, new_mounts(host, None)),
+        _ => run_over(host, rt, words, memory_alone(host)),
     }
+}
+
+// The mount `memory`, over which a run's transactions are serial.
+fn memory_alone(host: HostRuntime) -> Result<Vec<Mount<Store<HostRuntime>>>, AllocError>
+    ensures are { IfOk result (λ m. AreMounts m.items) }
+    ensures empty { IfOk result (λ m. IsEmptyMount m.items) }
+{
+    let mounts = new_mounts(host, None)?;
+    Ok(mounts)
 }
 
 // Over these mounts, if there was memory for them.
