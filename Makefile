@@ -27,13 +27,19 @@ bin/bench_lines: crates.txt $(wildcard crates/*/src/*.rt crates/*/specs/*.antt c
 	mkdir -p bin
 	cp crates/bench_lines/out/bench_lines bin/bench_lines
 
-bench: bin/tensor_run bin/bench_views bin/bench_chunks bin/bench_stacks bin/bench_lines
+bin/bench_commits: crates.txt $(wildcard crates/*/src/*.rt crates/*/specs/*.antt crates/*/proofs/*.antt)
+	cd crates/bench_commits && rt run -- 100 1 > "$(CURDIR)/build.log" 2>&1
+	mkdir -p bin
+	cp crates/bench_commits/out/bench_commits bin/bench_commits
+
+bench: bin/tensor_run bin/bench_views bin/bench_chunks bin/bench_stacks bin/bench_lines bin/bench_commits
 	bench/run.sh bin/tensor_run
 	bench/stores.sh bin/tensor_run
 	bench/views.sh bin/bench_views
 	bench/chunks.sh bin/bench_chunks
 	bench/stacks.sh bin/bench_stacks
 	bench/lines.sh bin/bench_lines
+	bench/commits.sh bin/bench_commits
 	bench/beside.sh bin/tensor_run
 
 # make ends with 2 where the script's run ends with another status than 0; `./run SCRIPT` ends with that status
