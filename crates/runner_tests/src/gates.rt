@@ -13,8 +13,8 @@ impl Gate for Open {
     fn coding<R: Wait>(&self, _rt: &R, _session: u32) {}
 }
 
-/// A gate that holds session 0, before a line of its own or where it is about to decode a chunk, until the store was changed so often and,
-/// where it is asked, session 1 is before its third line. Session 1 doesn't begin before session 0 is held.
+/// A gate that holds session 0, before a line of its own or where it is about to decode or encode a chunk, until the store was changed so
+/// often and, where it is asked, session 1 is before its third line. Session 1 doesn't begin before session 0 is held.
 #[derive(Drop)]
 pub(crate) struct Holding<'n> {
     /// How often a session looks before it gives up.

@@ -18,7 +18,7 @@ pub(crate) struct Plan<'t> {
     pub workers: &'t str,
     /// How often a session looks before it gives up.
     pub looks: u64,
-    /// The line before which session 0 is held; 0 where it is held as it is about to decode a chunk.
+    /// The line before which session 0 is held; 0 where it is held as it is about to decode or encode a chunk.
     pub line: u64,
     /// Whether it is held until session 1 is before its third line, else until the store was changed twice.
     pub behind: bool,
@@ -139,6 +139,14 @@ const READS_AND_TRIES_TWICE: &str =
 {"commit":true}
 "#;
 
+const READS_AND_WRITES: &str =
+    r#"{"open":"a","spec":{"driver":"zarr","kvstore":{"driver":"memory","path":"a"},"metadata":{"chunks":[2],"dtype":"<i4","shape":[2]},"create":true}}
+{"read":"a"}
+{"begin":{}}
+{"write":"a","steps":[{"at":0}],"values":1}
+{"commit":true}
+"#;
+
 const READS_HELD: &str =
     r#"{"open":"a","spec":{"driver":"zarr","kvstore":{"driver":"memory","path":"a"}}}
 {"read":"a"}
@@ -238,6 +246,29 @@ fn write_only_transactions_merge(rt: HostRuntime) -> Result<(), Fail> {
 {"line":3,"write":1}
 {"commit":[2],"line":4}
 Some([1, 0, 0, 0, 2, 0, 0, 0])"#
+    );
+    Ok(())
+}
+
+// Session 0 is held where it is about to encode its chunk, over which session 1 writes meanwhile: both cells stand.
+#[test]
+fn prepared_bytes_gone_stale(rt: HostRuntime) -> Result<(), Fail> {
+    let text = met(
+        &rt,
+        rt.alloc(),
+        &held_before(0, [READS_AND_WRITES, WRITES_SIX]),
+    )?;
+    assert!(rt;
+        text.as_str()
+            == r#"status 0, unfinished [], events 3
+{"domain":{"exclusive_max":[[2]],"inclusive_min":[0]},"dtype":"int32","events":[1],"line":1,"open":"a"}
+{"line":2,"origin":[0],"values":[0,0]}
+{"begin":true,"line":3}
+{"line":4,"write":1}
+{"commit":[3],"line":5}
+{"domain":{"exclusive_max":[[2]],"inclusive_min":[0]},"dtype":"int32","events":[],"line":1,"open":"a"}
+{"commit":[2],"line":2,"write":1}
+Some([1, 0, 0, 0, 6, 0, 0, 0])"#
     );
     Ok(())
 }
