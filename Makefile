@@ -39,6 +39,7 @@ bench: bin/tensor_run bin/bench_views bin/bench_chunks bin/bench_stacks bin/benc
 	bench/chunks.sh bin/bench_chunks
 	bench/stacks.sh bin/bench_stacks
 	bench/lines.sh bin/bench_lines
+	bench/read.sh bin/tensor_run
 	bench/commits.sh bin/bench_commits
 	bench/beside.sh bin/tensor_run
 
