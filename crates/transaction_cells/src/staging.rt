@@ -13,6 +13,7 @@ ghost use Rattle.stack_driver.specs.Views.{look_of};
 ghost use Rattle.stack_driver.specs.declared.view.View.{View};
 ghost use Rattle.stack_targets.specs.Landings.{leaves_of};
 ghost use Rattle.transaction_cells.specs.Operations.{AreStaged, HasSites, IsLeafIn};
+ghost use Rattle.transaction_cells.specs.Casting.{taken_back};
 ghost use Rattle.transaction_cells.specs.Found.{Id, found};
 ghost use Rattle.transaction_cells.specs.Needs.{IsRunIn, is_bare, are_bare, needs};
 ghost use Rattle.transaction_cells.specs.declared.view_cells.Piece.{Piece};
@@ -75,10 +76,30 @@ impl Staging {
             → AllByRecursion (IsWord (look_of v).dtype) words.now → AreStaged events ops self.old → AreStaged events (ops ++ op.Write v words.now ∷ []) self.new) }
         ensures err { OnErr result ((id : List ℕ) (place : ℕ) → word_in self.new id place ≡ word_in self.old id place) }
     {
+        if cells.is_plain() {
+            self.stage_kept(alloc, cells, words)?;
+            return Ok(());
+        }
         let kept = cells.back(alloc, words)?;
+        self.stage_kept(alloc, cells, &kept)?;
+        Ok(())
+    }
+
+    // The same with the words that are kept for those of a view.
+    fn stage_kept(
+        &mut self,
+        alloc: Global,
+        cells: &ViewCells,
+        kept: &[u64],
+    ) -> Result<(), AllocError>
+        requires { CanStage self.old cells.now (length kept.now) }
+        ensures ok { OnOk result ((sites : List Site) → AreCells sites cells.now → (words : List ℕ) → kept.now ≡ taken_back cells.now.lanes cells.now.leaves words → length words ≡ length kept.now
+            → (id : List ℕ) → staged_of self.new id ≡ written_at id sites words (staged_of self.old id)) }
+        ensures err { OnErr result ((id : List ℕ) (place : ℕ) → word_in self.new id place ≡ word_in self.old id place) }
+    {
         let pieces = cells.pieces.items();
         prepare(alloc, &mut self.table, pieces)?;
-        write(&mut self.table, pieces, &kept);
+        write(&mut self.table, pieces, kept);
         Ok(())
     }
 

@@ -30,6 +30,13 @@ pub struct ViewCells {
 }
 
 impl ViewCells {
+    /// True only where no leaf has a cast, so that what is kept of a word is what a view shows.
+    pub(crate) fn is_plain(&self) -> bool
+        ensures { IsTrue result → ArePlain self.now.lanes }
+    {
+        are_plain(self.lanes.items())
+    }
+
     /// The words that are kept for those that a view shows, cell by cell: each taken back through the casts of its leaf.
     ///
     /// # Errors

@@ -1,47 +1,41 @@
-use Rattle.std.proofs.Common.{◌≡◌, ◌∙◌, ℕ, List, sym, ap, subst, arith, length}
-use Rattle.transaction_cells.specs.Found.{found}
-use Rattle.transaction_cells.specs.Staging.{StagedChunk, staged_of, written_at}
-use Rattle.transaction_cells.specs.Tables.{prepared, pieces_written, MayWrite}
-use Rattle.transaction_cells.specs.declared.view_cells.Piece.{Piece}
-use Rattle.transaction_cells.proofs.StagingLaws.{staged_found}
-use Rattle.transaction_cells.proofs.WrittenLaws.{staged_is, may_stage, kept_words, length-kept, count_of, sized_cells, same_words, on_err_of}
+use Rattle.std.proofs.Common.{◌≡◌, ◌∙◌, ℕ, List, length, refl, sym, ap}
 use Rattle.transaction_cells.specs.Sites.{sites_of}
+use Rattle.transaction_cells.proofs.CastLaws.{plain_back}
 use Rattle.transaction_cells.proofs.OperationLaws.{staged_more}
+use Rattle.transaction_cells.proofs.WrittenLaws.{kept_words, length-kept, count_of}
 use Rattle.transaction_cells.proofs.staging.Staging.stage.Goals as goal
 
-pub returns-in_err-prepare-clause-err : goal.returns-in_err-prepare-clause-err
-returns-in_err-prepare-clause-err c =
-    on_err_of c.from_residual-in_err-prepare.result (λ id place. same_words c.self.inside.table.entries c.prepare.new.table.entries c.args.self.now id place c.self.view_is (c.in_err-prepare.ensures.words id))
+pub returns-then-is_plain-clause-ok : goal.returns-then-is_plain-clause-ok
+returns-then-is_plain-clause-ok c sites are id =
+    let cells = c.args.cells.now in
+    let words = c.args.words.now in
+    let long : length words ≡ length cells.leaves = c.requires.counted ∙ count_of c.requires.sites cells.lanes cells.leaves c.requires.are.casts in
+    c.in_ok-stage_kept.ensures.ok sites are words (sym (plain_back cells.lanes cells.leaves words (c.if-is_plain.ensures refl) long)) refl id
 
-pub write-requires : goal.write-requires
-write-requires c id =
-    let pieces = c.args.cells.now.pieces in
+pub returns-then-is_plain-clause-history : goal.returns-then-is_plain-clause-history
+returns-then-is_plain-clause-history c events v ops leaves has are words h =
+    staged_more events v ops c.args.words.now c.args.self.now _ leaves has (λ id. returns-then-is_plain-clause-ok c (sites_of v) are id) words h
+
+pub stage_kept-requires-2 : goal.stage_kept-requires-2
+stage_kept-requires-2 c =
     let sites = c.requires.sites in
-    let old = c.self.inside.table.entries in
     let kept = c.deref.ensures.value ∙ c.in_ok-kept.ensures ∙ kept_words sites c.args.cells.now.lanes c.args.cells.now.leaves c.args.words.now c.requires.are.casts in
-    let count : length sites ≡ length c.deref.result.now = sym (ap (λ (xs : List ℕ). length xs) kept ∙ length-kept sites c.args.words.now c.requires.counted) in
-    let few = count in
-    let held : found c.prepare.new.table.entries id ≡ prepared pieces id (found old id) = c.in_ok-prepare.ensures.ok id ∙ ap (λ (ps : List Piece). prepared ps id (found old id)) c.items-pieces.ensures in
-    subst (λ (ps : List Piece). MayWrite ps id (length c.deref.result.now) (found c.prepare.new.table.entries id)) (sym c.items-pieces.ensures)
-    (subst (MayWrite pieces id (length c.deref.result.now)) (sym held)
-    (may_stage sites pieces pieces (length c.deref.result.now) id (found old id) c.requires.are.pieces.sorted (λ p h. h) c.requires.are.pieces.each (omega (arith, few)) c.requires.inside
-    (sized_cells old c.args.self.now id sites c.self.view_is c.requires.sized)))
+    record {
+      sites = sites;
+      are = c.requires.are;
+      counted = ap (λ (xs : List ℕ). length xs) kept ∙ length-kept sites c.args.words.now c.requires.counted;
+      sized = c.requires.sized;
+      inside = c.requires.inside;
+      small = c.requires.small;
+    }
 
 pub returns-clause-ok : goal.returns-clause-ok
 returns-clause-ok c sites are id =
-    let pieces = c.args.cells.now.pieces in
-    let old = c.self.inside.table.entries in
-    let words = c.args.words.now in
-    let kept = c.deref.ensures.value ∙ c.in_ok-kept.ensures ∙ kept_words sites c.args.cells.now.lanes c.args.cells.now.leaves words are.casts in
-    let one = count_of sites c.args.cells.now.lanes c.args.cells.now.leaves are.casts in
-    let other = count_of c.requires.sites c.args.cells.now.lanes c.args.cells.now.leaves c.requires.are.casts in
-    let words_count = c.requires.counted in
-    staged_found c.write.new.table.entries id
-    ∙ c.write.ensures id
-    ∙ ap (λ (ps : List Piece). pieces_written ps id c.deref.result.now (found c.prepare.new.table.entries id)) c.items-pieces.ensures
-    ∙ ap (pieces_written pieces id c.deref.result.now) (c.in_ok-prepare.ensures.ok id ∙ ap (λ (ps : List Piece). prepared ps id (found old id)) c.items-pieces.ensures)
-    ∙ staged_is sites pieces words c.deref.result.now id (found old id) are.pieces (omega (arith, one, other, words_count)) kept
-    ∙ ap (written_at id sites words) (sym (staged_found old id) ∙ ap (λ (chunks : List StagedChunk). staged_of chunks id) c.self.view_is)
+    let known = c.requires.sites in
+    let kept = c.deref.ensures.value ∙ c.in_ok-kept.ensures in
+    let long : length c.deref.result.now ≡ length known =
+    ap (λ (xs : List ℕ). length xs) (kept ∙ kept_words known c.args.cells.now.lanes c.args.cells.now.leaves c.args.words.now c.requires.are.casts) ∙ length-kept known c.args.words.now c.requires.counted in
+    c.in_ok-stage_kept-2.ensures.ok sites are c.args.words.now kept (c.requires.counted ∙ sym long) id
 
 pub returns-clause-history : goal.returns-clause-history
 returns-clause-history c events v ops leaves has are words h =
