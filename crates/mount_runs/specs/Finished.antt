@@ -14,8 +14,8 @@ use Rattle.state_laws.specs.Agreement.{is_fault}
 -- what a script asks, and that a log has its answers
 pub use Rattle.session_workers.specs.Workers.{AreWhole, IsWhole, ends_in_want, asked_by, numbers_from}
 
--- the mounts as a run hands them back: in their order, and none stands open. Behind the last event each was finished once, and until then as many calls
--- had failed as the history has events of failed calls, or more
+-- the mounts as a run hands them back: in their order, none stands open, and those that stand failed are listed. They are what finishing each leaves of
+-- mounts whose counts had risen by the events of failed calls, or more; so the counts rose by these events and one for each place that is listed
 pub record AreBack (old new : List Part) (history : History) (unfinished : List ℕ) : Type 0 where
   pub are : AreMounts new
   pub names : names_of new ≡ names_of old
@@ -23,7 +23,7 @@ pub record AreBack (old new : List Part) (history : History) (unfinished : List 
   pub closed : All (λ (p : Part). p.standing ≢ opened) new
   -- the places of those that stand failed
   pub failed : unfinished ≡ failed_places new
-  -- behind the last event
+  -- some mounts, of which finishing each makes those that come back
   pub behind : List Part
   pub named : names_of behind ≡ names_of old
   pub faults : faults_of old + count_by is_fault history ≤ faults_of behind

@@ -22,7 +22,7 @@ use Rattle.script_streams.specs.Putting.{Takes, IsGoing, IsBroken, IsStopped}
 use Rattle.script_streams.specs.Standing.{are_all_ok}
 use Rattle.script_streams.specs.Writing.{text_of_logs}
 
--- these scripts were run over the mounts. Unless memory was wanting, each line that isn't blank has its answer, up to one that is want of memory;
+-- these scripts were run over the mounts. But under status 5, each line that isn't blank has its answer, up to one that is want of memory;
 -- where a session ended without an answer to a line nothing was written, which `silent` says
 pub record HasRunTexts (scripts : List (List ℕ)) (old new : List Part) (outcome : Outcome) (silent : Type 0) : Type 0 where
   pub whole : Bool

@@ -60,16 +60,16 @@ pub fn run<S: Reader, O: Writer, K: KvStore + Send, R: Threads + Wait + Sync, G:
     ensures made { (number : ℕ) → AskToMake (texts_of words.now) number → (scripts.new ≡ scripts.old) × (result.status ≢ 3) }
     // The files that the words name are asked for in their order, each once and none behind the first that isn't given; what was given is run.
     ensures asked { (files : List Text) → AskFor (texts_of words.now) files → HasAsked S.gives scripts.old files result (λ texts. HasRunTexts texts mounts.old.items mounts.new.items result (sink.new ≡ sink.old)) scripts.new }
-    // A script is not read where the scripts failed or, as far as they are told, it passes a limit.
+    // Status 3 comes only where the scripts failed or, as far as they are told, the script passes a limit.
     ensures unread { result.status ≡ 3 → IsUnread (S.contents scripts.old) (texts_of words.now) (S.faults scripts.old) (S.faults scripts.new) result.script }
     ensures place { result.status ≢ 3 → result.script ≡ None }
     ensures none { (result.status ≡ 2) ⊎ (result.status ≡ 3) → result.logs ≡ [] }
     ensures some { (result.status ≢ 2) → (result.status ≢ 3) → (result.status ≢ 5) → result.logs ≢ [] }
     ensures contents { S.contents scripts.new ≡ S.contents scripts.old }
     ensures reading { S.faults scripts.old ≤ S.faults scripts.new }
-    // What the words ask for is given to the sink in pieces, each once and none behind the first that wasn't taken.
+    // The text of the run is given to the sink in pieces, in order, none behind the first that wasn't taken; the status tells how far.
     ensures put { (settings : Settings) → IsSettings (texts_of words.now) settings → result.logs ≢ [] → IsPut O.takes sink.old (text_by settings.input result) result.status sink.new }
-    // What was written is the text that the words ask for, or a front part of it where the sink failed or memory was wanting.
+    // What was written is this text, or a front part of it where the sink failed or memory was wanting.
     ensures written { (settings : Settings) → IsSettings (texts_of words.now) settings → HasAnswers result.status → WhereTold (O.content sink.old) (λ before. O.content sink.new ≡ Some (before ++ text_by settings.input result)) }
     ensures part { (settings : Settings) → IsSettings (texts_of words.now) settings → WhereTold (O.content sink.old) (λ before. IsPartOf (O.content sink.new) before (text_by settings.input result)) }
     ensures status { HasAnswers result.status → (result.status ≡ status_of result) × (holds_memory result.logs ≡ false) }

@@ -185,7 +185,7 @@ pub(crate) fn written<K: KvStore, R: Wait, G: Gate>(
         txn,
         name.items(),
         steps.items(),
-        &values,
+        values,
         gate,
     )
 }

@@ -27,7 +27,7 @@ ghost use Rattle.transactions.specs.Conditions.{IsTxnIn, MayUse};
 ghost use Rattle.transactions.specs.Txn.{transaction_of};
 
 use crate::names::Names;
-use crate::writing::{Worded, asked_write, unwritten, write_alone};
+use crate::writing::{Worded, taken_write, unwritten, write_alone};
 use answer_text::Body;
 use kv_face::KvStore;
 use serde_json::Value;
@@ -49,7 +49,7 @@ pub fn write<K: KvStore, R: Wait, G: Gate>(
     txn: &mut Option<Txn>,
     name: &str,
     steps: &[Step],
-    values: &Value,
+    values: Value,
     gate: &G,
 ) -> Body
     requires pass { IsRested book.now pass.old }
@@ -57,7 +57,7 @@ pub fn write<K: KvStore, R: Wait, G: Gate>(
     requires views { AreViews (get_by_text names.now) }
     requires known { AreKnownNames pass.old.seen (get_by_text names.now) }
     requires txn { HasSoundTxn book.now.fixed pass.old.seen txn.old }
-    ensures told { IsToldBy book.now pass.old pass.new (session_state (get_by_text names.now) (length pass.old.seen) txn.old) line (writing name.now (changes_of None steps.now) (values_of (data_in values.now))) (get_by_text names.now) (transaction_in txn.new) result }
+    ensures told { IsToldBy book.now pass.old pass.new (session_state (get_by_text names.now) (length pass.old.seen) txn.old) line (writing name.now (changes_of None steps.now) (values_of (data_in values))) (get_by_text names.now) (transaction_in txn.new) result }
     ensures passed { HasPassed book.now pass.old pass.new }
     ensures txn { result ≢ printed.Memory → HasSoundTxn book.now.fixed pass.new.seen txn.new }
 {
@@ -76,15 +76,15 @@ fn stage(
     t: &mut Txn,
     name: &str,
     steps: &[Step],
-    values: &Value,
+    values: Value,
 ) -> Body
     requires given { All IsGiven steps.now }
     requires views { AreViews (get_by_text names.now) }
     requires txn { (opening : Opening) × (events : History) × IsTxnIn opening events t.old × AreKnownNames events (get_by_text names.now) }
-    ensures told { (seen line : ℕ) → IsToldAlone (session_state (get_by_text names.now) seen (Some t.old)) line (writing name.now (changes_of None steps.now) (values_of (data_in values.now))) (get_by_text names.now) (Some (transaction_of t.new)) result }
+    ensures told { (seen line : ℕ) → IsToldAlone (session_state (get_by_text names.now) seen (Some t.old)) line (writing name.now (changes_of None steps.now) (values_of (data_in values))) (get_by_text names.now) (Some (transaction_of t.new)) result }
     ensures txn { (opening : Opening) (events : History) → AreKnownNames events (get_by_text names.now) → HasSoundTxn opening events (Some t.old) → result ≢ printed.Memory → HasSoundTxn opening events (Some t.new) }
 {
-    match asked_write(alloc, names, name, steps, values) {
+    match taken_write(alloc, names, name, steps, values) {
         Ok(w) => staged(alloc, t, &w),
         Err(body) => body,
     }

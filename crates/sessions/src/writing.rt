@@ -73,24 +73,45 @@ pub(crate) fn write_alone<K: KvStore, R: Wait, G: Gate>(
     line: u64,
     name: &str,
     steps: &[Step],
-    values: &Value,
+    values: Value,
     gate: &G,
 ) -> Body
     requires pass { IsRested book.now pass.old }
     requires given { All IsGiven steps.now }
     requires views { AreViews (get_by_text names.now) }
     requires known { AreKnownNames pass.old.seen (get_by_text names.now) }
-    ensures told { IsToldBy book.now pass.old pass.new (session_state (get_by_text names.now) (length pass.old.seen) None) line (writing name.now (changes_of None steps.now) (values_of (data_in values.now))) (get_by_text names.now) None result }
+    ensures told { IsToldBy book.now pass.old pass.new (session_state (get_by_text names.now) (length pass.old.seen) None) line (writing name.now (changes_of None steps.now) (values_of (data_in values))) (get_by_text names.now) None result }
     ensures passed { HasPassed book.now pass.old pass.new }
 {
-    match asked_write(alloc, names, name, steps, values) {
+    match taken_write(alloc, names, name, steps, values) {
         Ok(w) => written(alloc, rt, book, pass, line, &w, gate),
         Err(body) => body,
     }
 }
 
-/// The view and the words of a write, or the answer to what refuses it before its cells are looked for.
-pub(crate) fn asked_write(
+/// The view and the words of a write, or the answer to what refuses it before its cells are looked for. The values are dropped as soon as there
+/// are words for them.
+pub(crate) fn taken_write(
+    alloc: Global,
+    names: &Names,
+    name: &str,
+    steps: &[Step],
+    values: Value,
+) -> Result<Worded, Body>
+    requires given { All IsGiven steps.now }
+    requires views { AreViews (get_by_text names.now) }
+    ensures act { IfOk result (λ w. (t : Option Transaction) → act_of (get_by_text names.now) t (writing name.now (changes_of None steps.now) (values_of (data_in values))) ≡ without (cell_fault w.view) (Ok (write_act t w.view w.words))) }
+    ensures view { IfOk result (λ w. IsView w.view) }
+    ensures refs { IfOk result (λ w. (events : History) → AreKnownNames events (get_by_text names.now) → HasKnownRefs events w.view) }
+    ensures count { IfOk result (λ w. count_answer (look_of w.view).dims ≡ Ok (length w.words)) }
+    ensures typed { IfOk result (λ w. AllByRecursion (IsWord (look_of w.view).dtype) w.words) }
+    ensures err { IfErr result (λ b. (t : Option Transaction) → IsAnswerTo (act_of (get_by_text names.now) t (writing name.now (changes_of None steps.now) (values_of (data_in values)))) b) }
+{
+    asked_write(alloc, names, name, steps, &values)
+}
+
+// The same with values that stay.
+fn asked_write(
     alloc: Global,
     names: &Names,
     name: &str,

@@ -13,5 +13,5 @@ returns-in-Ok-clause-txn c opening events known was printed = c.staged.ensures.t
 
 pub returns-in-Err-clause-told : goal.returns-in-Err-clause-told
 returns-in-Err-clause-told c seen line =
-    unstaged_told c.args.t.now c.args.t.now (get_by_text c.args.names.now) seen line (writing c.args.name.now (changes_of None c.args.steps.now) (values_of (view c.args.values.now))) c.in-Err.body refl
+    unstaged_told c.args.t.now c.args.t.now (get_by_text c.args.names.now) seen line (writing c.args.name.now (changes_of None c.args.steps.now) (values_of (view c.args.values))) c.in-Err.body refl
     (c.in-Err.ensures.err (Some (transaction_of c.args.t.now)))
