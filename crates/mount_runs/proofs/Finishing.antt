@@ -1,5 +1,5 @@
 -- What finishing mounts leaves as it was.
-use Rattle.std.proofs.Common.{◌≡◌, ◌≢◌, ◌∙◌, ℕ, ◌+◌, ◌≤◌, ◌<◌, Bool, true, false, List, [], ◌∷◌, ◌++◌, map, inl, inr, refl, sym, ap, arith}
+use Rattle.std.proofs.Common.{◌≡◌, ◌≢◌, ◌∙◌, ℕ, ◌+◌, ◌≤◌, Bool, true, false, List, [], ◌∷◌, ◌++◌, length, map, inl, inr, refl, sym, ap, arith}
 use Rattle.std.specs.Prelude.{◌⊎◌, All, option_map, option_and_then, if◌then◌else◌}
 use Rattle.std.specs.List.{AllByRecursion}
 use Rattle.std.specs.FinMap as finmap
@@ -85,21 +85,26 @@ stands_failed q opened is has = let same : has_failed q ≡ false = ap (λ t. el
 stands_failed q finished is has = let same : has_failed q ≡ false = ap (λ t. elim t [ opened ↦ false | finished ↦ false | failing ↦ true ]) is in let no_such : ⊥ = cc in absurd no_such
 stands_failed q failing is has = is
 
--- where one has failed, a call more did
-pub failed_rise : (n : ℕ) (old new : List Part) → AreFinished old new → failed_from n new ≢ [] → faults_of old < faults_of new
-failed_rise n [] [] are some = absurd (some refl)
-failed_rise n [] (q ∷ qs) are some = absurd are
-failed_rise n (p ∷ ps) [] are some = absurd are
-failed_rise n (p ∷ ps) (q ∷ qs) are some = by (failed_rise (n + 1) ps qs are.1) (has_failed q) refl
+-- a call more failed for each that stands failed
+pub listed_rise : (n : ℕ) (old new : List Part) → AreFinished old new → faults_of old + length (failed_from n new) ≤ faults_of new
+listed_rise n [] [] are = omega arith
+listed_rise n [] (q ∷ qs) are = absurd are
+listed_rise n (p ∷ ps) [] are = absurd are
+listed_rise n (p ∷ ps) (q ∷ qs) are = by (listed_rise (n + 1) ps qs are.1) (has_failed q) refl
   where
-    by : (failed_from (n + 1) qs ≢ [] → faults_of ps < faults_of qs) → (b : Bool) → has_failed q ≡ b → faults_of (p ∷ ps) < faults_of (q ∷ qs)
-    by later true has = let first = are.0.cause (stands_failed q q.standing refl has) in let rest = faults_rise ps qs are.1 in let was = faults_parts p ps in let is = faults_parts q qs in omega (arith, first, rest, was, is)
-    by later false has =
-        let first = are.0.later in
-        let rest = later (λ none. some (ap (λ b. if b then n ∷ failed_from (n + 1) qs else failed_from (n + 1) qs) has ∙ none)) in
+    by : faults_of ps + length (failed_from (n + 1) qs) ≤ faults_of qs → (b : Bool) → has_failed q ≡ b → faults_of (p ∷ ps) + length (failed_from n (q ∷ qs)) ≤ faults_of (q ∷ qs)
+    by later true has =
+        let first = are.0.cause (stands_failed q q.standing refl has) in
+        let listed : length (failed_from n (q ∷ qs)) ≡ length (n ∷ failed_from (n + 1) qs) = ap (λ b. length (if b then n ∷ failed_from (n + 1) qs else failed_from (n + 1) qs)) has in
         let was = faults_parts p ps in
         let is = faults_parts q qs in
-        omega (arith, first, rest, was, is)
+        omega (arith, first, later, listed, was, is)
+    by later false has =
+        let first = are.0.later in
+        let listed : length (failed_from n (q ∷ qs)) ≡ length (failed_from (n + 1) qs) = ap (λ b. length (if b then n ∷ failed_from (n + 1) qs else failed_from (n + 1) qs)) has in
+        let was = faults_parts p ps in
+        let is = faults_parts q qs in
+        omega (arith, first, later, listed, was, is)
 
 closed_each : (old new : List Part) → AreFinished old new → AllByRecursion (λ (p : Part). p.standing ≢ opened) new
 closed_each [] [] are = tt

@@ -17,7 +17,7 @@ use Rattle.kv_mounts.specs.Union.{union_of, faults_of, prefixes_of, standing_of,
 use Rattle.mount_runs.specs.Finished.{AreBack, IsRun}
 use Rattle.mount_runs.specs.Runs.{fixed_over, IsPrintedRun, IsEmptyMount, IsSerialRun, IsSingleRun}
 use Rattle.mount_runs.proofs.Alone.{alone_where, alone_run}
-use Rattle.mount_runs.proofs.Finishing.{names_stay, union_stays, prefixes_stay, count_stays, faults_rise, all_closed}
+use Rattle.mount_runs.proofs.Finishing.{names_stay, union_stays, prefixes_stay, count_stays, faults_rise, listed_rise, all_closed}
 use Rattle.serial_runs.specs.Runs.{IsRunOf, AreLogs, AreOfMount}
 use Rattle.serial_runs.specs.Serial.{IsSerial}
 use Rattle.serial_runs.proofs.Laws.{serial}
@@ -80,10 +80,7 @@ module _ (scripts : List (List ℕ)) (old mid new : List Part) (limit : ℕ) (lo
         prefixes = prefixes_stay mid new finished ∙ agrees.frame.prefixes;
         closed = all_closed mid new finished;
         failed = refl;
-        behind = mid;
-        named = some_names (names_of mid) (names_of old) agrees.frame.names;
-        faults = agrees.faults;
-        finished = finished;
+        risen = let more = agrees.faults in let rise = listed_rise 0 mid new finished in omega (arith, more, rise);
       }
 
   run_of : (start : Contents) → IsTrueTo start (opening_over old limit) (seen_over mid) log → (printed : ArePrinted (fixed_over old start) (names_of old) scripts log.events logs)

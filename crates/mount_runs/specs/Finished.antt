@@ -6,7 +6,7 @@ use Rattle.answer_text.specs.declared.answer.Answer.{Answer}
 use Rattle.history.specs.History.{History}
 use Rattle.history.specs.declared.event.Event.{Event}
 use Rattle.kv_face.specs.Store.{Contents, opened}
-use Rattle.kv_mounts.specs.Finish.{AreFinished, failed_places}
+use Rattle.kv_mounts.specs.Finish.{failed_places}
 use Rattle.kv_mounts.specs.Parts.{Part, AreMounts, names_of}
 use Rattle.kv_mounts.specs.Union.{faults_of, prefixes_of, union_of}
 use Rattle.mount_runs.specs.Runs.{IsPrintedRun, IsEmptyMount, IsSerialRun, IsSingleRun}
@@ -14,8 +14,7 @@ use Rattle.state_laws.specs.Agreement.{is_fault}
 -- what a script asks, and that a log has its answers
 pub use Rattle.session_workers.specs.Workers.{AreWhole, IsWhole, ends_in_want, asked_by, numbers_from}
 
--- the mounts as a run hands them back: in their order, none stands open, and those that stand failed are listed. They are what finishing each leaves of
--- mounts whose counts had risen by the events of failed calls, or more; so the counts rose by these events and one for each place that is listed
+-- the mounts as a run hands them back: in their order, and none stands open
 pub record AreBack (old new : List Part) (history : History) (unfinished : List ℕ) : Type 0 where
   pub are : AreMounts new
   pub names : names_of new ≡ names_of old
@@ -23,11 +22,8 @@ pub record AreBack (old new : List Part) (history : History) (unfinished : List 
   pub closed : All (λ (p : Part). p.standing ≢ opened) new
   -- the places of those that stand failed
   pub failed : unfinished ≡ failed_places new
-  -- some mounts, of which finishing each makes those that come back
-  pub behind : List Part
-  pub named : names_of behind ≡ names_of old
-  pub faults : faults_of old + count_by is_fault history ≤ faults_of behind
-  pub finished : AreFinished behind new
+  -- the counts of faults rose together by the events of failed calls and by one for each of these places, or by more
+  pub risen : faults_of old + count_by is_fault history + length unfinished ≤ faults_of new
 
 -- these scripts were run over the mounts, each in a session of its own; where `whole` is so, no session ended without an answer to a line
 pub record IsRun (scripts : List (List ℕ)) (old new : List Part) (history : History) (logs : List (List Answer)) (whole : Bool) (unfinished : List ℕ) : Type 0 where
