@@ -1,9 +1,10 @@
 #!/usr/bin/env bash
-# Tries words of the program: for each, the status it must end with, the one line it must say on standard error, and what it must print.
+# Tries words of the program: for each, the status it must end with, the one line it must say on standard error, and what it must print. Then what
+# stands in the pages for users; what isn't installed here (jq, a python3 with jsonschema or NumPy, man, rt) is passed over, and said in one line.
 #
 # tools/program.sh PROGRAM
 set -u
-program=$1
+program=$(readlink -f "$1")
 top=$(cd "$(dirname "$0")/.." && pwd)
 room=$(mktemp -d)
 trap 'rm -rf "$room"' EXIT
@@ -174,5 +175,83 @@ kilobytes=30000
 tried "a script of 64 MiB in 30 MB of memory" 5 "tensor_run: out of memory" "$room/large"
 wrote "a script of 64 MiB in 30 MB of memory" "$room/nothing"
 kilobytes=unlimited
+
+# Refusals: a line for each, with its answer, and what tools/explain.jq says of it.
+cp -r "$top/examples/errors/store" "$room/odd"
+example 1 errors/forms
+example 1 errors/steps
+example 1 errors/arrays
+tried "errors/files" 1 "" --root "$room/odd" "$top/examples/errors/files.jsonl"
+wrote "errors/files" "$top/examples/errors/files.out"
+diff -r "$top/examples/errors/store" "$room/odd" || { echo "errors/files: the folder was changed"; failed=1; }
+tried "grid" 0 "" --root "$room/grid" "$top/examples/grid.jsonl"
+wrote "grid" "$top/examples/grid.out"
+tried "grid again" 0 "" --root "$room/grid" "$top/examples/grid.jsonl"
+wrote "grid again" "$top/examples/grid.out"
+
+# is_here NAME WHAT: whether the program NAME is installed; else WHAT is passed over.
+is_here() {
+    command -v "$1" > /dev/null && return
+    echo "tools/program.sh: $2 passed over, since no $1 is here"
+    return 1
+}
+
+if is_here jq "tools/explain.jq is"; then
+    for answers in "$top"/examples/errors/*.out; do
+        jq -r -f "$top/tools/explain.jq" "$answers" | cmp - "${answers%.out}.txt" || failed=1
+    done
+    for answers in "$top"/examples/*.out; do
+        jq -r -f "$top/tools/explain.jq" "$answers" > /dev/null || failed=1
+    done
+    answers=
+fi
+
+# The pages, the schema, and the wrapper for Python, by a python3 that has NumPy, if there is one.
+if is_here python3 "the pages, tools/script.schema.json and examples/python are"; then
+    python=python3
+    "$python" -c 'import numpy' 2> /dev/null || { /usr/bin/python3 -c 'import numpy' 2> /dev/null && python=/usr/bin/python3; }
+    for page in README.md docs/pipelines.md docs/tensorstore.md; do
+        "$python" "$top/tools/page.py" "$top/$page" "$program" || failed=1
+    done
+    "$python" "$top/examples/python/same_back.py" "$program" || failed=1
+    python3 "$top/tools/schema.py" || failed=1
+fi
+
+# The man page has no fault, and its words and statuses are the program's.
+if is_here man "docs/tensor_run.1 is"; then
+    LC_ALL=C man -l --warnings "$top/docs/tensor_run.1" > "$room/page" 2> "$room/said" < /dev/null
+    if [ -s "$room/said" ]; then
+        echo "docs/tensor_run.1: $(cat "$room/said")"
+        failed=1
+    fi
+fi
+for said in --root --workers --cache --make "words refused" "was not read" "output failed" "out of memory" "was not finished"; do
+    tr '\n' ' ' < "$top/docs/tensor_run.1" | sed 's/\\//g' | grep -qe "$said" || { echo "docs/tensor_run.1: lacks $said"; failed=1; }
+done
+
+# completes WANTED WORD..: bash offers these for the last word.
+completes() {
+    local wanted=$1 offered
+    shift
+    offered=$(
+        cd "$room/complete" || exit 1
+        . "$top/tools/tensor_run.bash"
+        COMP_WORDS=(tensor_run "$@")
+        COMP_CWORD=$#
+        _tensor_run
+        echo "${COMPREPLY[*]}"
+    )
+    [ "$offered" = "$wanted" ] || { echo "completion of $*: $offered, and not $wanted"; failed=1; }
+}
+mkdir -p "$room/complete/store" && : > "$room/complete/a.jsonl" && : > "$room/complete/a.out"
+completes "--root --workers --cache --make --" --
+completes "--workers" --root store --w
+completes "--cache --make --" --workers 2 --
+completes "store" --root s
+completes "a.jsonl store/" ""
+completes "a.jsonl" --root store a
+completes "a.jsonl" -- a
+
+"$top/tools/own_crate.sh" || { echo "docs/own-crate.md: the crate doesn't print what the page says"; failed=1; }
 
 exit $failed
