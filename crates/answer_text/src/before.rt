@@ -134,7 +134,8 @@ fn put_conflict(
 }
 
 fn put_damaged(alloc: Global, out: &mut Vec<u8>, key: &str, why: Why) -> Result<(), AllocError>
-    ensures { OnOk result (out.new.items ≡ out.old.items ++ (codes "\"damaged\":" ++ chunk_why key.now why ++ codes ",")) }
+    ensures { OnOk result (out.new.items ≡ out.old.items ++
+        (codes "\"damaged\":" ++ chunk_why key.now why ++ codes ",")) }
 {
     put(out, "\"damaged\":")?;
     put_chunk_why(alloc, out, key, why)?;

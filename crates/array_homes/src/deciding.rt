@@ -150,7 +150,8 @@ pub fn check(
     home: &Home,
     shape: &[u64],
 ) -> Result<(), CheckError>
-    ensures { (mount path : List ℕ) (may_create : Bool) (stored : Stored) (k : Known) → k.info.home ≡ home.now → k.shape ≡ shape.now
+    ensures { (mount path : List ℕ) (may_create : Bool) (stored : Stored) (k : Known) → k.info.home ≡ home.now
+        → k.shape ≡ shape.now
         → IsChecked k result (outcome_at (leaf_at mount path want.now may_open may_create) stored (Some k)) }
 {
     if !may_open {

@@ -15,7 +15,7 @@ fn numbers(alloc: Global, form: &Form) -> Result<Dense, AllocError>
 {
     let dtype = form.dtype();
     let mut dense = Dense::filled(alloc, dtype, form.chunk_shape(), conv(Dtype::U64, 0, dtype))?;
-    for place in 0..dense.words().len() {
+    for place in 0..dense.count() {
         let number = (place as u64).wrapping_mul(2_654_435_761);
         dense.set(place, conv(Dtype::U64, number, dtype));
     }
@@ -44,13 +44,16 @@ fn decoded(alloc: Global, form: &Form, bytes: &[u8]) -> Result<u64, AllocError>
     let dtype = form.dtype();
     let fill = conv(Dtype::U64, 0, dtype);
     match decode_form(alloc, form, dtype, form.chunk_shape(), fill, Some(bytes)) {
-        Ok(dense) => Ok(last_word(dense.words())),
+        Ok(dense) => Ok(last_word(&dense)),
         Err(_) => Err(AllocError),
     }
 }
 
-fn last_word(words: &[u64]) -> u64 {
-    words.last().copied().unwrap_or(0)
+fn last_word(dense: &Dense) -> u64 {
+    match dense.count() {
+        0 => 0,
+        count => dense.get(count - 1),
+    }
 }
 
 fn last_byte(bytes: &[u8]) -> u64 {

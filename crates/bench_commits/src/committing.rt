@@ -119,8 +119,10 @@ fn commit_one<K: KvStore, R: Wait>(
 // A transaction that writes a number to the cell.
 fn staged(alloc: Global, view: &View, k: u32) -> Result<Txn, Fault>
     requires view { IsView view.now }
-    requires known { (opening : Opening) × (events : History) × IsLegal finmap.empty (outline events) × HasKnownRefs events view.now }
-    ensures { IfOk result (λ t. (opening : Opening) (events : History) → IsLegal finmap.empty (outline events) → HasKnownRefs events view.now → IsReady opening events t) }
+    requires known { (opening : Opening) × (events : History) × IsLegal finmap.empty (outline events)
+        × HasKnownRefs events view.now }
+    ensures { IfOk result (λ t. (opening : Opening) (events : History) → IsLegal finmap.empty (outline events)
+        → HasKnownRefs events view.now → IsReady opening events t) }
 {
     let to = dtype(view);
     let number = i128::from(k % 1_000_000);
@@ -142,10 +144,12 @@ fn is_cell(view: &View) -> bool
 
 fn written(alloc: Global, view: &View, word: u64) -> Result<Txn, Fault>
     requires view { IsView view.now }
-    requires known { (opening : Opening) × (events : History) × IsLegal finmap.empty (outline events) × HasKnownRefs events view.now }
+    requires known { (opening : Opening) × (events : History) × IsLegal finmap.empty (outline events)
+        × HasKnownRefs events view.now }
     requires cell { count_answer (look_of view.now).dims ≡ Ok 1 }
     requires word { IsWord (look_of view.now).dtype word }
-    ensures { IfOk result (λ t. (opening : Opening) (events : History) → IsLegal finmap.empty (outline events) → HasKnownRefs events view.now → IsReady opening events t) }
+    ensures { IfOk result (λ t. (opening : Opening) (events : History) → IsLegal finmap.empty (outline events)
+        → HasKnownRefs events view.now → IsReady opening events t) }
 {
     let mode = Mode {
         atomic: false,

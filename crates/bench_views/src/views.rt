@@ -139,7 +139,8 @@ fn counted(pieces: &List<RunPiece>) -> (usize, usize) {
 
 // Whether each value of the view lies inside the array.
 fn fits(t: &Transform, grid: &Grid) -> bool
-    ensures { IsTrue result → All (λ cell. IsInShape grid.now.shape (value_at t.now cell)) (cells_of t.now.domain.dims) }
+    ensures { IsTrue result → All (λ cell. IsInShape grid.now.shape (value_at t.now cell))
+        (cells_of t.now.domain.dims) }
 {
     if !t.is_finite() || t.maps().len() != grid.shape().len() {
         return false;

@@ -66,7 +66,8 @@ impl Chain {
         // The number that is shown differs from the one that is kept by a multiple of 2 to the bits of the narrowest dtype
         // to which a cast leads.
         ensures congruent { (base : Dtype) → BeginsWith base self.now →
-            IsCongruent (2 ^ fewest_bits_out self.now) (number_of base word) (number_of (dtype_after base self.now) result) }
+            IsCongruent (2 ^ fewest_bits_out self.now) (number_of base word)
+            (number_of (dtype_after base self.now) result) }
     {
         let mut shown = word;
         for cast in &self.casts {
@@ -78,12 +79,14 @@ impl Chain {
     /// The word that is kept for one written as it is shown: cast back by the last, then by the one before it, and so on.
     pub fn back(&self, word: u64) -> u64
         ensures value { result ≡ word_back self.now word }
-        ensures word { (base : Dtype) → BeginsWith base self.now → IsWord (dtype_after base self.now) word → IsWord base result }
+        ensures word { (base : Dtype) → BeginsWith base self.now → IsWord (dtype_after base self.now) word
+            → IsWord base result }
 
         // The number that is kept differs from the one that was written by a multiple of 2 to the bits of the narrowest dtype
         // from which a cast leads.
         ensures congruent { (base : Dtype) → BeginsWith base self.now →
-            IsCongruent (2 ^ fewest_bits_back self.now) (number_of (dtype_after base self.now) word) (number_of base result) }
+            IsCongruent (2 ^ fewest_bits_back self.now) (number_of (dtype_after base self.now) word)
+            (number_of base result) }
 
         // What was written is shown again where no dtype on the way has fewer bits.
         ensures read_again { (base : Dtype) → BeginsWith base self.now → IsWord (dtype_after base self.now) word →

@@ -98,7 +98,7 @@ fn ask(cache: &mut ChunkCache, key: &str) -> Result<Option<(u64, usize)>, Fault>
     Ok(
         cache
             .hit(key)?
-            .map(|chunk| (chunk.generation(), chunk.cells().words().len())),
+            .map(|chunk| (chunk.generation(), chunk.cells().count())),
     )
 }
 
@@ -118,10 +118,6 @@ fn shared(alloc: Global) -> Result<String, Fault> {
 fn shown(alloc: Global, cache: &ChunkCache, chunk: &Snapshot) -> Result<String, Fault> {
     told(
         alloc,
-        &(
-            cache.is_empty(),
-            chunk.generation(),
-            chunk.cells().words().len(),
-        ),
+        &(cache.is_empty(), chunk.generation(), chunk.cells().count()),
     )
 }

@@ -41,12 +41,18 @@ fn filled(alloc: Global, v: &Value) -> Result<Dense, Fault> {
 fn changed(alloc: Global, before: &Dense, v: &Value) -> Result<String, Fault> {
     let place = usize::try_from(size(v, "place")?).map_err(|_| Fault::Line)?;
     let word = word_of(before.dtype(), member(v, "number")?)?;
-    if place >= before.words().len() {
+    if place >= before.count() {
         return Err(Fault::Line);
     }
     let mut after = before.copy(alloc)?;
     after.set(place, word);
-    Ok(format!(in alloc; "{} {:?}", *before == after, after.words())?)
+    compared(alloc, &before.to_words(alloc)?, &after)
+}
+
+// Whether a chunk still has these words, and those that it has.
+fn compared(alloc: Global, before: &[u64], after: &Dense) -> Result<String, Fault> {
+    let words = after.to_words(alloc)?;
+    Ok(format!(in alloc; "{} {:?}", before == words.as_slice(), words.as_slice())?)
 }
 
 // A list of which the first item gives way to 5.

@@ -126,7 +126,7 @@ fn cut_one(
 {
     let fill = word_of(Dtype::U8, member(v, "fill")?)?;
     let cells = cut(alloc, shape, chunk, fill, base)?;
-    told(alloc, &cells.words())
+    words(alloc, &cells)
 }
 
 fn covered(
@@ -170,7 +170,7 @@ fn over_nothing(
 {
     let fill = word_of(Dtype::U8, member(v, "fill")?)?;
     let cells = lay(alloc, shape, chunk, fill, staged, None, Dtype::U8, chunks)?;
-    told(alloc, &cells.words())
+    words(alloc, &cells)
 }
 
 fn over_base(
@@ -214,7 +214,13 @@ fn laid(
         Dtype::U8,
         base.shape(),
     )?;
-    told(alloc, &cells.words())
+    words(alloc, &cells)
+}
+
+// The words of all cells.
+fn words(alloc: Global, cells: &Dense) -> Result<String, Fault> {
+    let words = cells.to_words(alloc)?;
+    told(alloc, &words.as_slice())
 }
 
 // The numbers of `base` at the chunk's places, from the first on, and 0 at the others.
@@ -236,7 +242,7 @@ fn put_all(cells: &mut Dense, items: &Value) -> Result<(), Fault>
 {
     let items = items.as_array().ok_or(Fault::Line)?;
     for (place, item) in items.iter().enumerate() {
-        if place >= cells.words().len() {
+        if place >= cells.count() {
             return Err(Fault::Line);
         }
         cells.set(place, word_of(Dtype::U8, item)?);

@@ -71,7 +71,13 @@ fn shown(alloc: Global, staged: &Staged, base: &Dense) -> Result<String, Fault>
     requires words { AreWords base.now.dtype staged.now }
 {
     let laid = staged.over(alloc, base)?;
-    told(alloc, &laid.words())
+    words(alloc, &laid)
+}
+
+// The words of all cells.
+fn words(alloc: Global, cells: &Dense) -> Result<String, Fault> {
+    let words = cells.to_words(alloc)?;
+    told(alloc, &words.as_slice())
 }
 
 // The cells 1, 3 and 5 of a chunk go to the cells 1, 2 and 3 of a view, and those further back to none.

@@ -8,3 +8,5 @@ pub mod PlaceLaws
 pub mod PlaceSteps
 pub mod ShapeLaws
 pub mod TestLaws
+pub mod ItemLaws
+pub mod RunPuts

@@ -1,6 +1,6 @@
 -- Strided runs of pairs: a place in a view, and a place in a chunk.
-use Rattle.std.specs.Prelude.{ℕ, ◌+◌, ◌*◌, ◌<◌, ℤ, pos, ◌+ℤ◌, ◌*ℤ◌, ◌≤ℤ◌, ◌<ℤ◌, unsigned_abs, List, map}
-use Rattle.std.specs.List.{range_with_len}
+use Rattle.std.specs.Prelude.{ℕ, ◌+◌, ◌*◌, ◌<◌, ℤ, pos, ◌+ℤ◌, ◌*ℤ◌, ◌≤ℤ◌, ◌<ℤ◌, unsigned_abs, List, map, slice_index, slice_set}
+use Rattle.std.specs.List.{fold, range_with_len}
 use Rattle.cells.specs.declared.run.Run.{Run}
 
 -- a place in a view, or in a list of index vectors, beside the place of that cell in its chunk
@@ -37,3 +37,11 @@ pub record IsRunInside (run : Run) (view chunk : ℕ) : Type 0 where
 -- the first pairs of a run
 abbrev pub first_pairs : Run → ℕ → Run
 first_pairs run k = record run { len = k }
+
+-- a chunk's words once the view's word of each pair in turn is put at the pair's place in the chunk
+abbrev pub pairs_put : List Pair → List ℕ → List ℕ → List ℕ
+pairs_put pairs words cells = fold (λ laid pair. slice_set laid pair.chunk (slice_index words pair.view)) cells pairs
+
+-- a view's words once the chunk's word of each pair in turn is put at the pair's place in the view
+abbrev pub pairs_taken : List Pair → List ℕ → List ℕ → List ℕ
+pairs_taken pairs words out = fold (λ shown pair. slice_set shown pair.view (slice_index words pair.chunk)) out pairs

@@ -10,6 +10,8 @@ mod convert;
 mod dense;
 mod dtype;
 mod dtype_names;
+mod element;
+mod items;
 mod limits;
 mod list;
 mod name;

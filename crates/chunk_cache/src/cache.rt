@@ -104,7 +104,8 @@ impl ChunkCache {
         ensures longest { OnOk result (size_of snapshot ≤ self.old.limit → IsLongestFront self.old.limit most_chunks
             ((string_bytes key, snapshot) ∷ without (string_bytes key) self.old.entries) self.new.entries) }
         ensures err { OnErr result (self.new ≡ self.old) }
-        ensures handed_back { IfErr result (λ refused. (refused.key ≡ string_bytes key) × (refused.snapshot ≡ snapshot)) }
+        ensures handed_back { IfErr result (λ refused. (refused.key ≡ string_bytes key)
+            × (refused.snapshot ≡ snapshot)) }
 
         // A chunk that is too large, and one under a key that is there, take no memory.
         ensures large { self.old.limit < size_of snapshot → IsOk result }

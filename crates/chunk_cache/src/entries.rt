@@ -27,7 +27,8 @@ pub(crate) fn put_first(
     ensures entries { OnOk result (entries_of entries.new.entries ≡
         (string_bytes key, snapshot) ∷ without (string_bytes key) (entries_of entries.old.entries)) }
     ensures cells { IfOk result (λ gone.
-        cells_of (entries_of entries.new.entries) + gone ≡ cells_of (entries_of entries.old.entries) + size_of snapshot) }
+        cells_of (entries_of entries.new.entries) + gone
+        ≡ cells_of (entries_of entries.old.entries) + size_of snapshot) }
     ensures cap { entries.new.cap ≡ entries.old.cap }
     ensures err { OnErr result (entries.new ≡ entries.old) }
     ensures handed_back { IfErr result (λ refused. (refused.key ≡ string_bytes key) × (refused.snapshot ≡ snapshot)) }
@@ -50,7 +51,8 @@ pub(crate) fn put_first(
 pub(crate) fn take_out(entries: &mut LruCache<String, Snapshot>, key: &str) -> u64
     ensures entries { entries.new ≡
         lru_cache (remove_entry (λ text. bytes_eq key.now (string_bytes text)) entries.old.entries) entries.old.cap }
-    ensures cells { result ≡ option_map_or size_of (lookup (λ text. bytes_eq key.now (string_bytes text)) entries.old.entries) 0 }
+    ensures cells { result ≡ option_map_or size_of (lookup (λ text.
+        bytes_eq key.now (string_bytes text)) entries.old.entries) 0 }
 {
     match entries.pop(key) {
         Some(gone) => gone.size(),

@@ -65,6 +65,6 @@ impl Snapshot {
     pub(crate) fn size(&self) -> u64
         ensures { result ≡ size_of self.now }
     {
-        self.cells.words().len() as u64
+        self.cells.count() as u64
     }
 }

@@ -28,17 +28,11 @@ pub fn encode_form(
     ensures written { IfOk result (λ o. IfSome o (λ bytes.
         WritesChunk form.now chunk.now (shape_of form.now) bytes (word_at d.now))) }
 {
-    if are_all(d.words(), fill) {
+    if d.is_all(fill) {
         return Ok(None);
     }
     let bytes = encode_bytes(alloc, form, chunk, d)?;
     Ok(Some(List::wrap(bytes)))
-}
-
-fn are_all(words: &[u64], word: u64) -> bool
-    ensures { IsTrue result ↔ EachIndex words.now (λ k. slice_index words.now k ≡ word) }
-{
-    words.iter().all(|w| *w == word)
 }
 
 fn encode_bytes(alloc: Global, form: &Form, chunk: &[u64], d: &Dense) -> Result<Vec<u8>, AllocError>

@@ -194,7 +194,8 @@ fn narrowed_each(
 fn whole(alloc: Global, cells: Boxed, offset: i64, size: u64) -> Result<Vec<Boxed>, AllocError>
     requires positive { 0 < size }
     requires value { pos 0 ≤ℤ offset }
-    ensures { IfOk result (λ parts. parts.items ≡ (record { chunk = cells.chunk ++ (unsigned_abs offset / size) ∷ []; dims = cells.dims }) ∷ []) }
+    ensures { IfOk result (λ parts. parts.items
+        ≡ (record { chunk = cells.chunk ++ (unsigned_abs offset / size) ∷ []; dims = cells.dims }) ∷ []) }
 {
     let mut parts = Vec::new(alloc);
     parts.push(numbered(cells, offset as u64 / size)?)?;
@@ -283,7 +284,8 @@ fn boxes_along(
     requires from { IsTrue (list_all (is_map dims.now) maps.now) }
     requires finite { IsTrue (list_all is_finite dims.now) }
     requires some { cells_of dims.now ≢ [] }
-    requires values { (cell : List ℤ) → IsCell dims.now cell → AllByRecursion (λ m. IsPlaceAlong (map_value [] cell m)) maps.now }
+    requires values { (cell : List ℤ) → IsCell dims.now cell
+        → AllByRecursion (λ m. IsPlaceAlong (map_value [] cell m)) maps.now }
     ensures boxes { IfOk result (λ boxes. AreBoxes (key_along maps.now chunk.now) dims.now boxes.items) }
     ensures within { IfOk result (λ boxes. All (λ b. AllZip IsNarrowed dims.now b.dims) boxes.items) }
 {
@@ -304,7 +306,8 @@ pub(crate) fn boxes_of(alloc: Global, t: &Transform, grid: &Grid) -> Result<Vec<
     requires finite { IsTrue (list_all is_finite t.now.domain.dims) }
     requires some { cells_of t.now.domain.dims ≢ [] }
     requires inside { All (λ cell. IsInShape grid.now.shape (value_at t.now cell)) (cells_of t.now.domain.dims) }
-    ensures boxes { IfOk result (λ boxes. AreBoxes (key_along t.now.maps grid.now.chunk) t.now.domain.dims boxes.items) }
+    ensures boxes { IfOk result (λ boxes. AreBoxes
+        (key_along t.now.maps grid.now.chunk) t.now.domain.dims boxes.items) }
     ensures within { IfOk result (λ boxes. All (λ b. AllZip IsNarrowed t.now.domain.dims b.dims) boxes.items) }
 {
     boxes_along(alloc, t.domain().dims.items(), t.maps(), grid.chunk())

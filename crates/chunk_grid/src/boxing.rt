@@ -59,7 +59,8 @@ fn added_along(mut steps: Vec<i128>, dim: usize, by: i128) -> Vec<i128>
     requires small { AllByRecursion (λ x. unsigned_abs x ≤ 32 * 2 ^ 87) steps.items }
     requires step { unsigned_abs by ≤ 2 ^ 87 }
     ensures value { result.items ≡ added_along dim by steps.items }
-    ensures small { (n : ℕ) → AllByRecursion (λ x. unsigned_abs x ≤ n) steps.items → AllByRecursion (λ x. unsigned_abs x ≤ n + 2 ^ 87) result.items }
+    ensures small { (n : ℕ) → AllByRecursion (λ x. unsigned_abs x ≤ n) steps.items
+        → AllByRecursion (λ x. unsigned_abs x ≤ n + 2 ^ 87) result.items }
 {
     if dim < steps.len() {
         steps[dim] = sum(step_at(&steps, dim), by);
@@ -81,7 +82,8 @@ fn added_by(map: &OutMap, width: u64, steps: Vec<i128>) -> Vec<i128>
     requires small { AllByRecursion (λ x. unsigned_abs x ≤ 32 * 2 ^ 87) steps.items }
     requires width { width ≤ 2 ^ 24 }
     ensures value { result.items ≡ added_by map.now width steps.items }
-    ensures small { (n : ℕ) → AllByRecursion (λ x. unsigned_abs x ≤ n) steps.items → AllByRecursion (λ x. unsigned_abs x ≤ n + 2 ^ 87) result.items }
+    ensures small { (n : ℕ) → AllByRecursion (λ x. unsigned_abs x ≤ n) steps.items
+        → AllByRecursion (λ x. unsigned_abs x ≤ n + 2 ^ 87) result.items }
 {
     match map {
         OutMap::Strided { stride, dim, .. } => {
@@ -195,8 +197,11 @@ fn runs_of_box(
     requires chunks { chunks.now ≡ chunk_steps (length t.now.domain.dims) t.now.maps grid.now.chunk }
     requires inside { IsBoxIn t.now.domain.dims boxed.now }
     requires first { IsInShape grid.now.shape (map (map_value [] (lows boxed.now)) t.now.maps) }
-    requires cells { AllByRecursion (IsOfBox t.now.maps grid.now.chunk (chunk_index grid.now.chunk (numbers (map (map_value [] (lows boxed.now)) t.now.maps))) boxed.now) (cells_of boxed.now) }
-    ensures { IfOk result (λ runs. runs ≡ runs_of_pairs (map (pair_at_cell t.now.domain.dims t.now.maps grid.now.chunk) (cells_of boxed.now))) }
+    requires cells { AllByRecursion (IsOfBox t.now.maps grid.now.chunk
+        (chunk_index grid.now.chunk (numbers (map (map_value [] (lows boxed.now)) t.now.maps))) boxed.now)
+        (cells_of boxed.now) }
+    ensures { IfOk result (λ runs. runs ≡ runs_of_pairs
+        (map (pair_at_cell t.now.domain.dims t.now.maps grid.now.chunk) (cells_of boxed.now))) }
 {
     let first = first_cell(alloc, boxed)?;
     let Ok(value) = t.at(alloc, &first) else {
@@ -224,7 +229,8 @@ fn pieces_of_boxes(
     requires views { views.now ≡ view_steps t.now.domain.dims }
     requires chunks { chunks.now ≡ chunk_steps (length t.now.domain.dims) t.now.maps grid.now.chunk }
     requires boxes { All (IsCutBox t.now.domain.dims t.now.maps grid.now.shape grid.now.chunk) boxes.items }
-    ensures { IfOk result (λ pieces. pieces ≡ map (piece_of_box t.now.domain.dims t.now.maps grid.now.chunk) boxes.items) }
+    ensures { IfOk result (λ pieces. pieces ≡ map
+        (piece_of_box t.now.domain.dims t.now.maps grid.now.chunk) boxes.items) }
 {
     let mut pieces = Vec::with_capacity(alloc, boxes.len())?;
     for boxed in boxes {
@@ -246,7 +252,8 @@ pub(crate) fn cut_boxes(
     requires some { cells_of t.now.domain.dims ≢ [] }
     requires few { length (cells_of t.now.domain.dims) ≤ 4194304 }
     requires inside { All (λ cell. IsInShape grid.now.shape (value_at t.now cell)) (cells_of t.now.domain.dims) }
-    ensures { IfOk result (λ pieces. pieces ≡ run_pieces grid.now.chunk (map (λ cell. numbers (value_at t.now cell)) (cells_of t.now.domain.dims))) }
+    ensures { IfOk result (λ pieces. pieces ≡ run_pieces grid.now.chunk (map (λ cell.
+        numbers (value_at t.now cell)) (cells_of t.now.domain.dims))) }
 {
     let dims = t.domain().dims.items();
     let boxes = boxes_of(alloc, t, grid)?;

@@ -34,7 +34,8 @@ fn put(
     requires before { IfSome (at cuts.old chunk.now) (IsUpTo view) }
     requires small { view < 4194304 }
     ensures runs { OnOk result ((key : Key) → at cuts.new key
-        ≡ (if bytes_eq chunk.now.items key.items then Some (with_pair (record { view = view; chunk = place }) (at cuts.old key)) else at cuts.old key)) }
+        ≡ (if bytes_eq chunk.now.items key.items then Some
+        (with_pair (record { view = view; chunk = place }) (at cuts.old key)) else at cuts.old key)) }
     ensures chunks { OnOk result (chunks_of cuts.new ≡ among (chunks_of cuts.old) chunk.now.items) }
 {
     if let Some(growing) = cuts.get_mut(chunk) {
@@ -60,7 +61,8 @@ pub(crate) fn add(
     requires small { view < 4194304 }
     requires inside { IsInShape grid.now.shape target.now }
     requires room { length chunk.old.items ≡ length grid.now.shape }
-    ensures cuts { OnOk result ((targets : List (List ℕ)) → length targets ≡ view → AreCuts grid.now.chunk targets cuts.old
+    ensures cuts { OnOk result ((targets : List (List ℕ)) → length targets ≡ view
+        → AreCuts grid.now.chunk targets cuts.old
         → AreCuts grid.now.chunk (targets ++ numbers target.now ∷ []) cuts.new) }
     ensures room { length chunk.new.items ≡ length grid.now.shape }
 {

@@ -32,7 +32,8 @@ pub fn runs_of(alloc: Global, targets: &[Index], grid: &Grid) -> Result<List<Run
     requires few { length targets.now ≤ 4194304 }
     requires inside { All (IsInShape grid.now.shape) targets.now }
     ensures pieces { IfOk result (λ pieces. pieces ≡ run_pieces grid.now.chunk (map numbers targets.now)) }
-    ensures cells { IfOk result (λ pieces. map unrolled pieces ≡ pieces_by_chunk grid.now.chunk (map numbers targets.now)) }
+    ensures cells { IfOk result (λ pieces. map unrolled pieces
+        ≡ pieces_by_chunk grid.now.chunk (map numbers targets.now)) }
     ensures cut { IfOk result (λ pieces. IsCut grid.now.chunk (map numbers targets.now) pieces) }
 {
     let mut cuts = new_cuts(alloc);
@@ -65,9 +66,12 @@ pub fn runs(alloc: Global, t: &Transform, grid: &Grid) -> Result<List<RunPiece>,
     requires finite { IsTrue (list_all is_finite t.now.domain.dims) }
     requires few { length (cells_of t.now.domain.dims) ≤ 4194304 }
     requires inside { All (λ cell. IsInShape grid.now.shape (value_at t.now cell)) (cells_of t.now.domain.dims) }
-    ensures pieces { IfOk result (λ pieces. pieces ≡ run_pieces grid.now.chunk (map (λ cell. numbers (value_at t.now cell)) (cells_of t.now.domain.dims))) }
-    ensures cells { IfOk result (λ pieces. map unrolled pieces ≡ pieces_by_chunk grid.now.chunk (map (λ cell. numbers (value_at t.now cell)) (cells_of t.now.domain.dims))) }
-    ensures cut { IfOk result (λ pieces. IsCut grid.now.chunk (map (λ cell. numbers (value_at t.now cell)) (cells_of t.now.domain.dims)) pieces) }
+    ensures pieces { IfOk result (λ pieces. pieces ≡ run_pieces grid.now.chunk (map (λ cell.
+        numbers (value_at t.now cell)) (cells_of t.now.domain.dims))) }
+    ensures cells { IfOk result (λ pieces. map unrolled pieces ≡ pieces_by_chunk grid.now.chunk (map (λ cell.
+        numbers (value_at t.now cell)) (cells_of t.now.domain.dims))) }
+    ensures cut { IfOk result (λ pieces. IsCut grid.now.chunk (map (λ cell.
+        numbers (value_at t.now cell)) (cells_of t.now.domain.dims)) pieces) }
 {
     if !has_cells(t) {
         return cut_cells(alloc, t, grid);
@@ -85,7 +89,8 @@ fn cut_indexed(alloc: Global, t: &Transform, grid: &Grid) -> Result<List<RunPiec
     requires some { cells_of t.now.domain.dims ≢ [] }
     requires few { length (cells_of t.now.domain.dims) ≤ 4194304 }
     requires inside { All (λ cell. IsInShape grid.now.shape (value_at t.now cell)) (cells_of t.now.domain.dims) }
-    ensures { IfOk result (λ pieces. pieces ≡ run_pieces grid.now.chunk (map (λ cell. numbers (value_at t.now cell)) (cells_of t.now.domain.dims))) }
+    ensures { IfOk result (λ pieces. pieces ≡ run_pieces grid.now.chunk (map (λ cell.
+        numbers (value_at t.now cell)) (cells_of t.now.domain.dims))) }
 {
     let counts = chunk_counts(alloc, grid)?;
     if are_few(t, &counts) {
@@ -139,7 +144,8 @@ fn cut_cells(alloc: Global, t: &Transform, grid: &Grid) -> Result<List<RunPiece>
     requires finite { IsTrue (list_all is_finite t.now.domain.dims) }
     requires few { length (cells_of t.now.domain.dims) ≤ 4194304 }
     requires inside { All (λ cell. IsInShape grid.now.shape (value_at t.now cell)) (cells_of t.now.domain.dims) }
-    ensures { IfOk result (λ pieces. pieces ≡ run_pieces grid.now.chunk (map (λ cell. numbers (value_at t.now cell)) (cells_of t.now.domain.dims))) }
+    ensures { IfOk result (λ pieces. pieces ≡ run_pieces grid.now.chunk (map (λ cell.
+        numbers (value_at t.now cell)) (cells_of t.now.domain.dims))) }
 {
     let mut cuts = new_cuts(alloc);
     put_cells(alloc, &mut cuts, t, grid)?;
@@ -152,7 +158,8 @@ fn put_cells(alloc: Global, cuts: &mut Cuts, t: &Transform, grid: &Grid) -> Resu
     requires few { length (cells_of t.now.domain.dims) ≤ 4194304 }
     requires inside { All (λ cell. IsInShape grid.now.shape (value_at t.now cell)) (cells_of t.now.domain.dims) }
     requires empty { AreCuts grid.now.chunk [] cuts.old }
-    ensures { OnOk result (AreCuts grid.now.chunk (map (λ cell. numbers (value_at t.now cell)) (cells_of t.now.domain.dims)) cuts.new) }
+    ensures { OnOk result (AreCuts grid.now.chunk (map (λ cell.
+        numbers (value_at t.now cell)) (cells_of t.now.domain.dims)) cuts.new) }
 {
     let mut chunk = Vec::from_elem(alloc, 0, grid.shape().len())?;
     let mut cell = Vec::from_elem(alloc, 0, t.domain().dims.items().len())?;

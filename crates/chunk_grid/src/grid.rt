@@ -85,7 +85,8 @@ impl Grid {
         ensures value { result ≡ place_within self.now.chunk (numbers index.now) }
         ensures below { result < cell_count self.now.chunk }
         ensures small { result < 2 ^ 24 }
-        ensures back { in_array self.now.chunk (chunk_index self.now.chunk (numbers index.now)) (index_at self.now.chunk C result) ≡ numbers index.now }
+        ensures back { in_array self.now.chunk (chunk_index self.now.chunk (numbers index.now))
+            (index_at self.now.chunk C result) ≡ numbers index.now }
     {
         place_over(self.chunk(), index)
     }

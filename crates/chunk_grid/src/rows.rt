@@ -174,8 +174,10 @@ fn locate_all(
     requires finite { IsTrue (list_all is_finite t.now.domain.dims) }
     requires bounded { IsTrue (list_all is_finite dims.now) }
     requires rank { length dims.now ≡ length t.now.domain.dims }
-    requires cells { All (λ cell. IsCell t.now.domain.dims cell × IsInShape grid.now.shape (value_at t.now cell)) (cells_of dims.now) }
-    ensures { IfOk result (λ all. all.items ≡ map (located_kept want t.now counts.now grid.now.chunk flags.now) (cells_of dims.now)) }
+    requires cells { All (λ cell. IsCell t.now.domain.dims cell
+        × IsInShape grid.now.shape (value_at t.now cell)) (cells_of dims.now) }
+    ensures { IfOk result (λ all. all.items ≡ map (located_kept want t.now counts.now grid.now.chunk flags.now)
+        (cells_of dims.now)) }
 {
     let chunk = grid.chunk();
     let mut all = Vec::new(alloc);
@@ -250,7 +252,9 @@ fn heads_located(
     requires finite { IsTrue (list_all is_finite t.now.domain.dims) }
     requires filled { IsNonEmpty t.now.domain.dims }
     requires inside { All (λ cell. IsInShape grid.now.shape (value_at t.now cell)) (cells_of t.now.domain.dims) }
-    ensures { IfOk result (λ heads. heads.items ≡ map (located_kept false t.now counts.now grid.now.chunk flags.now) (cells_of (heads_of k t.now.domain.dims))) }
+    ensures { IfOk result (λ heads. heads.items
+        ≡ map (located_kept false t.now counts.now grid.now.chunk flags.now)
+        (cells_of (heads_of k t.now.domain.dims))) }
 {
     let dims = heads_of(alloc, k, t.domain().dims.items())?;
     locate_all(alloc, t, grid, counts, false, flags, &dims)
@@ -272,7 +276,8 @@ fn row_located(
     requires finite { IsTrue (list_all is_finite t.now.domain.dims) }
     requires filled { IsNonEmpty t.now.domain.dims }
     requires inside { All (λ cell. IsInShape grid.now.shape (value_at t.now cell)) (cells_of t.now.domain.dims) }
-    ensures { IfOk result (λ row. row.items ≡ map (located_kept true t.now counts.now grid.now.chunk flags.now) (cells_of (row_of k t.now.domain.dims))) }
+    ensures { IfOk result (λ row. row.items ≡ map (located_kept true t.now counts.now grid.now.chunk flags.now)
+        (cells_of (row_of k t.now.domain.dims))) }
 {
     let dims = row_of(alloc, k, t.domain().dims.items())?;
     locate_all(alloc, t, grid, counts, true, flags, &dims)
@@ -296,8 +301,10 @@ fn cut_heads(
     requires filled { IsNonEmpty t.now.domain.dims }
     requires cells { length (cells_of t.now.domain.dims) ≤ 4194304 }
     requires inside { All (λ cell. IsInShape grid.now.shape (value_at t.now cell)) (cells_of t.now.domain.dims) }
-    requires heads { heads.now ≡ map (located_kept false t.now counts.now grid.now.chunk flags.now) (cells_of (heads_of k t.now.domain.dims)) }
-    ensures { IfOk result (λ pieces. pieces ≡ run_pieces grid.now.chunk (map (λ cell. numbers (value_at t.now cell)) (cells_of t.now.domain.dims))) }
+    requires heads { heads.now ≡ map (located_kept false t.now counts.now grid.now.chunk flags.now)
+        (cells_of (heads_of k t.now.domain.dims)) }
+    ensures { IfOk result (λ pieces. pieces ≡ run_pieces grid.now.chunk (map (λ cell.
+        numbers (value_at t.now cell)) (cells_of t.now.domain.dims))) }
 {
     let row = row_located(alloc, t, grid, counts, k, flags)?;
     pieces_of_products(alloc, counts, heads, &row)
@@ -320,7 +327,8 @@ fn cut_split(
     requires filled { IsNonEmpty t.now.domain.dims }
     requires cells { length (cells_of t.now.domain.dims) ≤ 4194304 }
     requires inside { All (λ cell. IsInShape grid.now.shape (value_at t.now cell)) (cells_of t.now.domain.dims) }
-    ensures { IfOk result (λ pieces. pieces ≡ run_pieces grid.now.chunk (map (λ cell. numbers (value_at t.now cell)) (cells_of t.now.domain.dims))) }
+    ensures { IfOk result (λ pieces. pieces ≡ run_pieces grid.now.chunk (map (λ cell.
+        numbers (value_at t.now cell)) (cells_of t.now.domain.dims))) }
 {
     let heads = heads_located(alloc, t, grid, counts, k, flags)?;
     cut_heads(alloc, t, grid, counts, k, flags, &heads)
@@ -340,7 +348,8 @@ pub(crate) fn cut_rows(
     requires some { cells_of t.now.domain.dims ≢ [] }
     requires cells { length (cells_of t.now.domain.dims) ≤ 4194304 }
     requires inside { All (λ cell. IsInShape grid.now.shape (value_at t.now cell)) (cells_of t.now.domain.dims) }
-    ensures { IfOk result (λ pieces. pieces ≡ run_pieces grid.now.chunk (map (λ cell. numbers (value_at t.now cell)) (cells_of t.now.domain.dims))) }
+    ensures { IfOk result (λ pieces. pieces ≡ run_pieces grid.now.chunk (map (λ cell.
+        numbers (value_at t.now cell)) (cells_of t.now.domain.dims))) }
 {
     let k = best_split(t.domain().dims.items(), t.maps());
     let flags = row_flags(alloc, k, t.maps())?;

@@ -69,8 +69,10 @@ fn put_row(
     row: &[Located],
     view: u32,
 ) -> Result<(), AllocError>
-    requires numbers { (j : ℕ) (d : Located) → j < length row.now → head.number + (slice_index_or row.now j d).number < length slots.old }
-    requires places { (j : ℕ) (d : Located) → j < length row.now → head.place + (slice_index_or row.now j d).place < 2 ^ 32 }
+    requires numbers { (j : ℕ) (d : Located) → j < length row.now
+        → head.number + (slice_index_or row.now j d).number < length slots.old }
+    requires places { (j : ℕ) (d : Located) → j < length row.now
+        → head.place + (slice_index_or row.now j d).place < 2 ^ 32 }
     requires few { length slots.old ≤ 4194304 }
     requires small { view + length row.now ≤ 4194304 }
     requires before { AreUpTo view slots.old }
@@ -90,8 +92,10 @@ fn put_rows(
     heads: &[Located],
     row: &[Located],
 ) -> Result<(), AllocError>
-    requires numbers { (i j : ℕ) (c d : Located) → i < length heads.now → j < length row.now → (slice_index_or heads.now i c).number + (slice_index_or row.now j d).number < length slots.old }
-    requires places { (i j : ℕ) (c d : Located) → i < length heads.now → j < length row.now → (slice_index_or heads.now i c).place + (slice_index_or row.now j d).place < 2 ^ 32 }
+    requires numbers { (i j : ℕ) (c d : Located) → i < length heads.now → j < length row.now
+        → (slice_index_or heads.now i c).number + (slice_index_or row.now j d).number < length slots.old }
+    requires places { (i j : ℕ) (c d : Located) → i < length heads.now → j < length row.now
+        → (slice_index_or heads.now i c).place + (slice_index_or row.now j d).place < 2 ^ 32 }
     requires few { length slots.old ≤ 4194304 }
     requires small { length heads.now * length row.now ≤ 4194304 }
     requires empty { AreUpTo 0 slots.old }
@@ -155,11 +159,14 @@ pub(crate) fn pieces_of_products(
     heads: &[Located],
     row: &[Located],
 ) -> Result<List<RunPiece>, AllocError>
-    requires numbers { (i j : ℕ) (c d : Located) → i < length heads.now → j < length row.now → (slice_index_or heads.now i c).number + (slice_index_or row.now j d).number < cell_count counts.now }
-    requires places { (i j : ℕ) (c d : Located) → i < length heads.now → j < length row.now → (slice_index_or heads.now i c).place + (slice_index_or row.now j d).place < 2 ^ 32 }
+    requires numbers { (i j : ℕ) (c d : Located) → i < length heads.now → j < length row.now
+        → (slice_index_or heads.now i c).number + (slice_index_or row.now j d).number < cell_count counts.now }
+    requires places { (i j : ℕ) (c d : Located) → i < length heads.now → j < length row.now
+        → (slice_index_or heads.now i c).place + (slice_index_or row.now j d).place < 2 ^ 32 }
     requires few { cell_count counts.now ≤ 4194304 }
     requires small { length heads.now * length row.now ≤ 4194304 }
-    ensures { IfOk result (λ pieces. pieces ≡ pieces_from counts.now 0 (put_all (replicate (cell_count counts.now) None) 0 (products heads.now row.now))) }
+    ensures { IfOk result (λ pieces. pieces ≡ pieces_from counts.now 0
+        (put_all (replicate (cell_count counts.now) None) 0 (products heads.now row.now))) }
 {
     let mut slots = empty_slots(alloc, count_of(counts))?;
     put_rows(alloc, slots.as_mut_slice(), heads, row)?;

@@ -136,8 +136,9 @@ fn over_fill(
     ensures cells { IfOk result (λ d. (place : ℕ) → place < cell_count chunk_shape.now
         → slice_index d.words place ≡ unwrap_or (staged_at staged.now place) fill) }
 {
-    let base = Dense::filled(alloc, dtype, chunk_shape, fill)?;
-    staged.over(alloc, &base)
+    let mut cells = Dense::filled(alloc, dtype, chunk_shape, fill)?;
+    staged.lay_over(&mut cells);
+    Ok(cells)
 }
 
 // Puts the fill at each place past the shape.
@@ -169,7 +170,8 @@ fn fill_run(cells: &mut Dense, from: usize, to: usize, fill: u64)
     ensures shape { cells.new.shape ≡ cells.old.shape }
     ensures size { length cells.new.words ≡ length cells.old.words }
     ensures filled { (place : ℕ) → from ≤ place → place < to → slice_index cells.new.words place ≡ fill }
-    ensures before { (place : ℕ) → place < from → slice_index cells.new.words place ≡ slice_index cells.old.words place }
+    ensures before { (place : ℕ) → place < from
+        → slice_index cells.new.words place ≡ slice_index cells.old.words place }
     ensures behind { (place : ℕ) → to ≤ place → slice_index cells.new.words place ≡ slice_index cells.old.words place }
 {
     for place in from..to {

@@ -22,7 +22,8 @@ pub(crate) fn held_over(
     ensures dtype { IfOk result (λ s. s.cells.dtype ≡ base.now.cells.dtype) }
     ensures shape { IfOk result (λ s. s.cells.shape ≡ base.now.cells.shape) }
     ensures words { IfOk result (λ s. (at : List ℕ) → IsInside base.now.cells.shape at
-        → word_at s.cells at ≡ unwrap_or (staged_at staged.now (c_place base.now.cells.shape at)) (word_at base.now.cells at)) }
+        → word_at s.cells at ≡ unwrap_or (staged_at staged.now (c_place base.now.cells.shape at))
+        (word_at base.now.cells at)) }
 {
     // A look at the shape, by which it is known how many words there are.
     let _ = base.cells().shape();

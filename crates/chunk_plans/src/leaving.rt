@@ -47,5 +47,7 @@ pub fn left_over(
         form.dtype(),
         form.chunk_shape(),
     )?;
+    // A look at the cells, by which it is known how many there are.
+    let _ = cells.count();
     encode_form(alloc, form, chunk, form.fill(), &cells)
 }

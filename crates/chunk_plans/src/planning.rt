@@ -5,7 +5,7 @@ ghost use Rattle.chunk_forms.specs.declared.form.Damage.{Damage as DamageOf};
 ghost use Rattle.kv_face.specs.Store.{Contents};
 ghost use Rattle.history.specs.Arrays.{Known, known_after, form_of, is_local, chunk_shape};
 ghost use Rattle.chunk_laying.specs.Laid.{IsCovered};
-ghost use Rattle.state_laws.specs.Seen.{IsRead, seen_of};
+ghost use Rattle.state_laws.specs.Seen.{IsRead};
 ghost use Rattle.state_laws.specs.Agreement.{Opening, Agrees, IsState, KeepsAgreement};
 ghost use Rattle.state_laws.specs.Fetches.{IsAnswered, IsDamagedThere, generation_in};
 ghost use Rattle.state_laws.specs.Kept.{AreCellsOf};
@@ -39,22 +39,30 @@ pub fn plan_write<K: KvStore>(
     number: u64,
     write: ChunkWrite<'_>,
 ) -> Result<Planned, FetchError>
-    requires agrees { let seen = seen_of K.contents K.faults K.prefixes K.names K.standing K.change_count in IsState (seen state.old.store) state.old.log }
+    requires agrees { IsState (K.seen state.old.store) state.old.log }
     requires write { IsWrite state.old.log.events write }
     ensures array { IfOk result (λ p. p.array ≡ write.entry.array) }
     ensures key { IfOk result (λ p. p.key ≡ write.entry.key) }
-    ensures left { IfOk result (λ p. (k : Known) → known_after state.old.log.events write.entry.array ≡ Some k → IsLeftOf k (chunk_of_write write.entry) p.left) }
-    ensures plan { let seen = seen_of K.contents K.faults K.prefixes K.names K.standing K.change_count in IfOk result (λ p. (opening : Opening) (start : Contents) (k : Known) → Agrees opening (seen state.old.store) state.old.log
-        → opening.store.contents ≡ Some start → known_after state.old.log.events write.entry.array ≡ Some k → IsReadyWrite start state.old.log k write.entry → IsPlanOf start state.old.log.events number k write.entry p.left) }
+    ensures left { IfOk result (λ p. (k : Known) → known_after state.old.log.events write.entry.array ≡ Some k
+        → IsLeftOf k (chunk_of_write write.entry) p.left) }
+    ensures plan { IfOk result (λ p. (opening : Opening) (start : Contents) (k : Known)
+        → Agrees opening (K.seen state.old.store) state.old.log
+        → opening.store.contents ≡ Some start → known_after state.old.log.events write.entry.array ≡ Some k
+        → IsReadyWrite start state.old.log k write.entry
+        → IsPlanOf start state.old.log.events number k write.entry p.left) }
     ensures same { OnOk result (IsSameButCache state.old.log state.new.log) }
-    ensures read { let seen = seen_of K.contents K.faults K.prefixes K.names K.standing K.change_count in IsRead (seen state.old.store) (seen state.new.store) }
-    ensures failed { (event : ℕ) → result ≡ Err (FetchError.StoreFailed event) → let seen = seen_of K.contents K.faults K.prefixes K.names K.standing K.change_count in
-        IsFailedLook owner (chunk_of_write write.entry) (seen state.old.store) (seen state.new.store) state.old.log state.new.log event }
-    ensures damaged { (name : List ℕ) (cause : DamageOf) → result ≡ Err (FetchError.Damaged name cause) → let seen = seen_of K.contents K.faults K.prefixes K.names K.standing K.change_count in
-        (state.new.log ≡ state.old.log) × IsDamagedThere (seen state.old.store) state.old.log (chunk_of_write write.entry) name cause }
-    ensures read_on { (k : Known) → known_after state.old.log.events write.entry.array ≡ Some k → result ≢ Err FetchError.Memory → OnErr result ((may_use state.old.log k write.entry ≡ false) × ¬ (IsCovered k.shape (chunk_shape k.info) write.entry.chunk.now write.entry.staged.now)) }
+    ensures read { IsRead (K.seen state.old.store) (K.seen state.new.store) }
+    ensures failed { (event : ℕ) → result ≡ Err (FetchError.StoreFailed event)
+        → IsFailedLook owner (chunk_of_write write.entry) (K.seen state.old.store)
+        (K.seen state.new.store) state.old.log state.new.log event }
+    ensures damaged { (name : List ℕ) (cause : DamageOf) → result ≡ Err (FetchError.Damaged name cause)
+        → (state.new.log ≡ state.old.log) × IsDamagedThere (K.seen state.old.store) state.old.log
+        (chunk_of_write write.entry) name cause }
+    ensures read_on { (k : Known) → known_after state.old.log.events write.entry.array ≡ Some k
+        → result ≢ Err FetchError.Memory → OnErr result ((may_use state.old.log k write.entry ≡ false)
+        × ¬ (IsCovered k.shape (chunk_shape k.info) write.entry.chunk.now write.entry.staged.now)) }
     ensures memory { result ≡ Err FetchError.Memory → IsSameButCache state.old.log state.new.log }
-    ensures kept { let seen = seen_of K.contents K.faults K.prefixes K.names K.standing K.change_count in KeepsAgreement (seen state.old.store) state.old.log (seen state.new.store) state.new.log }
+    ensures kept { KeepsAgreement (K.seen state.old.store) state.old.log (K.seen state.new.store) state.new.log }
 {
     let form = state.info(write.array)?;
     if form.is_local() {
@@ -71,14 +79,17 @@ fn plan_held<K: KvStore>(
     number: u64,
     write: ChunkWrite<'_>,
 ) -> Result<Planned, AllocError>
-    requires agrees { let seen = seen_of K.contents K.faults K.prefixes K.names K.standing K.change_count in IsState (seen state.old.store) state.old.log }
+    requires agrees { IsState (K.seen state.old.store) state.old.log }
     requires write { IsWrite state.old.log.events write }
     requires local { (k : Known) → known_after state.old.log.events write.array ≡ Some k → is_local k.info.home ≡ true }
     ensures array { IfOk result (λ p. p.array ≡ write.entry.array) }
     ensures key { IfOk result (λ p. p.key ≡ write.entry.key) }
-    ensures left { IfOk result (λ p. (k : Known) → known_after state.old.log.events write.entry.array ≡ Some k → IsLeftOf k (chunk_of_write write.entry) p.left) }
-    ensures plan { let seen = seen_of K.contents K.faults K.prefixes K.names K.standing K.change_count in IfOk result (λ p. (opening : Opening) (start : Contents) (k : Known) → Agrees opening (seen state.old.store) state.old.log
-        → opening.store.contents ≡ Some start → known_after state.old.log.events write.entry.array ≡ Some k → IsPlanOf start state.old.log.events number k write.entry p.left) }
+    ensures left { IfOk result (λ p. (k : Known) → known_after state.old.log.events write.entry.array ≡ Some k
+        → IsLeftOf k (chunk_of_write write.entry) p.left) }
+    ensures plan { IfOk result (λ p. (opening : Opening) (start : Contents) (k : Known)
+        → Agrees opening (K.seen state.old.store) state.old.log
+        → opening.store.contents ≡ Some start → known_after state.old.log.events write.entry.array ≡ Some k
+        → IsPlanOf start state.old.log.events number k write.entry p.left) }
     ensures same { state.new.log ≡ state.old.log }
     ensures store { state.new.store ≡ state.old.store }
 {
@@ -102,23 +113,32 @@ fn plan_stored<K: KvStore>(
     form: &Form,
     write: ChunkWrite<'_>,
 ) -> Result<Planned, FetchError>
-    requires agrees { let seen = seen_of K.contents K.faults K.prefixes K.names K.standing K.change_count in IsState (seen state.old.store) state.old.log }
+    requires agrees { IsState (K.seen state.old.store) state.old.log }
     requires write { IsWrite state.old.log.events write }
-    requires form { (k : Known) → known_after state.old.log.events write.array ≡ Some k → (is_local k.info.home ≡ false) × (form.now ≡ with_shape (form_of k.info.home) k.shape) }
+    requires form { (k : Known) → known_after state.old.log.events write.array ≡ Some k
+        → (is_local k.info.home ≡ false) × (form.now ≡ with_shape (form_of k.info.home) k.shape) }
     ensures array { IfOk result (λ p. p.array ≡ write.entry.array) }
     ensures key { IfOk result (λ p. p.key ≡ write.entry.key) }
-    ensures left { IfOk result (λ p. (k : Known) → known_after state.old.log.events write.entry.array ≡ Some k → IsLeftOf k (chunk_of_write write.entry) p.left) }
-    ensures plan { let seen = seen_of K.contents K.faults K.prefixes K.names K.standing K.change_count in IfOk result (λ p. (opening : Opening) (start : Contents) (k : Known) (number : ℕ) → Agrees opening (seen state.old.store) state.old.log
-        → opening.store.contents ≡ Some start → known_after state.old.log.events write.entry.array ≡ Some k → IsReadyWrite start state.old.log k write.entry → IsPlanOf start state.old.log.events number k write.entry p.left) }
+    ensures left { IfOk result (λ p. (k : Known) → known_after state.old.log.events write.entry.array ≡ Some k
+        → IsLeftOf k (chunk_of_write write.entry) p.left) }
+    ensures plan { IfOk result (λ p. (opening : Opening) (start : Contents) (k : Known) (number : ℕ)
+        → Agrees opening (K.seen state.old.store) state.old.log
+        → opening.store.contents ≡ Some start → known_after state.old.log.events write.entry.array ≡ Some k
+        → IsReadyWrite start state.old.log k write.entry
+        → IsPlanOf start state.old.log.events number k write.entry p.left) }
     ensures same { OnOk result (IsSameButCache state.old.log state.new.log) }
-    ensures read { let seen = seen_of K.contents K.faults K.prefixes K.names K.standing K.change_count in IsRead (seen state.old.store) (seen state.new.store) }
-    ensures failed { (event : ℕ) → result ≡ Err (FetchError.StoreFailed event) → let seen = seen_of K.contents K.faults K.prefixes K.names K.standing K.change_count in
-        IsFailedLook owner (chunk_of_write write.entry) (seen state.old.store) (seen state.new.store) state.old.log state.new.log event }
-    ensures damaged { (name : List ℕ) (cause : DamageOf) → result ≡ Err (FetchError.Damaged name cause) → let seen = seen_of K.contents K.faults K.prefixes K.names K.standing K.change_count in
-        (state.new.log ≡ state.old.log) × IsDamagedThere (seen state.old.store) state.old.log (chunk_of_write write.entry) name cause }
-    ensures read_on { (k : Known) → known_after state.old.log.events write.entry.array ≡ Some k → result ≢ Err FetchError.Memory → OnErr result ((may_use state.old.log k write.entry ≡ false) × ¬ (IsCovered k.shape (chunk_shape k.info) write.entry.chunk.now write.entry.staged.now)) }
+    ensures read { IsRead (K.seen state.old.store) (K.seen state.new.store) }
+    ensures failed { (event : ℕ) → result ≡ Err (FetchError.StoreFailed event)
+        → IsFailedLook owner (chunk_of_write write.entry) (K.seen state.old.store)
+        (K.seen state.new.store) state.old.log state.new.log event }
+    ensures damaged { (name : List ℕ) (cause : DamageOf) → result ≡ Err (FetchError.Damaged name cause)
+        → (state.new.log ≡ state.old.log) × IsDamagedThere (K.seen state.old.store) state.old.log
+        (chunk_of_write write.entry) name cause }
+    ensures read_on { (k : Known) → known_after state.old.log.events write.entry.array ≡ Some k
+        → result ≢ Err FetchError.Memory → OnErr result ((may_use state.old.log k write.entry ≡ false)
+        × ¬ (IsCovered k.shape (chunk_shape k.info) write.entry.chunk.now write.entry.staged.now)) }
     ensures memory { result ≡ Err FetchError.Memory → IsSameButCache state.old.log state.new.log }
-    ensures kept { let seen = seen_of K.contents K.faults K.prefixes K.names K.standing K.change_count in KeepsAgreement (seen state.old.store) state.old.log (seen state.new.store) state.new.log }
+    ensures kept { KeepsAgreement (K.seen state.old.store) state.old.log (K.seen state.new.store) state.new.log }
 {
     if is_usable(state, &write)? {
         return Ok(prepared(write));
@@ -156,9 +176,10 @@ fn prepared(write: ChunkWrite<'_>) -> Planned
 
 /// Whether this is the generation of the chunk of a write. Where none is given, it is.
 fn is_base<K: KvStore>(state: &State<K>, write: &ChunkWrite<'_>, generation: Option<u64>) -> bool
-    requires agrees { let seen = seen_of K.contents K.faults K.prefixes K.names K.standing K.change_count in IsState (seen state.now.store) state.now.log }
+    requires agrees { IsState (K.seen state.now.store) state.now.log }
     requires write { IsWrite state.now.log.events write.now }
-    ensures { (k : Known) → known_after state.now.log.events write.now.array ≡ Some k → result ≡ is_base (generation_in state.now.log k write.now.key) generation }
+    ensures { (k : Known) → known_after state.now.log.events write.now.array ≡ Some k
+        → result ≡ is_base (generation_in state.now.log k write.now.key) generation }
 {
     match generation {
         Some(generation) => generation == state.generation(write.key.items()),
@@ -168,9 +189,10 @@ fn is_base<K: KvStore>(state: &State<K>, write: &ChunkWrite<'_>, generation: Opt
 
 /// Whether prepared bytes may be used as they are.
 fn is_usable<K: KvStore>(state: &State<K>, write: &ChunkWrite<'_>) -> Result<bool, AllocError>
-    requires agrees { let seen = seen_of K.contents K.faults K.prefixes K.names K.standing K.change_count in IsState (seen state.now.store) state.now.log }
+    requires agrees { IsState (K.seen state.now.store) state.now.log }
     requires write { IsWrite state.now.log.events write.now }
-    ensures { IfOk result (λ b. (k : Known) → known_after state.now.log.events write.now.array ≡ Some k → b ≡ may_use state.now.log k write.now) }
+    ensures { IfOk result (λ b. (k : Known) → known_after state.now.log.events write.now.array ≡ Some k
+        → b ≡ may_use state.now.log k write.now) }
 {
     let Some(ready) = &write.ready else {
         return Ok(false);
@@ -189,20 +211,27 @@ fn left_now<K: KvStore>(
     form: &Form,
     write: &ChunkWrite<'_>,
 ) -> Result<Option<cells::List<u8>>, FetchError>
-    requires agrees { let seen = seen_of K.contents K.faults K.prefixes K.names K.standing K.change_count in IsState (seen state.old.store) state.old.log }
+    requires agrees { IsState (K.seen state.old.store) state.old.log }
     requires write { IsWrite state.old.log.events write.now }
-    requires form { (k : Known) → known_after state.old.log.events write.now.array ≡ Some k → (is_local k.info.home ≡ false) × (form.now ≡ with_shape (form_of k.info.home) k.shape) }
-    ensures plan { let seen = seen_of K.contents K.faults K.prefixes K.names K.standing K.change_count in IfOk result (λ bytes. (opening : Opening) (start : Contents) (k : Known) → Agrees opening (seen state.old.store) state.old.log
-        → opening.store.contents ≡ Some start → known_after state.old.log.events write.now.array ≡ Some k → IsLeftNow start state.old.log.events k (chunk_of_write write.now) write.now.staged.now bytes) }
+    requires form { (k : Known) → known_after state.old.log.events write.now.array ≡ Some k
+        → (is_local k.info.home ≡ false) × (form.now ≡ with_shape (form_of k.info.home) k.shape) }
+    ensures plan { IfOk result (λ bytes. (opening : Opening) (start : Contents) (k : Known)
+        → Agrees opening (K.seen state.old.store) state.old.log
+        → opening.store.contents ≡ Some start → known_after state.old.log.events write.now.array ≡ Some k
+        → IsLeftNow start state.old.log.events k (chunk_of_write write.now) write.now.staged.now bytes) }
     ensures same { OnOk result (IsSameButCache state.old.log state.new.log) }
-    ensures read { let seen = seen_of K.contents K.faults K.prefixes K.names K.standing K.change_count in IsRead (seen state.old.store) (seen state.new.store) }
-    ensures failed { (event : ℕ) → result ≡ Err (FetchError.StoreFailed event) → let seen = seen_of K.contents K.faults K.prefixes K.names K.standing K.change_count in
-        IsFailedLook owner (chunk_of_write write.now) (seen state.old.store) (seen state.new.store) state.old.log state.new.log event }
-    ensures damaged { (name : List ℕ) (cause : DamageOf) → result ≡ Err (FetchError.Damaged name cause) → let seen = seen_of K.contents K.faults K.prefixes K.names K.standing K.change_count in
-        (state.new.log ≡ state.old.log) × IsDamagedThere (seen state.old.store) state.old.log (chunk_of_write write.now) name cause }
-    ensures read_on { (k : Known) → known_after state.old.log.events write.now.array ≡ Some k → result ≢ Err FetchError.Memory → OnErr result (¬ (IsCovered k.shape (chunk_shape k.info) write.now.chunk.now write.now.staged.now)) }
+    ensures read { IsRead (K.seen state.old.store) (K.seen state.new.store) }
+    ensures failed { (event : ℕ) → result ≡ Err (FetchError.StoreFailed event)
+        → IsFailedLook owner (chunk_of_write write.now) (K.seen state.old.store)
+        (K.seen state.new.store) state.old.log state.new.log event }
+    ensures damaged { (name : List ℕ) (cause : DamageOf) → result ≡ Err (FetchError.Damaged name cause)
+        → (state.new.log ≡ state.old.log) × IsDamagedThere (K.seen state.old.store) state.old.log
+        (chunk_of_write write.now) name cause }
+    ensures read_on { (k : Known) → known_after state.old.log.events write.now.array ≡ Some k
+        → result ≢ Err FetchError.Memory → OnErr result
+        (¬ (IsCovered k.shape (chunk_shape k.info) write.now.chunk.now write.now.staged.now)) }
     ensures memory { result ≡ Err FetchError.Memory → IsSameButCache state.old.log state.new.log }
-    ensures kept { let seen = seen_of K.contents K.faults K.prefixes K.names K.standing K.change_count in KeepsAgreement (seen state.old.store) state.old.log (seen state.new.store) state.new.log }
+    ensures kept { KeepsAgreement (K.seen state.old.store) state.old.log (K.seen state.new.store) state.new.log }
 {
     if covers(form.shape(), form.chunk_shape(), write.chunk, write.staged) {
         return Ok(left_over(alloc, form, write.chunk, write.staged, None)?);
@@ -218,19 +247,24 @@ fn read_over<K: KvStore>(
     form: &Form,
     write: &ChunkWrite<'_>,
 ) -> Result<Option<cells::List<u8>>, FetchError>
-    requires agrees { let seen = seen_of K.contents K.faults K.prefixes K.names K.standing K.change_count in IsState (seen state.old.store) state.old.log }
+    requires agrees { IsState (K.seen state.old.store) state.old.log }
     requires write { IsWrite state.old.log.events write.now }
-    requires form { (k : Known) → known_after state.old.log.events write.now.array ≡ Some k → (is_local k.info.home ≡ false) × (form.now ≡ with_shape (form_of k.info.home) k.shape) }
-    ensures plan { let seen = seen_of K.contents K.faults K.prefixes K.names K.standing K.change_count in IfOk result (λ bytes. (opening : Opening) (start : Contents) (k : Known) → Agrees opening (seen state.old.store) state.old.log
-        → opening.store.contents ≡ Some start → known_after state.old.log.events write.now.array ≡ Some k → IsLeftNow start state.old.log.events k (chunk_of_write write.now) write.now.staged.now bytes) }
+    requires form { (k : Known) → known_after state.old.log.events write.now.array ≡ Some k
+        → (is_local k.info.home ≡ false) × (form.now ≡ with_shape (form_of k.info.home) k.shape) }
+    ensures plan { IfOk result (λ bytes. (opening : Opening) (start : Contents) (k : Known)
+        → Agrees opening (K.seen state.old.store) state.old.log
+        → opening.store.contents ≡ Some start → known_after state.old.log.events write.now.array ≡ Some k
+        → IsLeftNow start state.old.log.events k (chunk_of_write write.now) write.now.staged.now bytes) }
     ensures same { OnOk result (IsSameButCache state.old.log state.new.log) }
-    ensures read { let seen = seen_of K.contents K.faults K.prefixes K.names K.standing K.change_count in IsRead (seen state.old.store) (seen state.new.store) }
-    ensures failed { (event : ℕ) → result ≡ Err (FetchError.StoreFailed event) → let seen = seen_of K.contents K.faults K.prefixes K.names K.standing K.change_count in
-        IsFailedLook owner (chunk_of_write write.now) (seen state.old.store) (seen state.new.store) state.old.log state.new.log event }
-    ensures damaged { (name : List ℕ) (cause : DamageOf) → result ≡ Err (FetchError.Damaged name cause) → let seen = seen_of K.contents K.faults K.prefixes K.names K.standing K.change_count in
-        (state.new.log ≡ state.old.log) × IsDamagedThere (seen state.old.store) state.old.log (chunk_of_write write.now) name cause }
+    ensures read { IsRead (K.seen state.old.store) (K.seen state.new.store) }
+    ensures failed { (event : ℕ) → result ≡ Err (FetchError.StoreFailed event)
+        → IsFailedLook owner (chunk_of_write write.now) (K.seen state.old.store)
+        (K.seen state.new.store) state.old.log state.new.log event }
+    ensures damaged { (name : List ℕ) (cause : DamageOf) → result ≡ Err (FetchError.Damaged name cause)
+        → (state.new.log ≡ state.old.log) × IsDamagedThere (K.seen state.old.store) state.old.log
+        (chunk_of_write write.now) name cause }
     ensures memory { result ≡ Err FetchError.Memory → IsSameButCache state.old.log state.new.log }
-    ensures kept { let seen = seen_of K.contents K.faults K.prefixes K.names K.standing K.change_count in KeepsAgreement (seen state.old.store) state.old.log (seen state.new.store) state.new.log }
+    ensures kept { KeepsAgreement (K.seen state.old.store) state.old.log (K.seen state.new.store) state.new.log }
 {
     let fetched = state.fetch(owner, write.array, write.chunk)?;
     Ok(left_over(

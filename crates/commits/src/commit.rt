@@ -3,7 +3,7 @@ ghost use Rattle.std.specs.Prelude.{◌≡◌, ◌<◌, ◌∷◌, [], Some, len
 ghost use Rattle.std.specs.List.{AllByRecursion};
 ghost use Rattle.kv_face.specs.Store.{Contents};
 ghost use Rattle.history.specs.Commit.{Transaction, are_together};
-ghost use Rattle.state_laws.specs.Seen.{IsFrame, seen_of};
+ghost use Rattle.state_laws.specs.Seen.{IsFrame};
 ghost use Rattle.state_laws.specs.Agreement.{Agrees, IsState, Opening};
 ghost use Rattle.chunk_plans.specs.Writes.{IsWrite};
 ghost use Rattle.commits.specs.Answers.{IsCommitRow, IsCommitted, IsStateByTransaction, IsTold, KeepsByTransaction};
@@ -32,15 +32,17 @@ fn commit_whole<K: KvStore>(
     owner: u32,
     p: Prepared<'_>,
 ) -> Result<List<u64>, CommitRefused>
-    requires agrees { let seen = seen_of K.contents K.faults K.prefixes K.names K.standing K.change_count in IsState (seen state.old.store) state.old.log }
+    requires agrees { IsState (K.seen state.old.store) state.old.log }
     requires writes { AllByRecursion (IsWrite state.old.log.events) p.writes.items }
     requires all { AreWrites state.old.log.events p.ops p.writes.items }
-    requires together { are_together (K.prefixes state.old.store) (stored_write_keys state.old.log.events p.writes.items) ≡ true }
-    ensures made { let seen = seen_of K.contents K.faults K.prefixes K.names K.standing K.change_count in
-        IsMade owner (seen state.old.store) (seen state.new.store) state.old.log state.new.log 0 p.entry.writes.items (whole_event owner p.entry ∷ []) result }
-    ensures frame { let seen = seen_of K.contents K.faults K.prefixes K.names K.standing K.change_count in IsFrame (seen state.old.store) (seen state.new.store) }
-    ensures kept { let seen = seen_of K.contents K.faults K.prefixes K.names K.standing K.change_count in
-        KeepsByCommit (seen state.old.store) state.old.log p.entry.ops p.entry.writes.items (seen state.new.store) state.new.log }
+    requires together { are_together ((K.seen state.old.store).prefixes)
+        (stored_write_keys state.old.log.events p.writes.items) ≡ true }
+    ensures made { IsMade owner (K.seen state.old.store)
+        (K.seen state.new.store) state.old.log state.new.log 0 p.entry.writes.items
+        (whole_event owner p.entry ∷ []) result }
+    ensures frame { IsFrame (K.seen state.old.store) (K.seen state.new.store) }
+    ensures kept { KeepsByCommit (K.seen state.old.store) state.old.log p.entry.ops p.entry.writes.items
+        (K.seen state.new.store) state.new.log }
 {
     let Prepared {
         line,
@@ -65,15 +67,16 @@ fn commit_by_keys<K: KvStore>(
     owner: u32,
     p: Prepared<'_>,
 ) -> Result<List<u64>, CommitRefused>
-    requires agrees { let seen = seen_of K.contents K.faults K.prefixes K.names K.standing K.change_count in IsStateByCommit (seen state.old.store) state.old.log p.ops p.writes.items }
+    requires agrees { IsStateByCommit (K.seen state.old.store) state.old.log p.ops p.writes.items }
     requires writes { AllByRecursion (IsWrite state.old.log.events) p.writes.items }
     requires all { AreWrites state.old.log.events p.ops p.writes.items }
     requires some { 0 < length p.writes.items }
-    ensures made { let seen = seen_of K.contents K.faults K.prefixes K.names K.standing K.change_count in
-        IsMade owner (seen state.old.store) (seen state.new.store) state.old.log state.new.log 1 p.entry.writes.items (each_event owner p.entry.line p.entry.mode p.entry.ops (write_keys p.entry.writes.items)) result }
-    ensures frame { let seen = seen_of K.contents K.faults K.prefixes K.names K.standing K.change_count in IsFrame (seen state.old.store) (seen state.new.store) }
-    ensures kept { let seen = seen_of K.contents K.faults K.prefixes K.names K.standing K.change_count in
-        KeepsByCommit (seen state.old.store) state.old.log p.entry.ops p.entry.writes.items (seen state.new.store) state.new.log }
+    ensures made { IsMade owner (K.seen state.old.store)
+        (K.seen state.new.store) state.old.log state.new.log 1 p.entry.writes.items
+        (each_event owner p.entry.line p.entry.mode p.entry.ops (write_keys p.entry.writes.items)) result }
+    ensures frame { IsFrame (K.seen state.old.store) (K.seen state.new.store) }
+    ensures kept { KeepsByCommit (K.seen state.old.store) state.old.log p.entry.ops p.entry.writes.items
+        (K.seen state.new.store) state.new.log }
 {
     let Prepared {
         line,
@@ -109,13 +112,18 @@ pub fn commit_now<K: KvStore>(
     owner: u32,
     p: Prepared<'_>,
 ) -> Result<List<u64>, CommitRefused>
-    requires agrees { let seen = seen_of K.contents K.faults K.prefixes K.names K.standing K.change_count in IsStateByTransaction (seen state.old.store) state.old.log p }
+    requires agrees { IsStateByTransaction (K.seen state.old.store) state.old.log p }
     requires writes { AreWrites state.old.log.events p.ops p.writes.items }
-    ensures row { let seen = seen_of K.contents K.faults K.prefixes K.names K.standing K.change_count in (opening : Opening) (start : Contents) (t : Transaction) → Agrees opening (seen state.old.store) state.old.log → opening.store.contents ≡ Some start
-        → IsCommitted start state.old.log t p.entry → IsCommitRow (record { start = start; prefixes = opening.store.prefixes }) owner state.old.log.events state.new.log.events t result }
-    ensures told { let seen = seen_of K.contents K.faults K.prefixes K.names K.standing K.change_count in IsTold owner (seen state.old.store) (seen state.new.store) state.old.log state.new.log p.entry result }
-    ensures frame { let seen = seen_of K.contents K.faults K.prefixes K.names K.standing K.change_count in IsFrame (seen state.old.store) (seen state.new.store) }
-    ensures kept { let seen = seen_of K.contents K.faults K.prefixes K.names K.standing K.change_count in KeepsByTransaction (seen state.old.store) state.old.log p.entry (seen state.new.store) state.new.log }
+    ensures row { (opening : Opening) (start : Contents) (t : Transaction)
+        → Agrees opening (K.seen state.old.store) state.old.log → opening.store.contents ≡ Some start
+        → IsCommitted start state.old.log t p.entry
+        → IsCommitRow
+        (record { start = start; prefixes = opening.store.prefixes }) owner state.old.log.events state.new.log.events t result }
+    ensures told { IsTold owner (K.seen state.old.store)
+        (K.seen state.new.store) state.old.log state.new.log p.entry result }
+    ensures frame { IsFrame (K.seen state.old.store) (K.seen state.new.store) }
+    ensures kept { KeepsByTransaction (K.seen state.old.store) state.old.log p.entry
+        (K.seen state.new.store) state.new.log }
 {
     match way_of(alloc, state, &p) {
         Ok(Way::Whole) => commit_whole(alloc, state, owner, p),

@@ -3,7 +3,7 @@ ghost use Rattle.std.specs.Prelude.{◌≡◌, ◌∷◌, ◌++◌, ◌+◌, ◌
 ghost use Rattle.std.specs.List.{AllByRecursion};
 ghost use Rattle.history.specs.Arrays.{known_after};
 ghost use Rattle.history.specs.Commit.{is_write};
-ghost use Rattle.state_laws.specs.Seen.{IsFrame, seen_of};
+ghost use Rattle.state_laws.specs.Seen.{IsFrame};
 ghost use Rattle.state_laws.specs.Agreement.{IsState};
 ghost use Rattle.state_commits.specs.Plans.{keys_of};
 ghost use Rattle.chunk_plans.specs.Writes.{IsWrite};
@@ -77,15 +77,18 @@ fn make_one<K: KvStore>(
     ops: Ops,
     plan: Planned,
 ) -> Result<u64, ChangeError>
-    requires agrees { let seen = seen_of K.contents K.faults K.prefixes K.names K.standing K.change_count in IsState (seen state.old.store) state.old.log }
+    requires agrees { IsState (K.seen state.old.store) state.old.log }
     requires plan { IsKeyPlan state.old.log.events plan }
     ensures number { IfOk result (λ n. n ≡ length state.old.log.events + 1) }
-    ensures after { OnOk result (state.new.log.events ≡ state.old.log.events ++ key_event owner line mode ops plan.key ∷ []) }
-    ensures failed { (event : ℕ) → result ≡ Err (ChangeError.StoreFailed event) → let seen = seen_of K.contents K.faults K.prefixes K.names K.standing K.change_count in
-        HasFailedFor owner (plan.array ∷ []) (seen state.old.store) (seen state.new.store) state.old.log.events state.new.log.events event }
+    ensures after { OnOk result (state.new.log.events
+        ≡ state.old.log.events ++ key_event owner line mode ops plan.key ∷ []) }
+    ensures failed { (event : ℕ) → result ≡ Err (ChangeError.StoreFailed event)
+        → HasFailedFor owner (plan.array ∷ []) (K.seen state.old.store)
+        (K.seen state.new.store) state.old.log.events state.new.log.events event }
     ensures memory { result ≡ Err ChangeError.Memory → state.new.log.events ≡ state.old.log.events }
-    ensures frame { let seen = seen_of K.contents K.faults K.prefixes K.names K.standing K.change_count in IsFrame (seen state.old.store) (seen state.new.store) }
-    ensures kept { let seen = seen_of K.contents K.faults K.prefixes K.names K.standing K.change_count in KeepsByKey (seen state.old.store) state.old.log owner line mode ops plan (seen state.new.store) state.new.log }
+    ensures frame { IsFrame (K.seen state.old.store) (K.seen state.new.store) }
+    ensures kept { KeepsByKey (K.seen state.old.store) state.old.log owner line mode ops plan
+        (K.seen state.new.store) state.new.log }
 {
     let Ok(mount) = mount_at(alloc, state, plan.array) else {
         return Err(ChangeError::Memory);
@@ -107,15 +110,16 @@ fn make_each<K: KvStore>(
     by: ByKeys,
     plans: Vec<Planned>,
 ) -> Result<List<u64>, CommitRefused>
-    requires agrees { let seen = seen_of K.contents K.faults K.prefixes K.names K.standing K.change_count in IsStateByKeys (seen state.old.store) state.old.log owner by.line by.mode by.ops plans.items }
+    requires agrees { IsStateByKeys (K.seen state.old.store) state.old.log owner by.line by.mode by.ops plans.items }
     requires plans { AreKeyPlans state.old.log.events plans.items }
     requires some { 0 < length plans.items }
     requires writes { by.writes ≡ filter is_write by.ops }
-    ensures made { let seen = seen_of K.contents K.faults K.prefixes K.names K.standing K.change_count in
-        IsMadeEach owner (plan_arrays plans.items) (seen state.old.store) (seen state.new.store) state.old.log.events state.new.log.events (each_event owner by.line by.mode by.ops (keys_of plans.items)) result }
-    ensures frame { let seen = seen_of K.contents K.faults K.prefixes K.names K.standing K.change_count in IsFrame (seen state.old.store) (seen state.new.store) }
-    ensures kept { let seen = seen_of K.contents K.faults K.prefixes K.names K.standing K.change_count in
-        KeepsByKeys (seen state.old.store) state.old.log owner by.line by.mode by.ops plans.items (seen state.new.store) state.new.log }
+    ensures made { IsMadeEach owner (plan_arrays plans.items) (K.seen state.old.store)
+        (K.seen state.new.store) state.old.log.events state.new.log.events
+        (each_event owner by.line by.mode by.ops (keys_of plans.items)) result }
+    ensures frame { IsFrame (K.seen state.old.store) (K.seen state.new.store) }
+    ensures kept { KeepsByKeys (K.seen state.old.store) state.old.log owner by.line by.mode by.ops plans.items
+        (K.seen state.new.store) state.new.log }
 {
     let ByKeys {
         line,
@@ -145,16 +149,17 @@ pub(crate) fn commit_each<K: KvStore>(
     by: ByKeys,
     writes: Vec<ChunkWrite<'_>>,
 ) -> Result<List<u64>, CommitRefused>
-    requires agrees { let seen = seen_of K.contents K.faults K.prefixes K.names K.standing K.change_count in IsStateByCommit (seen state.old.store) state.old.log by.ops writes.items }
+    requires agrees { IsStateByCommit (K.seen state.old.store) state.old.log by.ops writes.items }
     requires writes { AllByRecursion (IsWrite state.old.log.events) writes.items }
     requires all { AreWrites state.old.log.events by.ops writes.items }
     requires some { 0 < length writes.items }
     requires rest { by.writes ≡ filter is_write by.ops }
-    ensures made { let seen = seen_of K.contents K.faults K.prefixes K.names K.standing K.change_count in
-        IsMade owner (seen state.old.store) (seen state.new.store) state.old.log state.new.log 1 writes.entry.items (each_event owner by.line by.mode by.ops (write_keys writes.entry.items)) result }
-    ensures frame { let seen = seen_of K.contents K.faults K.prefixes K.names K.standing K.change_count in IsFrame (seen state.old.store) (seen state.new.store) }
-    ensures kept { let seen = seen_of K.contents K.faults K.prefixes K.names K.standing K.change_count in
-        KeepsByCommit (seen state.old.store) state.old.log by.ops writes.entry.items (seen state.new.store) state.new.log }
+    ensures made { IsMade owner (K.seen state.old.store)
+        (K.seen state.new.store) state.old.log state.new.log 1 writes.entry.items
+        (each_event owner by.line by.mode by.ops (write_keys writes.entry.items)) result }
+    ensures frame { IsFrame (K.seen state.old.store) (K.seen state.new.store) }
+    ensures kept { KeepsByCommit (K.seen state.old.store) state.old.log by.ops writes.entry.items
+        (K.seen state.new.store) state.new.log }
 {
     let number = state.events().len() as u64 + 1;
     match plan_writes(alloc, state, owner, number, 1, writes) {

@@ -3,7 +3,7 @@ ghost use Rattle.std.specs.Prelude.{◌≡◌, ◌⊎◌, ◌∷◌, [], length,
 ghost use Rattle.std.specs.List.{AllByRecursion};
 ghost use Rattle.history.specs.Commit.{are_together};
 ghost use Rattle.run_records.specs.Recorded.{done_event};
-ghost use Rattle.state_laws.specs.Seen.{IsFrame, seen_of};
+ghost use Rattle.state_laws.specs.Seen.{IsFrame};
 ghost use Rattle.state_laws.specs.Agreement.{IsState};
 ghost use Rattle.state_laws.specs.Changing.{AreMade};
 ghost use Rattle.state_commits.specs.Plans.{ArePlans, KeepsByPlans, changes_of};
@@ -35,14 +35,16 @@ fn make_joint<K: KvStore>(
     commit: Commit,
     plans: Vec<Planned>,
 ) -> Result<List<u64>, CommitRefused>
-    requires agrees { let seen = seen_of K.contents K.faults K.prefixes K.names K.standing K.change_count in IsState (seen state.old.store) state.old.log }
+    requires agrees { IsState (K.seen state.old.store) state.old.log }
     requires plans { ArePlans state.old.log (done_event owner commit) plans.items }
-    requires made { let seen = seen_of K.contents K.faults K.prefixes K.names K.standing K.change_count in AreMade (seen state.old.store) (changes_of plans.items) }
-    requires mount { IsAmongOn state.old.log.events (plan_arrays plans.items) mount ⊎ (length (changes_of plans.items) ≡ 0) }
-    ensures made { let seen = seen_of K.contents K.faults K.prefixes K.names K.standing K.change_count in
-        IsMadeEach owner (plan_arrays plans.items) (seen state.old.store) (seen state.new.store) state.old.log.events state.new.log.events (done_event owner commit ∷ []) result }
-    ensures frame { let seen = seen_of K.contents K.faults K.prefixes K.names K.standing K.change_count in IsFrame (seen state.old.store) (seen state.new.store) }
-    ensures kept { let seen = seen_of K.contents K.faults K.prefixes K.names K.standing K.change_count in KeepsByPlans (seen state.old.store) state.old.log owner commit plans.items (seen state.new.store) state.new.log }
+    requires made { AreMade (K.seen state.old.store) (changes_of plans.items) }
+    requires mount { IsAmongOn state.old.log.events (plan_arrays plans.items) mount
+        ⊎ (length (changes_of plans.items) ≡ 0) }
+    ensures made { IsMadeEach owner (plan_arrays plans.items) (K.seen state.old.store)
+        (K.seen state.new.store) state.old.log.events state.new.log.events (done_event owner commit ∷ []) result }
+    ensures frame { IsFrame (K.seen state.old.store) (K.seen state.new.store) }
+    ensures kept { KeepsByPlans (K.seen state.old.store) state.old.log owner commit plans.items
+        (K.seen state.new.store) state.new.log }
 {
     let mut numbers = Vec::with_capacity(alloc, 1)?;
     match commit_planned(alloc, state, owner, mount, commit, plans) {
@@ -62,16 +64,18 @@ pub(crate) fn commit_joint<K: KvStore>(
     commit: Commit,
     writes: Vec<ChunkWrite<'_>>,
 ) -> Result<List<u64>, CommitRefused>
-    requires agrees { let seen = seen_of K.contents K.faults K.prefixes K.names K.standing K.change_count in IsState (seen state.old.store) state.old.log }
+    requires agrees { IsState (K.seen state.old.store) state.old.log }
     requires writes { AllByRecursion (IsWrite state.old.log.events) writes.items }
     requires all { AreWrites state.old.log.events commit.ops writes.items }
     requires whole { commit.key ≡ None }
-    requires together { are_together (K.prefixes state.old.store) (stored_write_keys state.old.log.events writes.items) ≡ true }
-    ensures made { let seen = seen_of K.contents K.faults K.prefixes K.names K.standing K.change_count in
-        IsMade owner (seen state.old.store) (seen state.new.store) state.old.log state.new.log 0 writes.entry.items (done_event owner commit ∷ []) result }
-    ensures frame { let seen = seen_of K.contents K.faults K.prefixes K.names K.standing K.change_count in IsFrame (seen state.old.store) (seen state.new.store) }
-    ensures kept { let seen = seen_of K.contents K.faults K.prefixes K.names K.standing K.change_count in
-        KeepsByCommit (seen state.old.store) state.old.log commit.ops writes.entry.items (seen state.new.store) state.new.log }
+    requires together { are_together ((K.seen state.old.store).prefixes)
+        (stored_write_keys state.old.log.events writes.items) ≡ true }
+    ensures made { IsMade owner (K.seen state.old.store)
+        (K.seen state.new.store) state.old.log state.new.log 0 writes.entry.items
+        (done_event owner commit ∷ []) result }
+    ensures frame { IsFrame (K.seen state.old.store) (K.seen state.new.store) }
+    ensures kept { KeepsByCommit (K.seen state.old.store) state.old.log commit.ops writes.entry.items
+        (K.seen state.new.store) state.new.log }
 {
     let mount = mount_of_writes(alloc, state, &writes)?;
     let number = state.events().len() as u64 + 1;

@@ -1,6 +1,5 @@
 // Chunks that were read and have later generations now.
 ghost use Rattle.std.specs.Prelude.{◌≡◌, ◌<◌, Some, IfOk};
-ghost use Rattle.state_laws.specs.Seen.{seen_of};
 ghost use Rattle.state_laws.specs.Agreement.{IsState};
 ghost use Rattle.commits.specs.Late.{IsFirstLate};
 
@@ -20,7 +19,8 @@ pub(crate) struct Late {
 }
 
 fn later(alloc: Global, mark: &Mark, now: u64) -> Result<Option<Late>, AllocError>
-    ensures { IfOk result (λ found. found ≡ Some (record { key = mark.now.key; read = mark.now.generation; now = now })) }
+    ensures { IfOk result (λ found. found ≡ Some
+        (record { key = mark.now.key; read = mark.now.generation; now = now })) }
 {
     Ok(Some(Late {
         key: copy_name(alloc, mark.key.items())?,
@@ -35,7 +35,7 @@ pub(crate) fn first_late<K: KvStore>(
     state: &State<K>,
     marks: &[Mark],
 ) -> Result<Option<Late>, AllocError>
-    requires agrees { let seen = seen_of K.contents K.faults K.prefixes K.names K.standing K.change_count in IsState (seen state.now.store) state.now.log }
+    requires agrees { IsState (K.seen state.now.store) state.now.log }
     ensures { IfOk result (IsFirstLate state.now.log marks.now) }
 {
     for mark in marks {

@@ -3,7 +3,6 @@ ghost use Rattle.std.specs.Prelude.{◌≡◌, ◌↔◌, Some, IfOk, IsTrue, fa
 ghost use Rattle.std.specs.List.{AllByRecursion};
 ghost use Rattle.history.specs.Arrays.{Known, known_after, chunk_shape, is_local};
 ghost use Rattle.chunk_laying.specs.Laid.{IsStagedWithin};
-ghost use Rattle.state_laws.specs.Seen.{seen_of};
 ghost use Rattle.state_laws.specs.Agreement.{IsState};
 ghost use Rattle.commits.specs.Outside.{IsFirstOutside, IsToldOf, TellsOutside};
 ghost use Rattle.commits.specs.Writes.{IsSizedWrite};
@@ -25,10 +24,12 @@ pub(crate) struct Outside {
 
 /// Whether each word that is staged for a chunk of a stored array is of a cell in the array's shape.
 fn is_within<K: KvStore>(state: &State<K>, write: &ChunkWrite<'_>) -> Result<bool, AllocError>
-    requires agrees { let seen = seen_of K.contents K.faults K.prefixes K.names K.standing K.change_count in IsState (seen state.now.store) state.now.log }
+    requires agrees { IsState (K.seen state.now.store) state.now.log }
     requires write { IsSizedWrite state.now.log.events write.now }
-    requires stored { (k : Known) → known_after state.now.log.events write.now.array ≡ Some k → is_local k.info.home ≡ false }
-    ensures { IfOk result (λ b. (k : Known) → known_after state.now.log.events write.now.array ≡ Some k → IsTrue b ↔ IsStagedWithin k.shape (chunk_shape k.info) write.now.chunk.now write.now.staged.now) }
+    requires stored { (k : Known) → known_after state.now.log.events write.now.array ≡ Some k
+        → is_local k.info.home ≡ false }
+    ensures { IfOk result (λ b. (k : Known) → known_after state.now.log.events write.now.array ≡ Some k → IsTrue b
+        ↔ IsStagedWithin k.shape (chunk_shape k.info) write.now.chunk.now write.now.staged.now) }
 {
     let form = state.info(write.array)?;
     Ok(stays_within(form.shape(), form.chunk_shape(), write.chunk, write.staged))
@@ -36,9 +37,10 @@ fn is_within<K: KvStore>(state: &State<K>, write: &ChunkWrite<'_>) -> Result<boo
 
 /// What is told of an array of which a written cell lies outside.
 fn told<K: KvStore>(state: &State<K>, array: u64) -> Result<Option<Outside>, AllocError>
-    requires agrees { let seen = seen_of K.contents K.faults K.prefixes K.names K.standing K.change_count in IsState (seen state.now.store) state.now.log }
+    requires agrees { IsState (K.seen state.now.store) state.now.log }
     requires stored { (k : Known) × (known_after state.now.log.events array ≡ Some k) × (is_local k.info.home ≡ false) }
-    ensures { IfOk result (λ found. (k : Known) → known_after state.now.log.events array ≡ Some k → IsToldOf state.now.log.events array k found) }
+    ensures { IfOk result (λ found. (k : Known) → known_after state.now.log.events array ≡ Some k
+        → IsToldOf state.now.log.events array k found) }
 {
     let key = state.metadata_key(array)?;
     let now = state.bounds(array)?.resized;
@@ -49,9 +51,10 @@ fn beyond<K: KvStore>(
     state: &State<K>,
     write: &ChunkWrite<'_>,
 ) -> Result<Option<Outside>, AllocError>
-    requires agrees { let seen = seen_of K.contents K.faults K.prefixes K.names K.standing K.change_count in IsState (seen state.now.store) state.now.log }
+    requires agrees { IsState (K.seen state.now.store) state.now.log }
     requires write { IsSizedWrite state.now.log.events write.now }
-    ensures { IfOk result (λ found. (k : Known) → known_after state.now.log.events write.now.array ≡ Some k → TellsOutside state.now.log.events k write.now found) }
+    ensures { IfOk result (λ found. (k : Known) → known_after state.now.log.events write.now.array ≡ Some k
+        → TellsOutside state.now.log.events k write.now found) }
 {
     if state.is_local(write.array) || is_within(state, write)? {
         return Ok(None);
@@ -64,7 +67,7 @@ pub(crate) fn first_outside<K: KvStore>(
     state: &State<K>,
     writes: &[ChunkWrite<'_>],
 ) -> Result<Option<Outside>, AllocError>
-    requires agrees { let seen = seen_of K.contents K.faults K.prefixes K.names K.standing K.change_count in IsState (seen state.now.store) state.now.log }
+    requires agrees { IsState (K.seen state.now.store) state.now.log }
     requires writes { AllByRecursion (IsSizedWrite state.now.log.events) writes.now }
     ensures { IfOk result (IsFirstOutside state.now.log.events writes.now) }
 {

@@ -2,7 +2,7 @@
 ghost use Rattle.std.specs.Prelude.{◌≡◌, ◌+◌, ◌*◌, ◌<◌, ◌^◌, ℕ, List, Ok, Err, IfOk, OnOk, length};
 ghost use Rattle.std.specs.List.{AllByRecursion};
 ghost use Rattle.chunk_forms.specs.declared.form.Damage.{Damage as DamageOf};
-ghost use Rattle.state_laws.specs.Seen.{IsRead, seen_of};
+ghost use Rattle.state_laws.specs.Seen.{IsRead};
 ghost use Rattle.state_laws.specs.Agreement.{IsState, KeepsAgreement};
 ghost use Rattle.chunk_plans.specs.Writes.{IsSameButCache, IsWrite};
 ghost use Rattle.commits.specs.Planning.{ArePlannedBy, HasFailedFor, IsFirstDamaged, write_arrays};
@@ -23,18 +23,21 @@ pub(crate) fn plan_writes<K: KvStore>(
     step: u64,
     writes: Vec<ChunkWrite<'_>>,
 ) -> Result<Vec<Planned>, FetchError>
-    requires agrees { let seen = seen_of K.contents K.faults K.prefixes K.names K.standing K.change_count in IsState (seen state.old.store) state.old.log }
+    requires agrees { IsState (K.seen state.old.store) state.old.log }
     requires writes { AllByRecursion (IsWrite state.old.log.events) writes.items }
     requires numbers { number + step * length writes.items < 2 ^ 64 }
-    ensures plans { let seen = seen_of K.contents K.faults K.prefixes K.names K.standing K.change_count in IfOk result (λ plans. ArePlannedBy (seen state.old.store) state.old.log number step writes.entry.items plans.items) }
+    ensures plans { IfOk result (λ plans. ArePlannedBy
+        (K.seen state.old.store) state.old.log number step writes.entry.items plans.items) }
     ensures same { OnOk result (IsSameButCache state.old.log state.new.log) }
-    ensures read { let seen = seen_of K.contents K.faults K.prefixes K.names K.standing K.change_count in IsRead (seen state.old.store) (seen state.new.store) }
-    ensures failed { (event : ℕ) → result ≡ Err (FetchError.StoreFailed event) → let seen = seen_of K.contents K.faults K.prefixes K.names K.standing K.change_count in
-        HasFailedFor owner (write_arrays writes.entry.items) (seen state.old.store) (seen state.new.store) state.old.log.events state.new.log.events event }
-    ensures damaged { (name : List ℕ) (cause : DamageOf) → result ≡ Err (FetchError.Damaged name cause) → let seen = seen_of K.contents K.faults K.prefixes K.names K.standing K.change_count in
-        (state.new.log.events ≡ state.old.log.events) × IsFirstDamaged (seen state.old.store) state.old.log number step writes.entry.items name cause }
+    ensures read { IsRead (K.seen state.old.store) (K.seen state.new.store) }
+    ensures failed { (event : ℕ) → result ≡ Err (FetchError.StoreFailed event)
+        → HasFailedFor owner (write_arrays writes.entry.items) (K.seen state.old.store)
+        (K.seen state.new.store) state.old.log.events state.new.log.events event }
+    ensures damaged { (name : List ℕ) (cause : DamageOf) → result ≡ Err (FetchError.Damaged name cause)
+        → (state.new.log.events ≡ state.old.log.events)
+        × IsFirstDamaged (K.seen state.old.store) state.old.log number step writes.entry.items name cause }
     ensures memory { result ≡ Err FetchError.Memory → state.new.log.events ≡ state.old.log.events }
-    ensures kept { let seen = seen_of K.contents K.faults K.prefixes K.names K.standing K.change_count in KeepsAgreement (seen state.old.store) state.old.log (seen state.new.store) state.new.log }
+    ensures kept { KeepsAgreement (K.seen state.old.store) state.old.log (K.seen state.new.store) state.new.log }
 {
     let mut plans = Vec::with_capacity(alloc, writes.len())?;
     let mut next = number;

@@ -21,7 +21,8 @@ fn add_stored<K: KvStore>(
     write: &ChunkWrite<'_>,
 ) -> Result<(), AllocError>
     requires known { IsSome (known_after state.now.log.events write.now.array) }
-    ensures { OnOk result (keys_of changes.new.items ≡ keys_of changes.old.items ++ stored_write_keys state.now.log.events (write.now ∷ [])) }
+    ensures { OnOk result (keys_of changes.new.items
+        ≡ keys_of changes.old.items ++ stored_write_keys state.now.log.events (write.now ∷ [])) }
 {
     if state.is_local(write.array) {
         return Ok(());

@@ -2,7 +2,6 @@
 ghost use Rattle.std.specs.Prelude.{IfOk, IsSome};
 ghost use Rattle.std.specs.List.{AllByRecursion};
 ghost use Rattle.history.specs.Arrays.{known_after};
-ghost use Rattle.state_laws.specs.Seen.{seen_of};
 ghost use Rattle.state_laws.specs.Agreement.{IsState};
 ghost use Rattle.chunk_plans.specs.declared.write.ChunkWrite.{ChunkWrite as WriteOf};
 ghost use Rattle.commits.specs.Ways.{IsLateOf, IsSplit, IsWay, TellsApart};
@@ -31,7 +30,7 @@ fn late_of<K: KvStore>(
     state: &State<K>,
     p: &Prepared<'_>,
 ) -> Result<Option<Late>, AllocError>
-    requires agrees { let seen = seen_of K.contents K.faults K.prefixes K.names K.standing K.change_count in IsState (seen state.now.store) state.now.log }
+    requires agrees { IsState (K.seen state.now.store) state.now.log }
     ensures { IfOk result (IsLateOf state.now.log p.now) }
 {
     if !p.mode.repeatable_read {
@@ -47,7 +46,8 @@ fn apart<K: KvStore>(
     writes: &[ChunkWrite<'_>],
 ) -> Result<Option<u64>, AllocError>
     requires known { AllByRecursion (λ (w : WriteOf). IsSome (known_after state.now.log.events w.array)) writes.now }
-    ensures { IfOk result (TellsApart (K.prefixes state.now.store) (stored_write_keys state.now.log.events writes.now)) }
+    ensures { IfOk result (TellsApart ((K.seen state.now.store).prefixes)
+        (stored_write_keys state.now.log.events writes.now)) }
 {
     let changes = stored_changes(alloc, state, writes)?;
     if state.together(&changes) {
@@ -62,8 +62,9 @@ fn split<K: KvStore>(
     state: &State<K>,
     p: &Prepared<'_>,
 ) -> Result<Way, CommitRefused>
-    requires known { AllByRecursion (λ (w : WriteOf). IsSome (known_after state.now.log.events w.array)) p.now.writes.items }
-    ensures { IsSplit (K.prefixes state.now.store) state.now.log p.now result }
+    requires known { AllByRecursion (λ (w : WriteOf).
+        IsSome (known_after state.now.log.events w.array)) p.now.writes.items }
+    ensures { IsSplit ((K.seen state.now.store).prefixes) state.now.log p.now result }
 {
     match apart(alloc, state, &p.writes)? {
         None => Ok(Way::Whole),
@@ -78,9 +79,9 @@ pub(crate) fn way_of<K: KvStore>(
     state: &State<K>,
     p: &Prepared<'_>,
 ) -> Result<Way, CommitRefused>
-    requires agrees { let seen = seen_of K.contents K.faults K.prefixes K.names K.standing K.change_count in IsState (seen state.now.store) state.now.log }
+    requires agrees { IsState (K.seen state.now.store) state.now.log }
     requires writes { AllByRecursion (IsSizedWrite state.now.log.events) p.now.writes.items }
-    ensures { IsWay (K.prefixes state.now.store) state.now.log p.now result }
+    ensures { IsWay ((K.seen state.now.store).prefixes) state.now.log p.now result }
 {
     if let Some(late) = late_of(alloc, state, p)? {
         return Err(CommitRefused::Conflict {

@@ -132,7 +132,8 @@ fn emptied_dims(
     selected: &[usize],
 ) -> Result<Vec<Interval>, AllocError>
     requires { (spot : ℕ) → HasIndicesAt act.now spot }
-    ensures { IfOk result (λ v. v.items ≡ map (emptied_dim act.now dims.now selected.now) (range_with_len 0 (length dims.now))) }
+    ensures { IfOk result (λ v. v.items ≡ map (emptied_dim act.now dims.now selected.now)
+        (range_with_len 0 (length dims.now))) }
 {
     let mut news = Vec::with_capacity(alloc, dims.len())?;
     for dim in 0..dims.len() {
@@ -200,7 +201,8 @@ fn cut_maps(
 ) -> Result<Vec<OutMap>, AllocError>
     requires few { length dims.now ≤ 32 }
     requires indices { (spot : ℕ) → HasIndicesAt act.now spot }
-    ensures { IfOk result (λ v. v.items ≡ map (cut_map act.now dims.now selected.now) (range_with_len 0 (length dims.now))) }
+    ensures { IfOk result (λ v. v.items ≡ map (cut_map act.now dims.now selected.now)
+        (range_with_len 0 (length dims.now))) }
 {
     let mut maps = Vec::with_capacity(alloc, dims.len())?;
     for dim in 0..dims.len() {
@@ -237,7 +239,8 @@ fn with_refilled(
 ) -> Result<Transform, Fault>
     requires indices { (spot : ℕ) → HasIndicesAt act.now spot }
     requires composed { IsComposed u.now selected.now act.now t }
-    ensures { Gives u.now (cut_view u.now selected.now act.now) (over u.now (cut_view u.now selected.now act.now)) result }
+    ensures { Gives u.now (cut_view u.now selected.now act.now)
+        (over u.now (cut_view u.now selected.now act.now)) result }
 {
     let olds = u.domain().dims.items();
     let dims = refilled_dims(alloc, act, olds, selected, t.domain().dims.items())?;
@@ -249,7 +252,8 @@ fn with_refilled(
 // The cuts of all dimensions, for a step that no cause is against.
 fn cut_over(alloc: Global, u: &Transform, selected: &[usize], act: &Act) -> Result<Transform, Fault>
     requires { (spot : ℕ) → HasIndicesAt act.now spot }
-    ensures { Gives u.now (cut_view u.now selected.now act.now) (over u.now (cut_view u.now selected.now act.now)) result }
+    ensures { Gives u.now (cut_view u.now selected.now act.now)
+        (over u.now (cut_view u.now selected.now act.now)) result }
 {
     let domain = emptied_domain(alloc, u, selected, act)?;
     let maps = cut_maps(alloc, act, u.domain().dims.items(), selected)?;

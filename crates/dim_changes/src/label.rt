@@ -31,7 +31,8 @@ fn new_labels(
     labels: &[Name],
 ) -> Result<Vec<Name>, AllocError>
     requires same { length labels.now ≡ length selected.now }
-    ensures { IfOk result (λ v. v.items ≡ map (new_label olds.now selected.now labels.now) (range_with_len 0 (length olds.now))) }
+    ensures { IfOk result (λ v. v.items ≡ map (new_label olds.now selected.now labels.now)
+        (range_with_len 0 (length olds.now))) }
 {
     let mut news = Vec::with_capacity(alloc, olds.len())?;
     for dim in 0..olds.len() {
@@ -65,7 +66,11 @@ fn labelled_domain(
     labels: &[Name],
 ) -> Result<Domain, AllocError>
     requires { length labels.now ≡ length selected.now }
-    ensures { IfOk result (λ domain. domain ≡ record { dims = old.now.dims; labels = map (new_label old.now.labels selected.now labels.now) (range_with_len 0 (length old.now.labels)) }) }
+    ensures { IfOk result (λ domain. domain ≡ record {
+      dims = old.now.dims;
+      labels = map
+          (new_label old.now.labels selected.now labels.now) (range_with_len 0 (length old.now.labels));
+    }) }
 {
     let dims = Vec::from_slice(alloc, old.dims.items())?;
     let news = new_labels(alloc, old.labels.items(), selected, labels)?;

@@ -51,7 +51,8 @@ fn marked_dims(
     lower: Option<bool>,
     upper: Option<bool>,
 ) -> Result<Vec<Interval>, AllocError>
-    ensures { IfOk result (λ v. v.items ≡ map (marked_dim dims.now selected.now lower upper) (range_with_len 0 (length dims.now))) }
+    ensures { IfOk result (λ v. v.items ≡ map (marked_dim dims.now selected.now lower upper)
+        (range_with_len 0 (length dims.now))) }
 {
     let mut news = Vec::with_capacity(alloc, dims.len())?;
     for dim in 0..dims.len() {

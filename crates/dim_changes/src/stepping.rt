@@ -20,7 +20,8 @@ pub fn stepped(
     maps: Vec<OutMap>,
 ) -> Result<Transform, Fault>
     requires { KeepsRules (record { domain = domain; maps = maps.items }) }
-    ensures { Gives outer.now (record { domain = domain; maps = maps.items }) (or_cause (composed outer.now (record { domain = domain; maps = maps.items }))) result }
+    ensures { Gives outer.now (record { domain = domain; maps = maps.items })
+        (or_cause (composed outer.now (record { domain = domain; maps = maps.items }))) result }
 {
     agreeing(alloc, outer, domain, maps)
 }
@@ -33,7 +34,8 @@ pub(crate) fn agreeing(
     maps: Vec<OutMap>,
 ) -> Result<Transform, Fault>
     requires { KeepsRules (record { domain = domain; maps = maps.items }) }
-    ensures given { Gives outer.now (record { domain = domain; maps = maps.items }) (or_cause (composed outer.now (record { domain = domain; maps = maps.items }))) result }
+    ensures given { Gives outer.now (record { domain = domain; maps = maps.items })
+        (or_cause (composed outer.now (record { domain = domain; maps = maps.items }))) result }
     ensures agrees { IfOk result (λ t. Agrees t outer.now (record { domain = domain; maps = maps.items })) }
 {
     match Transform::new(domain, maps) {

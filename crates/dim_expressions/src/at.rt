@@ -95,7 +95,8 @@ fn at_maps(
 ) -> Result<Vec<OutMap>, AllocError>
     requires counts { numbers_count by.now (length selected.now) ≡ true }
     requires few { length rest.now ≤ 32 }
-    ensures { IfOk result (λ v. v.items ≡ map (left_map selected.now rest.now 0 (at_map by.now)) (range_with_len 0 rank)) }
+    ensures { IfOk result (λ v. v.items ≡ map (left_map selected.now rest.now 0 (at_map by.now))
+        (range_with_len 0 rank)) }
 {
     let mut maps = Vec::with_capacity(alloc, rank)?;
     for dim in 0..rank {

@@ -101,7 +101,11 @@ pub(crate) fn left_domain(
     rest: &[usize],
 ) -> Result<Domain, AllocError>
     requires { All (λ dim. dim < length u.now.domain.dims) rest.now }
-    ensures { IfOk result (λ domain. domain ≡ record { dims = map (dim_at u.now.domain.dims) rest.now; labels = map (label_at u.now.domain.labels) rest.now }) }
+    ensures { IfOk result (λ domain. domain ≡ record {
+      dims = map (dim_at u.now.domain.dims) rest.now;
+      labels = map
+          (label_at u.now.domain.labels) rest.now;
+    }) }
 {
     let dims = left_dims(Vec::new(alloc), u.domain().dims.items(), rest)?;
     let labels = left_labels(alloc, Vec::new(alloc), u.domain().labels.items(), rest)?;
@@ -119,7 +123,11 @@ pub(crate) fn front_domain(
     rest: &[usize],
 ) -> Result<Domain, AllocError>
     requires { All (λ dim. dim < length u.now.domain.dims) rest.now }
-    ensures { IfOk result (λ domain. domain ≡ record { dims = first ∷ map (dim_at u.now.domain.dims) rest.now; labels = [] ∷ map (label_at u.now.domain.labels) rest.now }) }
+    ensures { IfOk result (λ domain. domain ≡ record {
+      dims = first ∷ map
+          (dim_at u.now.domain.dims) rest.now;
+      labels = [] ∷ map (label_at u.now.domain.labels) rest.now;
+    }) }
 {
     let dims = left_dims(one_dim(alloc, first)?, u.domain().dims.items(), rest)?;
     let labels = left_labels(alloc, one_label(alloc)?, u.domain().labels.items(), rest)?;

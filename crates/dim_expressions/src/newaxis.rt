@@ -43,7 +43,8 @@ fn axes(
     count: usize,
 ) -> Result<Vec<Interval>, AllocError>
     requires { length olds.now ≤ length dims.now }
-    ensures { IfOk result (λ v. v.items ≡ map (λ position. axis_by dims.now (spot_in olds.now position)) (range_with_len 0 count)) }
+    ensures { IfOk result (λ v. v.items ≡ map (λ position.
+        axis_by dims.now (spot_in olds.now position)) (range_with_len 0 count)) }
 {
     let mut news = Vec::with_capacity(alloc, count)?;
     for position in 0..count {
@@ -75,7 +76,8 @@ fn axis_labels(
     count: usize,
 ) -> Result<Vec<Name>, AllocError>
     requires { length olds.now ≤ length labels.now }
-    ensures { IfOk result (λ v. v.items ≡ map (λ position. axis_label_by labels.now (spot_in olds.now position)) (range_with_len 0 count)) }
+    ensures { IfOk result (λ v. v.items ≡ map (λ position.
+        axis_label_by labels.now (spot_in olds.now position)) (range_with_len 0 count)) }
 {
     let mut news = Vec::with_capacity(alloc, count)?;
     for position in 0..count {
@@ -94,7 +96,8 @@ fn axis_domain(
     requires { length spots.now ≤ length u.now.domain.dims }
     ensures { IfOk result (λ domain. domain ≡ record {
       dims = map (λ position. axis_by u.now.domain.dims (spot_in spots.now position)) (range_with_len 0 count);
-      labels = map (λ position. axis_label_by u.now.domain.labels (spot_in spots.now position)) (range_with_len 0 count);
+      labels = map (λ position. axis_label_by u.now.domain.labels (spot_in spots.now position))
+          (range_with_len 0 count);
     }) }
 {
     let dims = axes(alloc, u.domain().dims.items(), spots, count)?;

@@ -32,7 +32,8 @@ fn indexed_dims(
     arrays: &[Index],
 ) -> Result<Vec<Interval>, AllocError>
     requires same { length arrays.now ≡ length selected.now }
-    ensures { IfOk result (λ v. v.items ≡ map (indexed_dim dims.now selected.now arrays.now) (range_with_len 0 (length dims.now))) }
+    ensures { IfOk result (λ v. v.items ≡ map (indexed_dim dims.now selected.now arrays.now)
+        (range_with_len 0 (length dims.now))) }
 {
     let mut news = Vec::with_capacity(alloc, dims.len())?;
     for dim in 0..dims.len() {
@@ -62,7 +63,8 @@ fn indexed_labels(
     labels: &[Name],
     selected: &[usize],
 ) -> Result<Vec<Name>, AllocError>
-    ensures { IfOk result (λ v. v.items ≡ map (indexed_label labels.now selected.now) (range_with_len 0 (length labels.now))) }
+    ensures { IfOk result (λ v. v.items ≡ map (indexed_label labels.now selected.now)
+        (range_with_len 0 (length labels.now))) }
 {
     let mut news = Vec::with_capacity(alloc, labels.len())?;
     for dim in 0..labels.len() {
@@ -137,7 +139,8 @@ fn indexed(
 ) -> Result<Transform, Fault>
     requires same { length arrays.now ≡ length selected.now }
     requires good { first_cause (array_causes u.now arrays.now selected.now) ≡ None }
-    ensures { Gives u.now (oindex_view u.now selected.now arrays.now) (over u.now (oindex_view u.now selected.now arrays.now)) result }
+    ensures { Gives u.now (oindex_view u.now selected.now arrays.now)
+        (over u.now (oindex_view u.now selected.now arrays.now)) result }
 {
     let domain = indexed_domain(alloc, u, selected, arrays)?;
     look_at_dims(&domain);
@@ -162,7 +165,8 @@ pub(crate) fn oindex(
     arrays: &[Index],
 ) -> Result<Transform, Fault>
     requires known { All (λ dim. dim < length u.now.domain.dims) selected.now }
-    ensures { Gives u.now (oindex_view u.now selected.now arrays.now) (oindex_answer u.now selected.now arrays.now) result }
+    ensures { Gives u.now (oindex_view u.now selected.now arrays.now)
+        (oindex_answer u.now selected.now arrays.now) result }
 {
     if arrays.len() != selected.len() {
         return Err(Fault::Refused {

@@ -113,7 +113,8 @@ fn positions_passed(
     targets: &[usize],
 ) -> Result<Vec<OutMap>, AllocError>
     requires { All (λ position. position < 32) (map (carried rank selected.now targets.now) (range_with_len 0 rank)) }
-    ensures { IfOk result (λ v. v.items ≡ map passed (map (carried rank selected.now targets.now) (range_with_len 0 rank))) }
+    ensures { IfOk result (λ v. v.items ≡ map passed
+        (map (carried rank selected.now targets.now) (range_with_len 0 rank))) }
 {
     let positions = carried_all(alloc, rank, selected, targets)?;
     passed_each(alloc, &positions)
@@ -131,7 +132,8 @@ fn transposed(
     requires known_targets { All (λ dim. dim < length u.now.domain.dims) targets.now }
     requires once_targets { has_repeat targets.now ≡ false }
     requires same { length targets.now ≡ length selected.now }
-    ensures outcome { Gives u.now (transpose_view u.now selected.now targets.now) (over u.now (transpose_view u.now selected.now targets.now)) result }
+    ensures outcome { Gives u.now (transpose_view u.now selected.now targets.now)
+        (over u.now (transpose_view u.now selected.now targets.now)) result }
     ensures inverse { OnOk result (AreInverse (length u.now.domain.dims) selected.now targets.now) }
 {
     let from = carried_all(alloc, u.domain().dims.items().len(), targets, selected)?;
@@ -152,8 +154,10 @@ fn transposed_from(
     requires known_targets { All (λ dim. dim < length u.now.domain.dims) targets.now }
     requires once_targets { has_repeat targets.now ≡ false }
     requires same { length targets.now ≡ length selected.now }
-    requires from { from.now ≡ map (carried (length u.now.domain.dims) targets.now selected.now) (range_with_len 0 (length u.now.domain.dims)) }
-    ensures { Gives u.now (transpose_view u.now selected.now targets.now) (over u.now (transpose_view u.now selected.now targets.now)) result }
+    requires from { from.now ≡ map (carried (length u.now.domain.dims) targets.now selected.now)
+        (range_with_len 0 (length u.now.domain.dims)) }
+    ensures { Gives u.now (transpose_view u.now selected.now targets.now)
+        (over u.now (transpose_view u.now selected.now targets.now)) result }
 {
     let domain = left_domain(alloc, u, from)?;
     let maps = positions_passed(alloc, u.domain().dims.items().len(), selected, targets)?;
@@ -171,7 +175,8 @@ fn to_targets(
     requires once { has_repeat selected.now ≡ false }
     requires known_targets { All (λ dim. dim < length u.now.domain.dims) targets.now }
     requires same { length targets.now ≡ length selected.now }
-    ensures { Gives u.now (transpose_view u.now selected.now targets.now) (to_targets u.now selected.now (Some targets.now)) result }
+    ensures { Gives u.now (transpose_view u.now selected.now targets.now)
+        (to_targets u.now selected.now (Some targets.now)) result }
 {
     if has_repeat(alloc, u.domain().dims.items().len(), targets)? {
         return Err(Fault::Refused {
@@ -198,7 +203,9 @@ pub(crate) fn transpose(
 ) -> Result<Transform, Fault>
     requires known { All (λ dim. dim < length u.now.domain.dims) selected.now }
     requires once { has_repeat selected.now ≡ false }
-    ensures { Gives u.now (transpose_view u.now selected.now (unwrap_or (all_of (position_of (length u.now.domain.dims)) targets.now) [])) (transpose_answer u.now selected.now targets.now) result }
+    ensures { Gives u.now (transpose_view u.now selected.now
+        (unwrap_or (all_of (position_of (length u.now.domain.dims)) targets.now) []))
+        (transpose_answer u.now selected.now targets.now) result }
 {
     if targets.len() != selected.len() {
         return Err(Fault::Refused {

@@ -64,7 +64,8 @@ fn built_maps(
 ) -> Result<Vec<OutMap>, AllocError>
     requires few { 1 + length rest.now ≤ 32 }
     requires same { length arrays.now ≡ length selected.now }
-    ensures { IfOk result (λ v. v.items ≡ map (left_map selected.now rest.now 1 (built_map (length rest.now) arrays.now)) (range_with_len 0 rank)) }
+    ensures { IfOk result (λ v. v.items ≡ map
+        (left_map selected.now rest.now 1 (built_map (length rest.now) arrays.now)) (range_with_len 0 rank)) }
 {
     let mut maps = Vec::with_capacity(alloc, rank)?;
     for dim in 0..rank {
@@ -91,7 +92,8 @@ fn joined(
     requires known { All (λ dim. dim < length u.now.domain.dims) selected.now }
     requires joined { are_joined arrays.now (length selected.now) ≡ true }
     requires good { first_cause (array_causes u.now arrays.now selected.now) ≡ None }
-    ensures { Gives u.now (vindex_view u.now selected.now arrays.now) (over u.now (vindex_view u.now selected.now arrays.now)) result }
+    ensures { Gives u.now (vindex_view u.now selected.now arrays.now)
+        (over u.now (vindex_view u.now selected.now arrays.now)) result }
 {
     let rest = others(alloc, selected, u.domain().dims.items().len())?;
     joined_before(alloc, u, selected, &rest, arrays)
@@ -109,7 +111,8 @@ fn joined_before(
     requires joined { are_joined arrays.now (length selected.now) ≡ true }
     requires good { first_cause (array_causes u.now arrays.now selected.now) ≡ None }
     requires rest { rest.now ≡ others selected.now (length u.now.domain.dims) }
-    ensures { Gives u.now (vindex_view u.now selected.now arrays.now) (over u.now (vindex_view u.now selected.now arrays.now)) result }
+    ensures { Gives u.now (vindex_view u.now selected.now arrays.now)
+        (over u.now (vindex_view u.now selected.now arrays.now)) result }
 {
     let domain = front_domain(alloc, first_dim(arrays), u, rest)?;
     look_at_dims(&domain);
@@ -134,7 +137,8 @@ pub(crate) fn vindex(
     arrays: &[Index],
 ) -> Result<Transform, Fault>
     requires known { All (λ dim. dim < length u.now.domain.dims) selected.now }
-    ensures { Gives u.now (vindex_view u.now selected.now arrays.now) (vindex_answer u.now selected.now arrays.now) result }
+    ensures { Gives u.now (vindex_view u.now selected.now arrays.now)
+        (vindex_answer u.now selected.now arrays.now) result }
 {
     if !are_joined(arrays, selected.len()) {
         return Err(Fault::Refused {

@@ -39,7 +39,8 @@ pub fn down(
     requires factors { AllByRecursion IsFactor factors.now }
     requires words { length words.now ≡ length (cells_of domain.now.dims) }
     ensures value { IfOk result (λ d. d ≡ downsampled method dtype factors.now domain.now.dims words.now) }
-    ensures reached { IfOk result (λ d. (y : List ℤ) → IsCell (new_dims method factors.now domain.now.dims) y → HasCell method factors.now domain.now.dims y) }
+    ensures reached { IfOk result (λ d. (y : List ℤ) → IsCell (new_dims method factors.now domain.now.dims) y
+        → HasCell method factors.now domain.now.dims y) }
 {
     let dims = domain.dims.items();
     let origin = origins(alloc, dims, factors, method)?;
@@ -63,7 +64,8 @@ fn new_words(
     requires ranks { length factors.now ≡ length dims.now }
     requires factors { AllByRecursion IsFactor factors.now }
     requires words { length words.now ≡ length (cells_of dims.now) }
-    ensures { IfOk result (λ all. all.items ≡ map (new_word method dtype factors.now dims.now words.now) (cells_of (new_dims method factors.now dims.now))) }
+    ensures { IfOk result (λ all. all.items ≡ map (new_word method dtype factors.now dims.now words.now)
+        (cells_of (new_dims method factors.now dims.now))) }
 {
     if words.is_empty() {
         return Ok(Vec::new(alloc));

@@ -65,7 +65,8 @@ fn extended(
 ) -> Result<Vec<Option<usize>>, AllocError>
     requires finite { IsTrue (is_finite dim.now) }
     requires factor { IsFactor factor }
-    ensures { IfOk result (λ all. all.items ≡ flat_map (λ x. map (joined_place count (offset_of method factor dim.now x)) rest.items) (members_of dim.now)) }
+    ensures { IfOk result (λ all. all.items ≡ flat_map (λ x.
+        map (joined_place count (offset_of method factor dim.now x)) rest.items) (members_of dim.now)) }
 {
     let offsets = offsets(alloc, dim, factor, method)?;
     rows(alloc, &offsets, count, &rest)
@@ -139,7 +140,8 @@ fn rows(
     count: usize,
     rest: &[Option<usize>],
 ) -> Result<Vec<Option<usize>>, AllocError>
-    ensures { IfOk result (λ all. all.items ≡ flat_map (λ offset. map (joined_place count offset) rest.now) offsets.now) }
+    ensures { IfOk result (λ all. all.items ≡ flat_map (λ offset.
+        map (joined_place count offset) rest.now) offsets.now) }
 {
     let mut all = Vec::new(alloc);
     for offset in offsets {

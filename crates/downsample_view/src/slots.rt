@@ -20,7 +20,8 @@ pub(crate) fn kept_words(
 ) -> Result<Vec<u64>, AllocError>
     requires same { length places.now ≡ length words.now }
     requires below { IsTrue (list_all (is_below count) places.now) }
-    ensures { IfOk result (λ all. all.items ≡ map (λ q. kept_word method dtype (words_to q places.now words.now)) (range_with_len 0 count)) }
+    ensures { IfOk result (λ all. all.items ≡ map (λ q.
+        kept_word method dtype (words_to q places.now words.now)) (range_with_len 0 count)) }
 {
     let slots = filled_slots(alloc, places, count, words, dtype, method)?;
     shown(alloc, &slots)
@@ -46,7 +47,8 @@ fn filled_slots(
 ) -> Result<Vec<Option<u64>>, AllocError>
     requires same { length places.now ≡ length words.now }
     requires below { IsTrue (list_all (is_below count) places.now) }
-    ensures { IfOk result (λ slots. slots.items ≡ map (λ q. kept_slot method dtype (words_to q places.now words.now)) (range_with_len 0 count)) }
+    ensures { IfOk result (λ slots. slots.items ≡ map (λ q.
+        kept_slot method dtype (words_to q places.now words.now)) (range_with_len 0 count)) }
 {
     let mut slots = no_slots(alloc, count)?;
     fill(slots.as_mut_slice(), places, words, dtype, method);
@@ -73,7 +75,8 @@ fn fill(
     requires empty { slots.old ≡ map no_slot (range_with_len 0 (length slots.old)) }
     requires same { length places.now ≡ length words.now }
     requires below { IsTrue (list_all (is_below (length slots.old)) places.now) }
-    ensures { slots.new ≡ map (λ q. kept_slot method dtype (words_to q places.now words.now)) (range_with_len 0 (length slots.old)) }
+    ensures { slots.new ≡ map (λ q. kept_slot method dtype (words_to q places.now words.now))
+        (range_with_len 0 (length slots.old)) }
 {
     for k in 0..places.len() {
         put(slots, places[k], words[k], dtype, method);

@@ -31,7 +31,7 @@ fn dense(alloc: Global, form: &Form, numbers: &Value) -> Result<Dense, Fault>
     let first = items.first().ok_or(Fault::Line)?;
     let dtype = form.dtype();
     let mut dense = Dense::filled(alloc, dtype, form.chunk_shape(), word_of(dtype, first)?)?;
-    if items.len() != dense.words().len() {
+    if items.len() != dense.count() {
         return Err(Fault::Line);
     }
     for place in 0..items.len() {
@@ -75,5 +75,6 @@ fn may_write_block(alloc: Global, m: &N5Meta, chunk: &[u64], d: &Dense) -> Resul
         return Ok(false);
     }
     let sizes = cut_sizes(alloc, m.block.items(), m.dimensions.items(), chunk)?;
-    Ok(is_zero_outside(alloc, d.shape(), sizes.as_slice(), d.words())?)
+    let words = d.to_words(alloc)?;
+    Ok(is_zero_outside(alloc, d.shape(), sizes.as_slice(), &words)?)
 }

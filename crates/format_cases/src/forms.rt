@@ -152,7 +152,7 @@ fn cells(alloc: Global, answer: Result<Dense, FormError>) -> Result<String, Faul
 // The numbers of the cells, in C order.
 fn numbers(alloc: Global, dense: &Dense) -> Result<String, Fault> {
     let mut text = String::new(alloc);
-    for place in 0..dense.words().len() {
+    for place in 0..dense.count() {
         put(&mut text, dense, place)?;
     }
     Ok(text)

@@ -156,7 +156,8 @@ fn reference(alloc: Global, info: &ArrayInfo, shape: &[u64]) -> Result<String, F
 
 // The array's chunks have a chunk's shape, of this rank.
 fn has_chunk(alloc: Global, info: &ArrayInfo, rank: usize) -> Result<bool, AllocError>
-    ensures { IfOk result (λ b. IsTrue b → IsChunkShape (chunk_shape info.now) × (length (chunk_shape info.now) ≡ rank)) }
+    ensures { IfOk result (λ b. IsTrue b → IsChunkShape (chunk_shape info.now)
+        × (length (chunk_shape info.now) ≡ rank)) }
 {
     let sizes = chunk_shape(alloc, info)?;
     Ok(is_chunk_shape(sizes.items()) && sizes.items().len() == rank)

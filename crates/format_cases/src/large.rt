@@ -57,7 +57,7 @@ fn picked(alloc: Global, answer: Result<Dense, FormError>, place: u32) -> Result
 }
 
 fn number_at(alloc: Global, dense: &Dense, place: usize) -> Result<String, Fault> {
-    if place >= dense.words().len() {
+    if place >= dense.count() {
         return Err(Fault::Line);
     }
     let number = dense.dtype().number(dense.get(place));

@@ -131,7 +131,9 @@ fn leaving(alloc: Global, t: &Transform, shape: &Value) -> Result<String, Fault>
 }
 
 pub(crate) fn first_leaving(t: &Transform, shape: &[u64]) -> Result<Option<u32>, Fault>
-    ensures { IfOk result (λ o. (o ≡ None → All (λ cell. IsInShape shape.now (value_at t.now cell)) (cells_of t.now.domain.dims)) × (IsTrue (list_all is_finite t.now.domain.dims)) × (length t.now.maps ≡ length shape.now)) }
+    ensures { IfOk result (λ o. (o ≡ None → All (λ cell.
+        IsInShape shape.now (value_at t.now cell)) (cells_of t.now.domain.dims))
+        × (IsTrue (list_all is_finite t.now.domain.dims)) × (length t.now.maps ≡ length shape.now)) }
 {
     if !t.is_finite() || t.maps().len() != shape.len() {
         return Err(Fault::Line);

@@ -59,8 +59,10 @@ impl Interval {
         lo_implicit: bool,
         hi_implicit: bool,
     ) -> Result<Interval, BadBounds>
-        ensures accepts { IsOk result ↔ AreBounds (record { lo = lo; hi = hi; lo_implicit = lo_implicit; hi_implicit = hi_implicit }) }
-        ensures value { IfOk result (λ i. i ≡ record { lo = lo; hi = hi; lo_implicit = lo_implicit; hi_implicit = hi_implicit }) }
+        ensures accepts { IsOk result ↔ AreBounds
+            (record { lo = lo; hi = hi; lo_implicit = lo_implicit; hi_implicit = hi_implicit }) }
+        ensures value { IfOk result (λ i.
+            i ≡ record { lo = lo; hi = hi; lo_implicit = lo_implicit; hi_implicit = hi_implicit }) }
     {
         let lo_fits = -INFINITY <= lo && lo < INFINITY;
         let hi_fits = -INFINITY < hi && hi <= INFINITY;
@@ -150,7 +152,8 @@ impl Interval {
         ensures value { result ≡ met self.now other.now }
         ensures members { (x : ℤ) → IsMember result x ↔ (IsMember self.now x × IsMember other.now x) }
         ensures lo_flag { IsTieFlag self.now.lo self.now.lo_implicit other.now.lo other.now.lo_implicit result.lo result.lo_implicit }
-        ensures hi_flag { IsTieFlag self.now.hi self.now.hi_implicit other.now.hi other.now.hi_implicit (int_min self.now.hi other.now.hi) result.hi_implicit }
+        ensures hi_flag { IsTieFlag self.now.hi self.now.hi_implicit other.now.hi other.now.hi_implicit
+            (int_min self.now.hi other.now.hi) result.hi_implicit }
     {
         let lo = self.lo.max(other.lo);
         let hi = self.hi.min(other.hi).max(lo - 1);
@@ -163,13 +166,15 @@ impl Interval {
     }
 
     fn is_met_lo_implicit(&self, other: &Interval) -> bool
-        ensures { result ≡ ((int_lt self.now.lo other.now.lo || self.now.lo_implicit) && (int_lt other.now.lo self.now.lo || other.now.lo_implicit)) }
+        ensures { result ≡ ((int_lt self.now.lo other.now.lo || self.now.lo_implicit) &&
+            (int_lt other.now.lo self.now.lo || other.now.lo_implicit)) }
     {
         (self.lo < other.lo || self.lo_implicit) && (other.lo < self.lo || other.lo_implicit)
     }
 
     fn is_met_hi_implicit(&self, other: &Interval) -> bool
-        ensures { result ≡ ((int_lt other.now.hi self.now.hi || self.now.hi_implicit) && (int_lt self.now.hi other.now.hi || other.now.hi_implicit)) }
+        ensures { result ≡ ((int_lt other.now.hi self.now.hi || self.now.hi_implicit) &&
+            (int_lt self.now.hi other.now.hi || other.now.hi_implicit)) }
     {
         (other.hi < self.hi || self.hi_implicit) && (self.hi < other.hi || other.hi_implicit)
     }
@@ -182,7 +187,8 @@ impl Interval {
     pub fn shift(&self, by: i64) -> Result<Interval, Overflow>
         ensures succeeds { IsOk result ↔ CanShift self.now by }
         ensures value { IfOk result (λ i. i ≡ shifted self.now by) }
-        ensures members { IfOk result (λ i. (x : ℤ) → IsIndex x → IsIndex (x +ℤ by) → IsMember i (x +ℤ by) ↔ IsMember self.now x) }
+        ensures members { IfOk result (λ i. (x : ℤ) → IsIndex x → IsIndex (x +ℤ by) → IsMember i (x +ℤ by)
+            ↔ IsMember self.now x) }
     {
         Ok(Interval {
             lo: moved(self.lo, by)?,

@@ -24,7 +24,8 @@ impl Transform {
         requires finite { IsTrue (list_all is_finite self.now.domain.dims) }
         requires rank { length shape.now ≡ length self.now.maps }
         ensures value { result ≡ first_leaving self.now shape.now }
-        ensures inside { result ≡ None → All (λ cell. IsInShape shape.now (value_at self.now cell)) (cells_of self.now.domain.dims) }
+        ensures inside { result ≡ None → All (λ cell.
+            IsInShape shape.now (value_at self.now cell)) (cells_of self.now.domain.dims) }
         ensures bound { IfSome result (λ output. output < length self.now.maps) }
     {
         first_leaving(self.domain().dims.items(), shape, self.maps())
@@ -82,7 +83,8 @@ fn ends_leave(dims: &[Interval], size: u64, map: &OutMap) -> bool
 }
 
 fn bounds_leave(dim: &Interval, size: u64, offset: i64, stride: i64) -> bool
-    ensures { result ≡ (not (is_below size (offset +ℤ stride *ℤ dim.now.lo)) || not (is_below size (offset +ℤ stride *ℤ dim.now.hi))) }
+    ensures { result ≡ (not (is_below size (offset +ℤ stride *ℤ dim.now.lo)) || not
+        (is_below size (offset +ℤ stride *ℤ dim.now.hi))) }
 {
     !is_below(size, scaled(offset, stride, dim.lo))
         || !is_below(size, scaled(offset, stride, dim.hi))

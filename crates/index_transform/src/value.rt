@@ -94,7 +94,8 @@ fn numbers_at(
     requires rank { length maps.now ≤ 32 }
     requires inside { IsTrue (list_all (has_value dims.now index.now) maps.now) }
     ensures ok { IfOk result (λ numbers. numbers_of (map (map_value dims.now index.now) maps.now) ≡ Ok numbers.items) }
-    ensures err { IfErr result (λ e. e ≢ AtError.Memory → numbers_of (map (map_value dims.now index.now) maps.now) ≡ Err e) }
+    ensures err { IfErr result (λ e. e ≢ AtError.Memory
+        → numbers_of (map (map_value dims.now index.now) maps.now) ≡ Err e) }
 {
     let mut numbers = Vec::with_capacity(alloc, maps.len())?;
     for (output, map) in maps.iter().enumerate() {

@@ -32,7 +32,8 @@ impl Walk {
     /// A walk through all cells of a domain with finite bounds.
     pub fn new(alloc: Global, domain: &Domain) -> Result<Walk, AllocError>
         requires { IsTrue (list_all is_finite domain.now.dims) }
-        ensures { IfOk result (λ walk. walk ≡ record { rank = length domain.now.dims; cells = cells_of domain.now.dims }) }
+        ensures { IfOk result (λ walk.
+            walk ≡ record { rank = length domain.now.dims; cells = cells_of domain.now.dims }) }
     {
         Walk::over(alloc, domain.dims.items())
     }

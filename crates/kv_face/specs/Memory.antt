@@ -2,7 +2,7 @@
 use Rattle.std.specs.Prelude.{ℕ, ◌+◌, ◌-◌, ◌^◌, List, [], ◌∷◌, Bool, false, ◌==◌, nat_lt, Option, Some, None, if◌then◌else◌}
 use Rattle.std.specs.List.{list_any}
 use Rattle.std.specs.FinMap as finmap
-use Rattle.kv_face.specs.Store.{Contents, Standing, opened, finished, failing, after}
+use Rattle.kv_face.specs.Store.{Contents, Standing, StoreSeen, opened, finished, failing, after}
 use Rattle.kv_face.specs.declared.change.Change.{Change}
 
 -- the calls of one kind so far, which are counted up to 2^64-1, those that are to fail, and those that failed
@@ -44,6 +44,17 @@ faults_of s = s.gets.faults + s.applies.faults + s.finish_faults
 -- told as long as it is below 2^64-1
 abbrev pub change_count_of : MemoryStore → Option ℕ
 change_count_of s = if nat_lt s.change_calls (2 ^ 64 - 1) then Some s.change_calls else None
+
+-- what it tells of itself: everything
+abbrev pub seen_of : MemoryStore → StoreSeen
+seen_of s = record {
+  contents = Some s.contents;
+  faults = faults_of s;
+  prefixes = prefixes_of s;
+  names = None;
+  standing = s.standing;
+  changes = change_count_of s;
+}
 
 -- a new store: empty, open, and with no call to fail
 abbrev pub new_store : Bool → MemoryStore

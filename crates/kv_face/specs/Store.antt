@@ -47,6 +47,21 @@ pub data Standing : Type 0 where
   finished : Standing
   failing : Standing
 
+-- what a store tells of itself
+pub record StoreSeen : Type 0 where
+  -- the map, where the store tells it
+  pub contents : Option Contents
+  -- how many faults there were; it never falls
+  pub faults : ℕ
+  -- the prefixes under which several changes are made together
+  pub prefixes : List (List ℕ)
+  -- the names of which one begins each key that the store takes; with none it takes every key
+  pub names : Option (List (List ℕ))
+  -- whether it is open, finished, or has failed to finish
+  pub standing : Standing
+  -- how many calls that make changes have changed something, where the store tells it
+  pub changes : Option ℕ
+
 -- a number of changes, where it is told, after one change more: the next number, or no longer told
 abbrev pub OneMore : Option ℕ → Option ℕ → Type 0
 OneMore old None = Unit {0}

@@ -110,7 +110,8 @@ impl MemoryKv {
     /// # Errors
     /// Want of memory alone; then nothing changed.
     pub fn fail_get(&mut self, nth: u64) -> Result<(), AllocError>
-        ensures ok { OnOk result (self.new ≡ record self.old { gets = record self.old.gets { named = self.old.gets.named ++ nth ∷ [] } }) }
+        ensures ok { OnOk result (self.new
+            ≡ record self.old { gets = record self.old.gets { named = self.old.gets.named ++ nth ∷ [] } }) }
         ensures err { OnErr result (self.new ≡ self.old) }
     {
         self.gets.name(nth)
@@ -121,7 +122,8 @@ impl MemoryKv {
     /// # Errors
     /// Want of memory alone; then nothing changed.
     pub fn fail_apply(&mut self, nth: u64) -> Result<(), AllocError>
-        ensures ok { OnOk result (self.new ≡ record self.old { applies = record self.old.applies { named = self.old.applies.named ++ nth ∷ [] } }) }
+        ensures ok { OnOk result (self.new
+            ≡ record self.old { applies = record self.old.applies { named = self.old.applies.named ++ nth ∷ [] } }) }
         ensures err { OnErr result (self.new ≡ self.old) }
     {
         self.applies.name(nth)
@@ -174,19 +176,9 @@ fn change(alloc: Global, table: &mut Table, changes: &[Change]) -> Result<(), Al
 
 impl KvStore for MemoryKv {
     ghost use Rattle.std.specs.Prelude.{Some, None};
-    ghost use Rattle.kv_face.specs.Memory.{faults_of, prefixes_of, change_count_of, fails, called, counted, failed_apply, done_apply, finish_fails, after_finish};
+    ghost use Rattle.kv_face.specs.Memory.{seen_of, prefixes_of, fails, called, counted, failed_apply, done_apply, finish_fails, after_finish};
 
-    ghost contents = { λ s. Some s.contents };
-
-    ghost faults = { faults_of };
-
-    ghost prefixes = { prefixes_of };
-
-    ghost names = { λ s. None };
-
-    ghost standing = { λ s. s.standing };
-
-    ghost change_count = { change_count_of };
+    ghost seen = { seen_of };
 
     fn get(&mut self, key: &str) -> Result<Option<Vec<u8>>, KvError>
         ensures value { IfOk result (λ v. option_map (λ b. b.items) v ≡ finmap.get self.old.contents key.now) }
@@ -212,7 +204,8 @@ impl KvStore for MemoryKv {
         ensures done { OnOk result (self.new ≡ done_apply self.old changes.now) }
         ensures failed { IsErrOf result KvError.Failed ↔ IsTrue (fails self.old.applies) }
         ensures after_failed { IsErrOf result KvError.Failed → self.new ≡ failed_apply self.old changes.now }
-        ensures after_memory { IsErrOf result KvError.Memory → self.new ≡ record self.old { applies = called self.old.applies } }
+        ensures after_memory { IsErrOf result KvError.Memory
+            → self.new ≡ record self.old { applies = called self.old.applies } }
     {
         if self.applies.call() {
             if !changes.is_empty() {

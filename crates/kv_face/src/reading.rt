@@ -43,9 +43,11 @@ pub fn read_script<S: Scripts>(
     scripts: &mut S,
     name: &str,
 ) -> Result<Vec<u8>, ReadError>
-    ensures all { IfOk result (λ v. WhereTold (script_of (S.contents scripts.old) name.now) (λ bytes. v.items ≡ bytes)) }
+    ensures all { IfOk result (λ v. WhereTold (script_of (S.contents scripts.old) name.now) (λ bytes.
+        v.items ≡ bytes)) }
     ensures short { IfOk result (λ v. length v.items ≤ 67108864) }
-    ensures long { IsErrOf result ReadError.TooLong → WhereTold (script_of (S.contents scripts.old) name.now) (λ bytes. 67108864 < length bytes) }
+    ensures long { IsErrOf result ReadError.TooLong
+        → WhereTold (script_of (S.contents scripts.old) name.now) (λ bytes. 67108864 < length bytes) }
     ensures missing { IsMissing (S.contents scripts.old) name.now → result ≡ Err ReadError.Failed }
     ensures contents { S.contents scripts.new ≡ S.contents scripts.old }
     ensures cause { Rises (S.faults scripts.old) (S.faults scripts.new) (IsErrOf result ReadError.Failed) }

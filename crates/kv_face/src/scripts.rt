@@ -77,7 +77,8 @@ impl MemoryScripts {
     /// # Errors
     /// Want of memory alone; then nothing changed.
     pub fn add(&mut self, name: &str, bytes: &[u8]) -> Result<(), AllocError>
-        ensures ok { OnOk result (self.new ≡ record self.old { scripts = finmap.insert self.old.scripts name.now bytes.now }) }
+        ensures ok { OnOk result (self.new
+            ≡ record self.old { scripts = finmap.insert self.old.scripts name.now bytes.now }) }
         ensures err { OnErr result (self.new ≡ self.old) }
     {
         let name = Name::wrap(String::from_str(self.alloc, name)?);
@@ -91,7 +92,8 @@ impl MemoryScripts {
     /// # Errors
     /// Want of memory alone; then nothing changed.
     pub fn fail_select(&mut self, nth: u64) -> Result<(), AllocError>
-        ensures ok { OnOk result (self.new ≡ record self.old { selects = record self.old.selects { named = self.old.selects.named ++ nth ∷ [] } }) }
+        ensures ok { OnOk result (self.new
+            ≡ record self.old { selects = record self.old.selects { named = self.old.selects.named ++ nth ∷ [] } }) }
         ensures err { OnErr result (self.new ≡ self.old) }
     {
         self.selects.name(nth)
@@ -102,7 +104,8 @@ impl MemoryScripts {
     /// # Errors
     /// Want of memory alone; then nothing changed.
     pub fn fail_next(&mut self, nth: u64) -> Result<(), AllocError>
-        ensures ok { OnOk result (self.new ≡ record self.old { nexts = record self.old.nexts { named = self.old.nexts.named ++ nth ∷ [] } }) }
+        ensures ok { OnOk result (self.new
+            ≡ record self.old { nexts = record self.old.nexts { named = self.old.nexts.named ++ nth ∷ [] } }) }
         ensures err { OnErr result (self.new ≡ self.old) }
     {
         self.nexts.name(nth)
@@ -111,7 +114,8 @@ impl MemoryScripts {
 
 /// The place of the last script of a name.
 fn place_of(scripts: &[Script], name: &str) -> Option<usize>
-    ensures bytes { option_map (λ place. bytes_of (slice_get scripts.now place)) result ≡ finmap.get (scripts_of scripts.now) name.now }
+    ensures bytes { option_map (λ place. bytes_of (slice_get scripts.now place)) result
+        ≡ finmap.get (scripts_of scripts.now) name.now }
     ensures within { IfSome result (λ place. place < length scripts.now) }
 {
     let mut place = None;

@@ -52,7 +52,8 @@ impl MemorySink {
     /// # Errors
     /// Want of memory alone; then nothing changed.
     pub fn fail_write(&mut self, nth: u64) -> Result<(), AllocError>
-        ensures ok { OnOk result (self.new ≡ record self.old { writes = record self.old.writes { named = self.old.writes.named ++ nth ∷ [] } }) }
+        ensures ok { OnOk result (self.new
+            ≡ record self.old { writes = record self.old.writes { named = self.old.writes.named ++ nth ∷ [] } }) }
         ensures err { OnErr result (self.new ≡ self.old) }
     {
         self.writes.name(nth)

@@ -55,7 +55,8 @@ impl Table {
 
     fn put(&mut self, key: String, bytes: List<u8>)
         requires { 0 < spare self.old.map }
-        ensures held { held_by self.new.map.entries ≡ finmap.insert (held_by self.old.map.entries) (string_bytes key) bytes }
+        ensures held { held_by self.new.map.entries
+            ≡ finmap.insert (held_by self.old.map.entries) (string_bytes key) bytes }
         ensures room { spare self.old.map ≤ spare self.new.map + 1 }
     {
         let Ok(_) = self.map.insert(key, bytes) else {

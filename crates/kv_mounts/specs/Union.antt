@@ -2,8 +2,8 @@
 use Rattle.std.specs.Prelude.{◌≡◌, ◌<◌, ℕ, ◌+◌, length, slice_index_or, List, [], ◌∷◌, ◌++◌, map, sum_by, Bool, true, false, Option, Some, None, option_map, option_and_then, if◌then◌else◌}
 use Rattle.std.specs.List.{flat_map, list_any}
 use Rattle.std.specs.FinMap as finmap
-use Rattle.kv_face.specs.Store.{Contents, Standing, opened, finished, failing}
-use Rattle.kv_mounts.specs.Parts.{Part, below, begins}
+use Rattle.kv_face.specs.Store.{Contents, Standing, StoreSeen, opened, finished, failing}
+use Rattle.kv_mounts.specs.Parts.{Part, below, begins, names_of}
 
 -- keys and their bytes
 abbrev pub Entries : Type 0
@@ -48,6 +48,17 @@ sum_told (n ∷ ns) = option_and_then (λ a. option_map (λ b. a + b) (sum_told 
 -- the sum of the numbers of changes, where each store tells its own
 abbrev pub change_count_of : List Part → Option ℕ
 change_count_of parts = sum_told (map (λ (p : Part). p.change_count) parts)
+
+-- what mounts tell as one store
+abbrev pub seen_of : List Part → StoreSeen
+seen_of parts = record {
+  contents = union_of parts;
+  faults = faults_of parts;
+  prefixes = prefixes_of parts;
+  names = Some (names_of parts);
+  standing = standing_of parts;
+  changes = change_count_of parts;
+}
 
 -- a map is the disjoint union: it has under NAME/REST what the store of the mount NAME has under REST, and nothing else
 pub record IsUnion (parts : List Part) (m : Contents) : Type 0 where

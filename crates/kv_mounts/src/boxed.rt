@@ -7,17 +7,7 @@ pub struct BoxedStore {
 }
 
 impl KvStore for BoxedStore {
-    ghost contents = { λ s. (KvStore-box s.store).contents s.store.value };
-
-    ghost faults = { λ s. (KvStore-box s.store).faults s.store.value };
-
-    ghost prefixes = { λ s. (KvStore-box s.store).prefixes s.store.value };
-
-    ghost names = { λ s. (KvStore-box s.store).names s.store.value };
-
-    ghost standing = { λ s. (KvStore-box s.store).standing s.store.value };
-
-    ghost change_count = { λ s. (KvStore-box s.store).change_count s.store.value };
+    ghost seen = { λ s. (KvStore-box s.store).seen s.store.value };
 
     fn get(&mut self, key: &str) -> Result<Option<Vec<u8>>, KvError> {
         self.store.get(key)

@@ -40,7 +40,8 @@ impl FinishList {
     // Adds a place where it failed. There is room for it.
     pub(crate) fn note(&mut self, failed: bool, place: u32)
         requires { length self.old.places < self.old.room }
-        ensures { self.new ≡ record self.old { places = if failed then self.old.places ++ place ∷ [] else self.old.places } }
+        ensures { self.new
+            ≡ record self.old { places = if failed then self.old.places ++ place ∷ [] else self.old.places } }
     {
         if failed {
             self.places.push_reserved(place);

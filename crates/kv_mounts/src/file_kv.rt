@@ -9,8 +9,8 @@ use std::marker::Model;
 
 /// A store of files: a key is the path of a file below a folder, and an absent key has no file.
 ///
-/// Bytes are written beside the file, under its name with `~new` behind, flushed, and take its place. Folders are made as they
-/// are needed. A key of which a part between "/" is empty, `.` or `..`, or ends in `~new`, fails. Changes are made one at a time.
+/// Bytes are written beside the file, under its name with `~new` behind, and take its place; when they reach the disk is left to
+/// the system. Folders are made as they are needed. Only regular files are read: a pipe or a device under a key fails. A key of which a part between "/" is empty, `.` or `..`, or ends in `~new`, fails. Changes are made one at a time.
 /// Each error of the system is a fault; that a file is missing isn't one. What the files hold no contract tells.
 #[derive(Drop)]
 pub struct FileKv<R: Files + AllocGlobal + Drop> {
@@ -78,20 +78,9 @@ impl<R: Files + AllocGlobal + Drop> FileKv<R> {
 }
 
 impl<R: Files + AllocGlobal + Drop> KvStore for FileKv<R> {
-    ghost use Rattle.std.specs.Prelude.{None, []};
-    ghost use Rattle.kv_mounts.specs.Files.{file_standing};
+    ghost use Rattle.kv_mounts.specs.Files.{file_seen};
 
-    ghost contents = { λ s. None };
-
-    ghost faults = { λ s. s.faults };
-
-    ghost prefixes = { λ s. [] };
-
-    ghost names = { λ s. None };
-
-    ghost standing = { file_standing };
-
-    ghost change_count = { λ s. None };
+    ghost seen = { file_seen };
 
     fn get(&mut self, key: &str) -> Result<Option<Vec<u8>>, KvError> {
         match read_file(&self.rt, self.root.as_str(), key) {

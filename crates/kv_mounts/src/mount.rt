@@ -34,12 +34,12 @@ impl<K: KvStore> Model for Mount<K> {
 
     ghost view = { λ m. record {
       name = m.name;
-      contents = K.contents m.store;
-      faults = K.faults m.store;
-      prefixes = K.prefixes m.store;
-      names = K.names m.store;
-      standing = K.standing m.store;
-      change_count = K.change_count m.store;
+      contents = (K.seen m.store).contents;
+      faults = (K.seen m.store).faults;
+      prefixes = (K.seen m.store).prefixes;
+      names = (K.seen m.store).names;
+      standing = (K.seen m.store).standing;
+      change_count = (K.seen m.store).changes;
     } };
 }
 
@@ -78,7 +78,8 @@ impl<K: KvStore> Mount<K> {
     pub(crate) fn together(&self, changes: &[Change], from: usize, start: usize) -> bool
         requires start { start ≡ from + (length self.now.name + 1) }
         requires cut { All (λ (c : ChangeOf). IsCharBoundary c.key from) changes.now }
-        ensures { result ≡ (all_below self.now.name changes.now from && are_together self.now.prefixes changes.now start) }
+        ensures { result
+            ≡ (all_below self.now.name changes.now from && are_together self.now.prefixes changes.now start) }
     {
         if !all_below(self.name.items(), changes, from) {
             return false;
@@ -133,7 +134,8 @@ fn begins(name: &[u8], key: &[u8]) -> bool
 fn all_below(name: &str, changes: &[Change], from: usize) -> bool
     requires { All (λ (c : ChangeOf). IsCharBoundary c.key from) changes.now }
     ensures below { result ≡ all_below name.now changes.now from }
-    ensures cut { result ≡ true → All (λ (c : ChangeOf). IsCharBoundary c.key (from + (length name.now + 1))) changes.now }
+    ensures cut { result ≡ true → All (λ (c : ChangeOf).
+        IsCharBoundary c.key (from + (length name.now + 1))) changes.now }
 {
     for change in changes {
         if !lies_below(name, change.key.items(), from) {

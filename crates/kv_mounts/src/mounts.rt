@@ -124,21 +124,9 @@ fn finish_all<K: KvStore>(mounts: &mut [Mount<K>]) -> Result<(), Failed>
 }
 
 impl<K: KvStore> KvStore for Mounts<K> {
-    ghost use Rattle.std.specs.Prelude.{Some};
-    ghost use Rattle.kv_mounts.specs.Parts.{names_of};
-    ghost use Rattle.kv_mounts.specs.Union.{union_of, faults_of, prefixes_of, standing_of, change_count_of};
+    ghost use Rattle.kv_mounts.specs.Union.{seen_of};
 
-    ghost contents = { λ s. union_of s };
-
-    ghost faults = { λ s. faults_of s };
-
-    ghost prefixes = { λ s. prefixes_of s };
-
-    ghost names = { λ s. Some (names_of s) };
-
-    ghost standing = { λ s. standing_of s };
-
-    ghost change_count = { λ s. change_count_of s };
+    ghost seen = { seen_of };
 
     fn get(&mut self, key: &str) -> Result<Option<Vec<u8>>, KvError> {
         let Some(place) = place_of(self.list.as_slice(), key) else {

@@ -73,16 +73,20 @@ pub(crate) fn read_file<R: Files + AllocGlobal>(
     }
 }
 
-// The bytes go into memory of the file's length.
+// The bytes of a regular file, in memory of its length. What is none, as a pipe or a device, isn't opened, since reading it might
+// never end.
 fn read_whole<R: Files + AllocGlobal>(rt: &R, path: &str) -> io::Result<Vec<u8>> {
+    let found = fs::metadata(rt, path)?;
+    if !found.is_file() {
+        return Err(ErrorKind::InvalidInput.into());
+    }
     let mut file = fs::open(rt, path)?;
-    let len = file.metadata()?.len();
-    let mut bytes = Vec::with_capacity(rt.alloc(), len as usize)?;
+    let mut bytes = Vec::with_capacity(rt.alloc(), found.len() as usize)?;
     file.read_to_end(&mut bytes)?;
     Ok(bytes)
 }
 
-/// Puts bytes under a key: they are written beside its file, flushed to the disk, and take its place.
+/// Puts bytes under a key: they are written beside its file, and take its place. When they reach the disk is left to the system.
 pub(crate) fn put_file<R: Files + AllocGlobal>(
     rt: &R,
     root: &str,
@@ -122,17 +126,33 @@ fn put_beside<R: Files>(rt: &R, beside: &str, path: &str, bytes: &[u8]) -> io::R
 }
 
 fn write_and_rename<R: Files>(rt: &R, beside: &str, path: &str, bytes: &[u8]) -> io::Result<()> {
-    if let Some((folder, _)) = path.rsplit_once('/') {
-        fs::create_dir_all(rt, folder)?;
-    }
     write_whole(rt, beside, bytes)?;
     fs::rename(rt, beside, path)
 }
 
 fn write_whole<R: Files>(rt: &R, path: &str, bytes: &[u8]) -> io::Result<()> {
-    let mut file = fs::create(rt, path)?;
-    file.write_all(bytes)?;
-    file.sync_all()
+    let mut file = create_in_folder(rt, path)?;
+    file.write_all(bytes)
+}
+
+// A new file. Its folder is made where there is none, which the first call tells.
+fn create_in_folder<R: Files>(rt: &R, path: &str) -> io::Result<R::File> {
+    match fs::create(rt, path) {
+        Ok(file) => Ok(file),
+        Err(e) => {
+            if e.kind() != ErrorKind::NotFound {
+                return Err(e);
+            }
+            create_behind(rt, path)
+        }
+    }
+}
+
+fn create_behind<R: Files>(rt: &R, path: &str) -> io::Result<R::File> {
+    if let Some((folder, _)) = path.rsplit_once('/') {
+        fs::create_dir_all(rt, folder)?;
+    }
+    fs::create(rt, path)
 }
 
 /// Removes the file under a key, where there is one.

@@ -18,7 +18,8 @@ pub(crate) fn placed_layers(
     axis: usize,
 ) -> Result<Vec<View>, AllocError>
     requires few { length layers.items ≤ 256 }
-    requires axes { AllByRecursion (λ v. (axis ≤ length (look_of v).dims) × (length (look_of v).dims < 32)) layers.items }
+    requires axes { AllByRecursion (λ v. (axis ≤ length (look_of v).dims)
+        × (length (look_of v).dims < 32)) layers.items }
     ensures { IfOk result (λ placed. placed.items ≡ placed_from 0 axis layers.items) }
 {
     let mut layers = layers;

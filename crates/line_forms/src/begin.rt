@@ -29,10 +29,12 @@ pub(crate) fn begin_line(alloc: Global, value: &Value) -> Result<Command, LineEr
 
 fn begun(alloc: Global, others: Option<&str>, flags: &Value) -> Result<Command, LineError>
     ensures ok { IfOk result (λ command.
-        within (codes "begin") (option_map (λ s. s.now) others.entry) (flags_of (view flags.now)) (λ f. Ok (beginning f.0 f.1))
+        within (codes "begin") (option_map (λ s. s.now) others.entry) (flags_of (view flags.now)) (λ f.
+        Ok (beginning f.0 f.1))
         ≡ Ok (form_of command)) }
     ensures err { IfErr result (λ e. e ≢ LineError.Memory →
-        within (codes "begin") (option_map (λ s. s.now) others.entry) (flags_of (view flags.now)) (λ f. Ok (beginning f.0 f.1))
+        within (codes "begin") (option_map (λ s. s.now) others.entry) (flags_of (view flags.now)) (λ f.
+        Ok (beginning f.0 f.1))
         ≡ Err e) }
     ensures sound { IfOk result IsSoundOther }
 {
@@ -47,7 +49,8 @@ fn begun(alloc: Global, others: Option<&str>, flags: &Value) -> Result<Command, 
 
 fn faulty_flags(alloc: Global, others: Option<&str>, fault: &str) -> LineError
     ensures { result ≢ LineError.Memory → result
-        ≡ LineError.Member (first_fault (codes "begin") (option_map (λ s. s.now) others.entry) (codes "begin/" ++ fault.now)) }
+        ≡ LineError.Member (first_fault (codes "begin") (option_map (λ s.
+        s.now) others.entry) (codes "begin/" ++ fault.now)) }
 {
     match behind_begin(alloc, fault) {
         Ok(path) => at_fault(alloc, first_fault("begin", others, path.as_str())),
@@ -65,10 +68,12 @@ fn behind_begin(alloc: Global, fault: &str) -> Result<String, AllocError>
 
 fn flagged(alloc: Global, others: Option<&str>, flags: &Value) -> Result<Command, LineError>
     ensures ok { IfOk result (λ command. where_sound (option_map (λ s. s.now) others.entry)
-        (Ok (beginning (flag_at (codes "atomic") (view flags.now)) (flag_at (codes "repeatable_read") (view flags.now))))
+        (Ok (beginning (flag_at (codes "atomic") (view flags.now))
+        (flag_at (codes "repeatable_read") (view flags.now))))
         ≡ Ok (form_of command)) }
     ensures err { IfErr result (λ e. e ≢ LineError.Memory → where_sound (option_map (λ s. s.now) others.entry)
-        (Ok (beginning (flag_at (codes "atomic") (view flags.now)) (flag_at (codes "repeatable_read") (view flags.now))))
+        (Ok (beginning (flag_at (codes "atomic") (view flags.now))
+        (flag_at (codes "repeatable_read") (view flags.now))))
         ≡ Err e) }
     ensures sound { IfOk result IsSoundOther }
 {
@@ -122,8 +127,10 @@ fn flag_at(flags: &Value, key: &str) -> bool
 /// The command that ends a transaction by committing it.
 #[tactic(auto, unfolding(crate::specs::Small::word_form))]
 pub(crate) fn commit_line(alloc: Global, value: &Value) -> Result<Command, LineError>
-    ensures ok { IfOk result (λ command. word_form (codes "commit") committing (view value.now) ≡ Ok (form_of command)) }
-    ensures err { IfErr result (λ e. e ≢ LineError.Memory → word_form (codes "commit") committing (view value.now) ≡ Err e) }
+    ensures ok { IfOk result (λ command. word_form (codes "commit") committing (view value.now)
+        ≡ Ok (form_of command)) }
+    ensures err { IfErr result (λ e. e ≢ LineError.Memory
+        → word_form (codes "commit") committing (view value.now) ≡ Err e) }
     ensures sound { IfOk result IsSoundOther }
 {
     match word_fault(value, "commit") {
@@ -136,7 +143,8 @@ pub(crate) fn commit_line(alloc: Global, value: &Value) -> Result<Command, LineE
 #[tactic(auto, unfolding(crate::specs::Small::word_form))]
 pub(crate) fn abort_line(alloc: Global, value: &Value) -> Result<Command, LineError>
     ensures ok { IfOk result (λ command. word_form (codes "abort") aborting (view value.now) ≡ Ok (form_of command)) }
-    ensures err { IfErr result (λ e. e ≢ LineError.Memory → word_form (codes "abort") aborting (view value.now) ≡ Err e) }
+    ensures err { IfErr result (λ e. e ≢ LineError.Memory
+        → word_form (codes "abort") aborting (view value.now) ≡ Err e) }
     ensures sound { IfOk result IsSoundOther }
 {
     match word_fault(value, "abort") {

@@ -109,7 +109,8 @@ fn layers_at(alloc: Global, value: &Value, key: &str) -> Result<Option<List<Name
 }
 
 fn layers_of(alloc: Global, list: &Value) -> Result<Option<List<Name>>, AllocError>
-    ensures layers { IfOk result (λ layers. option_and_then as_layers (option_and_then (all_of name_of) (list_items (view list.now))) ≡ layers) }
+    ensures layers { IfOk result (λ layers. option_and_then as_layers
+        (option_and_then (all_of name_of) (list_items (view list.now))) ≡ layers) }
     ensures few { IfOk result (λ layers. IfSome layers AreLayers) }
 {
     match list_items(list) {
@@ -208,7 +209,8 @@ fn wrong_axis<'v>(
     has_layers: bool,
 ) -> Option<&'v str>
     ensures { option_map (λ s. s.now) result
-        ≡ earlier (unless_so has_axis (codes "axis")) (earlier (unless_so has_layers key.now) (no_name (codes "view") (view value.now))) }
+        ≡ earlier (unless_so has_axis (codes "axis"))
+        (earlier (unless_so has_layers key.now) (no_name (codes "view") (view value.now))) }
 {
     earlier(
         unless_so(has_axis, "axis"),
@@ -233,7 +235,8 @@ fn joined(
     layers: Option<List<Name>>,
 ) -> Result<Command, LineError>
     requires { IfSome layers AreLayers }
-    ensures ok { IfOk result (λ command. joined key.now (option_map (λ s. s.now) fault.entry) form layers (view value.now)
+    ensures ok { IfOk result (λ command. joined key.now (option_map (λ s.
+        s.now) fault.entry) form layers (view value.now)
         ≡ Ok (form_of command)) }
     ensures err { IfErr result (λ e. e ≢ LineError.Memory
         → joined key.now (option_map (λ s. s.now) fault.entry) form layers (view value.now) ≡ Err e) }
@@ -255,8 +258,11 @@ fn where_sound(
     transform: Option<Transform>,
 ) -> Result<Command, LineError>
     requires { IfSome layers AreLayers }
-    ensures ok { IfOk result (λ command. where_sound (option_map (λ s. s.now) fault.entry) (join_in key.now form layers (view value.now) transform) ≡ Ok (form_of command)) }
-    ensures err { IfErr result (λ e. e ≢ LineError.Memory → where_sound (option_map (λ s. s.now) fault.entry) (join_in key.now form layers (view value.now) transform) ≡ Err e) }
+    ensures ok { IfOk result (λ command. where_sound (option_map (λ s.
+        s.now) fault.entry) (join_in key.now form layers (view value.now) transform) ≡ Ok (form_of command)) }
+    ensures err { IfErr result (λ e. e ≢ LineError.Memory
+        → where_sound (option_map (λ s. s.now) fault.entry) (join_in key.now form layers (view value.now) transform)
+        ≡ Err e) }
     ensures sound { IfOk result IsSoundOther }
 {
     match fault {
@@ -274,8 +280,10 @@ fn named(
     transform: Option<Transform>,
 ) -> Result<Command, LineError>
     requires { IfSome layers AreLayers }
-    ensures ok { IfOk result (λ command. join_in key.now form layers (view value.now) transform ≡ Ok (form_of command)) }
-    ensures err { IfErr result (λ e. e ≢ LineError.Memory → join_in key.now form layers (view value.now) transform ≡ Err e) }
+    ensures ok { IfOk result (λ command. join_in key.now form layers (view value.now) transform
+        ≡ Ok (form_of command)) }
+    ensures err { IfErr result (λ e. e ≢ LineError.Memory
+        → join_in key.now form layers (view value.now) transform ≡ Err e) }
     ensures sound { IfOk result IsSoundOther }
 {
     match name_in(alloc, value, "view") {
@@ -294,8 +302,10 @@ fn formed(
     name: Name,
 ) -> Result<Command, LineError>
     requires { IfSome layers AreLayers }
-    ensures ok { IfOk result (λ command. join_as key.now form layers (view value.now) transform name ≡ Ok (form_of command)) }
-    ensures err { IfErr result (λ e. e ≢ LineError.Memory → join_as key.now form layers (view value.now) transform name ≡ Err e) }
+    ensures ok { IfOk result (λ command. join_as key.now form layers (view value.now) transform name
+        ≡ Ok (form_of command)) }
+    ensures err { IfErr result (λ e. e ≢ LineError.Memory
+        → join_as key.now form layers (view value.now) transform name ≡ Err e) }
     ensures sound { IfOk result IsSoundOther }
 {
     match form {
@@ -314,8 +324,10 @@ fn layered(
     name: Name,
 ) -> Result<Command, LineError>
     requires { IfSome layers AreLayers }
-    ensures ok { IfOk result (λ command. join_by key.now layers (view value.now) transform name kind ≡ Ok (form_of command)) }
-    ensures err { IfErr result (λ e. e ≢ LineError.Memory → join_by key.now layers (view value.now) transform name kind ≡ Err e) }
+    ensures ok { IfOk result (λ command. join_by key.now layers (view value.now) transform name kind
+        ≡ Ok (form_of command)) }
+    ensures err { IfErr result (λ e. e ≢ LineError.Memory
+        → join_by key.now layers (view value.now) transform name kind ≡ Err e) }
     ensures sound { IfOk result IsSoundOther }
 {
     match layers {
@@ -334,7 +346,8 @@ fn stepped(
 ) -> Result<Command, LineError>
     requires { AreLayers names }
     ensures ok { IfOk result (λ command. join_of (view value.now) transform name kind names ≡ Ok (form_of command)) }
-    ensures err { IfErr result (λ e. e ≢ LineError.Memory → join_of (view value.now) transform name kind names ≡ Err e) }
+    ensures err { IfErr result (λ e. e ≢ LineError.Memory
+        → join_of (view value.now) transform name kind names ≡ Err e) }
     ensures sound { IfOk result IsSoundOther }
 {
     match steps_in(alloc, value) {

@@ -71,7 +71,8 @@ fn plan_in(alloc: Global, value: &Value, names: &[Name]) -> Result<OpenPlan, Lin
 
 fn plan_of(alloc: Global, spec: &Value, names: &[Name]) -> Result<OpenPlan, LineError>
     ensures ok { IfOk result (λ plan. plan_read (plan_of_spec names.now (view spec.now)) ≡ Ok plan) }
-    ensures err { IfErr result (λ e. e ≢ LineError.Memory → plan_read (plan_of_spec names.now (view spec.now)) ≡ Err e) }
+    ensures err { IfErr result (λ e. e ≢ LineError.Memory
+        → plan_read (plan_of_spec names.now (view spec.now)) ≡ Err e) }
     ensures sound { IfOk result (IsSoundPlan names.now) }
 {
     match read_spec(alloc, spec, names) {

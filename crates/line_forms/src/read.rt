@@ -109,7 +109,8 @@ fn read_fault(value: &Value, has_factors: bool) -> Option<&str>
     ensures { option_map (λ s. s.now) result
         ≡ earlier (least_unknown read_members (view value.now))
         (earlier (half_fault (codes "downsample_factors") (codes "downsample_method") has_factors (view value.now))
-        (earlier (half_fault (codes "downsample_method") (codes "downsample_factors") (is_some (method_at (view value.now))) (view value.now))
+        (earlier (half_fault (codes "downsample_method") (codes "downsample_factors")
+        (is_some (method_at (view value.now))) (view value.now))
         (no_name (codes "read") (view value.now)))) }
 {
     earlier(unknown_in_read(value), down_fault(value, has_factors))
@@ -128,7 +129,8 @@ fn unknown_in_read(value: &Value) -> Option<&str>
 fn down_fault(value: &Value, has_factors: bool) -> Option<&str>
     ensures { option_map (λ s. s.now) result
         ≡ earlier (half_fault (codes "downsample_factors") (codes "downsample_method") has_factors (view value.now))
-        (earlier (half_fault (codes "downsample_method") (codes "downsample_factors") (is_some (method_at (view value.now))) (view value.now))
+        (earlier (half_fault (codes "downsample_method") (codes "downsample_factors")
+        (is_some (method_at (view value.now))) (view value.now))
         (no_name (codes "read") (view value.now))) }
 {
     let factors = half_fault(
@@ -142,7 +144,8 @@ fn down_fault(value: &Value, has_factors: bool) -> Option<&str>
 
 fn method_fault(value: &Value) -> Option<&str>
     ensures { option_map (λ s. s.now) result
-        ≡ earlier (half_fault (codes "downsample_method") (codes "downsample_factors") (is_some (method_at (view value.now))) (view value.now))
+        ≡ earlier (half_fault (codes "downsample_method") (codes "downsample_factors")
+        (is_some (method_at (view value.now))) (view value.now))
         (no_name (codes "read") (view value.now)) }
 {
     earlier(half_method(value), no_name(value, "read"))
@@ -150,7 +153,8 @@ fn method_fault(value: &Value) -> Option<&str>
 
 fn half_method(value: &Value) -> Option<&str>
     ensures { option_map (λ s. s.now) result
-        ≡ half_fault (codes "downsample_method") (codes "downsample_factors") (is_some (method_at (view value.now))) (view value.now) }
+        ≡ half_fault (codes "downsample_method") (codes "downsample_factors") (is_some (method_at (view value.now)))
+        (view value.now) }
 {
     half_fault(
         value,

@@ -41,8 +41,10 @@ fn sound_view(
     value: &Value,
     transform: Option<Transform>,
 ) -> Result<Command, LineError>
-    ensures ok { IfOk result (λ command. where_sound (view_fault (view value.now)) (viewed (view value.now) transform) ≡ Ok (form_of command)) }
-    ensures err { IfErr result (λ e. e ≢ LineError.Memory → where_sound (view_fault (view value.now)) (viewed (view value.now) transform) ≡ Err e) }
+    ensures ok { IfOk result (λ command. where_sound (view_fault (view value.now)) (viewed (view value.now) transform)
+        ≡ Ok (form_of command)) }
+    ensures err { IfErr result (λ e. e ≢ LineError.Memory
+        → where_sound (view_fault (view value.now)) (viewed (view value.now) transform) ≡ Err e) }
     ensures sound { IfOk result IsSoundOther }
 {
     match view_fault(value) {

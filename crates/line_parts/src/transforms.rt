@@ -41,7 +41,8 @@ fn transform_of(alloc: Global, value: &Value) -> Result<Option<Transform>, JsonE
 /// The fault of a transform, or that of another member that comes before it; `Memory` where an allocation failed.
 pub fn faulty_transform(alloc: Global, others: Option<&str>, error: &JsonError) -> LineError
     ensures { result ≢ LineError.Memory → (error.now ≢ JsonError.Memory)
-        × (result ≡ LineError.Member (first_fault (codes "transform") (option_map (λ s. s.now) others.entry) (transform_path error.now))) }
+        × (result ≡ LineError.Member (first_fault (codes "transform") (option_map (λ s.
+        s.now) others.entry) (transform_path error.now))) }
 {
     match error {
         JsonError::BadMember { path } => faulty_at(alloc, others, path.items()),
@@ -51,7 +52,8 @@ pub fn faulty_transform(alloc: Global, others: Option<&str>, error: &JsonError) 
 
 fn faulty_at(alloc: Global, others: Option<&str>, path: &str) -> LineError
     ensures { result ≢ LineError.Memory → result
-        ≡ LineError.Member (first_fault (codes "transform") (option_map (λ s. s.now) others.entry) (behind (codes "transform") path.now)) }
+        ≡ LineError.Member (first_fault (codes "transform") (option_map (λ s.
+        s.now) others.entry) (behind (codes "transform") path.now)) }
 {
     match behind(alloc, path) {
         Ok(path) => at_fault(alloc, first_fault("transform", others, path.as_str())),

@@ -84,8 +84,10 @@ impl Locations {
     /// `AllocError` where memory is wanting.
     pub fn find(&self, alloc: Global, location: &str) -> Result<Found, AllocError>
         ensures taken { (other : List ℕ) → result ≡ Ok (Found.Taken other) → IsLeastClash self.now location.now other }
-        ensures there { (number : ℕ) → result ≡ Ok (Found.There number) → (finmap.get self.now location.now ≡ Some number) × HasNoClash self.now location.now }
-        ensures free { result ≡ Ok Found.Free → (finmap.get self.now location.now ≡ None) × HasNoClash self.now location.now }
+        ensures there { (number : ℕ) → result ≡ Ok (Found.There number)
+            → (finmap.get self.now location.now ≡ Some number) × HasNoClash self.now location.now }
+        ensures free { result ≡ Ok Found.Free → (finmap.get self.now location.now ≡ None)
+            × HasNoClash self.now location.now }
     {
         let here = location.as_bytes();
         if let Some(place) = above(&self.table, here) {
@@ -122,7 +124,8 @@ impl Locations {
 
 /// Puts an array into the table.
 fn list(alloc: Global, table: &mut Table, location: &str, number: u64) -> Result<(), AllocError>
-    ensures listed { OnOk result (numbers_of table.new.entries ≡ finmap.insert (numbers_of table.old.entries) location.now number) }
+    ensures listed { OnOk result (numbers_of table.new.entries
+        ≡ finmap.insert (numbers_of table.old.entries) location.now number) }
     ensures err { OnErr result (numbers_of table.new.entries ≡ numbers_of table.old.entries) }
     ensures named { AreNamed table.old → AreNamed table.new }
 {
@@ -167,7 +170,8 @@ fn above<'a>(table: &'a Table, location: &[u8]) -> Option<&'a Place>
 /// The array at the least location that goes on behind a location and a "/", which are given together.
 fn below<'a>(table: &'a Table, from: &Vec<u8>) -> Option<&'a Place>
     ensures some { IfSome result (λ place. IsLeastBelow (place_at table.now) from.now.items place.now) }
-    ensures none { result ≡ None → (here : List ℕ) → begins from.now.items here ≡ true → place_at table.now here ≡ None }
+    ensures none { result ≡ None → (here : List ℕ) → begins from.now.items here ≡ true
+        → place_at table.now here ≡ None }
 {
     match table.range(from..).next() {
         Some((key, place)) => {

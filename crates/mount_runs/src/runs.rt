@@ -52,7 +52,8 @@ pub fn run_over<K: KvStore + Send, R: Threads + Wait + Sync, G: Gate + Sync>(
     requires short { All (λ s. length s.items < 2 ^ 62) scripts.now }
     requires workers { 0 < workers }
     requires cache { cache ≤ 2 ^ 27 }
-    ensures run { IfOk result (λ r. IsRun (map (λ v. v.items) scripts.now) mounts.items r.mounts.items r.history.items r.logs.items r.whole r.unfinished.items) }
+    ensures run { IfOk result (λ r. IsRun (map (λ v.
+        v.items) scripts.now) mounts.items r.mounts.items r.history.items r.logs.items r.whole r.unfinished.items) }
     ensures back { IfErr result (λ back. back.items ≡ mounts.items) }
 {
     let Ok(list) = FinishList::new(alloc, mounts.len() as u32) else {

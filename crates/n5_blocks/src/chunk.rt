@@ -10,7 +10,7 @@ ghost use Rattle.n5_blocks.specs.declared.chunk.BlockError.{BlockError};
 
 use crate::faults::{block_fault, cells_of, header_len, sizes_in};
 use crate::metadata::N5Meta;
-use cells::{Dense, Dtype, Sizes, Words, put_word};
+use cells::{Dense, Dtype, Sizes, put_word};
 use chunk_elements::{put_block, words_of_block};
 use std::alloc::{AllocError, Global};
 use thiserror::Error;
@@ -71,7 +71,10 @@ pub fn decode(alloc: Global, m: &N5Meta, bytes: &[u8]) -> Result<Dense, BlockErr
     let Ok(shape) = Vec::from_slice(alloc, m.block.items()) else {
         return Err(BlockError::Memory);
     };
-    Ok(Dense::new(m.dtype, Sizes::wrap(shape), Words::wrap(words)))
+    let Ok(cells) = Dense::of_words(alloc, m.dtype, Sizes::wrap(shape), &words) else {
+        return Err(BlockError::Memory);
+    };
+    Ok(cells)
 }
 
 /// The bytes of the block of this index that spell its numbers. The block is written only as far as the array reaches.
@@ -88,7 +91,8 @@ pub fn encode(alloc: Global, m: &N5Meta, chunk: &[u64], d: &Dense) -> Result<Vec
     ensures { IfOk result (λ bytes. WritesBlock m.now chunk.now bytes.items (word_at d.now)) }
 {
     let sizes = cut_sizes(alloc, m.block.items(), m.dimensions.items(), chunk)?;
-    write_block(alloc, m.dtype, m.block.items(), sizes.as_slice(), d.words())
+    let words = d.to_words(alloc)?;
+    write_block(alloc, m.dtype, m.block.items(), sizes.as_slice(), &words)
 }
 
 /// The sizes of a block as far as the array reaches.

@@ -4,7 +4,6 @@ ghost use Rattle.std.specs.List.{AllByRecursion};
 ghost use Rattle.chunk_forms.specs.Metadata as meta;
 ghost use Rattle.history.specs.Arrays.{Known, known_after, form_of};
 ghost use Rattle.state_laws.specs.Agreement.{Opening, Agrees, IsState, KeepsAgreement};
-ghost use Rattle.state_laws.specs.Seen.{seen_of};
 ghost use Rattle.prepared_writes.specs.Asking.{IsAsked, IsPart, IsUnderAt, part_in};
 
 use crate::asked::{Asked, Part, Under};
@@ -23,14 +22,14 @@ pub fn ask_all<'a, K: KvStore>(
     state: &mut State<K>,
     parts: Vec<Part<'a>>,
 ) -> Result<Vec<Asked<'a>>, AllocError>
-    requires agrees { let seen = seen_of K.contents K.faults K.prefixes K.names K.standing K.change_count in IsState (seen state.old.store) state.old.log }
+    requires agrees { IsState (K.seen state.old.store) state.old.log }
     requires parts { AllByRecursion (IsPart state.old.log.events) parts.items }
-    ensures asked { let seen = seen_of K.contents K.faults K.prefixes K.names K.standing K.change_count in
-        IfOk result (λ asked. (opening : Opening) → Agrees opening (seen state.old.store) state.old.log → AllByRecursion (IsAsked opening state.old.log.events) asked.items) }
+    ensures asked { IfOk result (λ asked. (opening : Opening) → Agrees opening (K.seen state.old.store) state.old.log
+        → AllByRecursion (IsAsked opening state.old.log.events) asked.items) }
     ensures parts { IfOk result (λ asked. map part_in asked.items ≡ parts.entry.items) }
     ensures events { state.new.log.events ≡ state.old.log.events }
     ensures store { state.new.store ≡ state.old.store }
-    ensures kept { let seen = seen_of K.contents K.faults K.prefixes K.names K.standing K.change_count in KeepsAgreement (seen state.old.store) state.old.log (seen state.new.store) state.new.log }
+    ensures kept { KeepsAgreement (K.seen state.old.store) state.old.log (K.seen state.new.store) state.new.log }
 {
     let mut asked = Vec::new(alloc);
     for part in parts {
@@ -41,14 +40,14 @@ pub fn ask_all<'a, K: KvStore>(
 
 // What there is to tell of one.
 fn ask<'a, K: KvStore>(state: &mut State<K>, part: Part<'a>) -> Result<Asked<'a>, AllocError>
-    requires agrees { let seen = seen_of K.contents K.faults K.prefixes K.names K.standing K.change_count in IsState (seen state.old.store) state.old.log }
+    requires agrees { IsState (K.seen state.old.store) state.old.log }
     requires part { IsPart state.old.log.events part }
-    ensures asked { let seen = seen_of K.contents K.faults K.prefixes K.names K.standing K.change_count in
-        IfOk result (λ a. (opening : Opening) → Agrees opening (seen state.old.store) state.old.log → IsAsked opening state.old.log.events a) }
+    ensures asked { IfOk result (λ a. (opening : Opening) → Agrees opening (K.seen state.old.store) state.old.log
+        → IsAsked opening state.old.log.events a) }
     ensures part { IfOk result (λ a. a.part ≡ part.entry) }
     ensures events { state.new.log.events ≡ state.old.log.events }
     ensures store { state.new.store ≡ state.old.store }
-    ensures kept { let seen = seen_of K.contents K.faults K.prefixes K.names K.standing K.change_count in KeepsAgreement (seen state.old.store) state.old.log (seen state.new.store) state.new.log }
+    ensures kept { KeepsAgreement (K.seen state.old.store) state.old.log (K.seen state.new.store) state.new.log }
 {
     let key = state.key(part.array, part.chunk)?;
     let resized = state.bounds(part.array)?.resized;
@@ -69,15 +68,17 @@ fn under_of<K: KvStore>(
     part: Part<'_>,
     form: &Form,
 ) -> Result<Under, AllocError>
-    requires agrees { let seen = seen_of K.contents K.faults K.prefixes K.names K.standing K.change_count in IsState (seen state.old.store) state.old.log }
+    requires agrees { IsState (K.seen state.old.store) state.old.log }
     requires part { IsPart state.old.log.events part }
-    requires form { (k : Known) → known_after state.old.log.events part.array ≡ Some k → form.now ≡ meta.with_shape (form_of k.info.home) k.shape }
-    ensures under { let seen = seen_of K.contents K.faults K.prefixes K.names K.standing K.change_count in
-        IfOk result (λ u. (opening : Opening) (k : Known) → Agrees opening (seen state.old.store) state.old.log → known_after state.old.log.events part.entry.array ≡ Some k
+    requires form { (k : Known) → known_after state.old.log.events part.array ≡ Some k
+        → form.now ≡ meta.with_shape (form_of k.info.home) k.shape }
+    ensures under { IfOk result (λ u. (opening : Opening) (k : Known)
+        → Agrees opening (K.seen state.old.store) state.old.log
+        → known_after state.old.log.events part.entry.array ≡ Some k
         → IsUnderAt opening state.old.log.events k part.entry form.now u) }
     ensures events { state.new.log.events ≡ state.old.log.events }
     ensures store { state.new.store ≡ state.old.store }
-    ensures kept { let seen = seen_of K.contents K.faults K.prefixes K.names K.standing K.change_count in KeepsAgreement (seen state.old.store) state.old.log (seen state.new.store) state.new.log }
+    ensures kept { KeepsAgreement (K.seen state.old.store) state.old.log (K.seen state.new.store) state.new.log }
 {
     if form.is_local() {
         return Ok(Under::Unknown);

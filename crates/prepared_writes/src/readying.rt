@@ -74,7 +74,8 @@ fn ready_over(
     requires base_shape { ForSome base (λ b. b.now.shape ≡ chunk_shape_of asked.now.form) }
     ensures generation { IfOk result (λ r. r.generation ≡ generation) }
     ensures resized { IfOk result (λ r. r.resized ≡ asked.now.resized) }
-    ensures left { IfOk result (λ r. IsLeft asked.now.form asked.now.part.chunk.now asked.now.part.staged.now (option_map (λ b. b.now) base.entry) r.bytes) }
+    ensures left { IfOk result (λ r. IsLeft asked.now.form asked.now.part.chunk.now asked.now.part.staged.now
+        (option_map (λ b. b.now) base.entry) r.bytes) }
 {
     let part = asked.part;
     let bytes = left_over(alloc, &asked.form, part.chunk, part.staged, base)?;

@@ -11,20 +11,9 @@ pub enum Store<R: Files + AllocGlobal + Drop> {
 }
 
 impl<R: Files + AllocGlobal + Drop> KvStore for Store<R> {
-    ghost use Rattle.std.specs.Prelude.{None};
-    ghost use Rattle.program_mounts.specs.Stores.{contents_of, faults_of, prefixes_of, standing_of, change_count_of};
+    ghost use Rattle.program_mounts.specs.Stores.{seen_of};
 
-    ghost contents = { contents_of };
-
-    ghost faults = { faults_of };
-
-    ghost prefixes = { prefixes_of };
-
-    ghost names = { λ s. None };
-
-    ghost standing = { standing_of };
-
-    ghost change_count = { change_count_of };
+    ghost seen = { seen_of };
 
     fn get(&mut self, key: &str) -> Result<Option<Vec<u8>>, KvError> {
         match self {

@@ -5,6 +5,7 @@ use Rattle.std.proofs.lemmas.Option.{get_or_from_slice_get, slice_get-get_or, sl
 use Rattle.std.specs.Prelude.{slice_get, if◌then◌else◌}
 use Rattle.std.specs.Option.{ForSome}
 use Rattle.cells.specs.Dense.{DenseCells, IsDense}
+use Rattle.cells.specs.Items.{words_where}
 use Rattle.cells.specs.Numbers.{IsWord}
 use Rattle.cells.specs.declared.dtype.Dtype.{Dtype}
 use Rattle.rebase_writes.specs.Runs.{shown_at}
@@ -179,3 +180,13 @@ IsDense-laid_over base cells is sized staged = record {
   full = length-laid_over cells base.words sized ∙ is.full;
   of_dtype = All-laid_over base.dtype cells base.words sized staged is.of_dtype;
 }
+
+-- words where the mask is set are the staged words laid over
+pub words_where-laid_over : (mask : List Bool) (words base : List ℕ) → length mask ≡ length words → length words ≡ length base → words_where mask words base ≡ laid_over (staged_cells mask words) base
+words_where-laid_over [] [] [] same sized = refl
+words_where-laid_over [] [] (b ∷ base) same sized = absurd (omega (arith, sized))
+words_where-laid_over [] (w ∷ words) base same sized = absurd (omega (arith, same))
+words_where-laid_over (covered ∷ mask) [] base same sized = absurd (omega (arith, same))
+words_where-laid_over (covered ∷ mask) (w ∷ words) [] same sized = absurd (omega (arith, sized))
+words_where-laid_over (true ∷ mask) (w ∷ words) (b ∷ base) same sized = ap (λ l. w ∷ l) (words_where-laid_over mask words base (omega (arith, same)) (omega (arith, sized)))
+words_where-laid_over (false ∷ mask) (w ∷ words) (b ∷ base) same sized = ap (λ l. b ∷ l) (words_where-laid_over mask words base (omega (arith, same)) (omega (arith, sized)))

@@ -10,18 +10,15 @@ pub fn read_run(dense: &Dense, run: &Run, out: &mut [u64])
     requires { IsRunInside run.now (length out.old) (length dense.now.words) }
     ensures { out.new ≡ pairs_read (pairs_of run.now) dense.now.words out.old }
 {
-    let words = dense.words();
-    for k in 0..run.len {
-        let (view, chunk) = pair_at(run, k);
-        out[view] = words[chunk];
-    }
+    dense.read_run(run, out);
 }
 
 /// Stages the words of a view along a run, in a mask and words.
 pub(crate) fn stage_run(mask: &mut [bool], staged: &mut [u64], run: &Run, words: &[u64])
     requires same { length mask.old ≡ length staged.old }
     requires inside { IsRunInside run.now (length words.now) (length staged.old) }
-    ensures { staged_cells mask.new staged.new ≡ pairs_written (pairs_of run.now) words.now (staged_cells mask.old staged.old) }
+    ensures { staged_cells mask.new staged.new
+        ≡ pairs_written (pairs_of run.now) words.now (staged_cells mask.old staged.old) }
 {
     for pair in 0..run.len {
         let (view, chunk) = pair_at(run, pair);

@@ -5,7 +5,7 @@ ghost use Rattle.cells.specs.Runs.{IsRunInside, pairs_of};
 ghost use Rattle.rebase_writes.specs.Runs.{pairs_written, pairs_shown};
 
 use crate::run::{show_run, stage_run};
-use cells::{Dense, Run, Sizes, Words};
+use cells::{Dense, Run};
 use std::alloc::{AllocError, Global};
 use std::marker::Model;
 
@@ -97,16 +97,29 @@ impl Staged {
         ensures cells { IfOk result (λ dense. (place : ℕ) → place < length self.now →
             slice_index dense.words place ≡ unwrap_or (staged_at self.now place) (slice_index base.now.words place)) }
     {
-        let shape = Sizes::wrap(Vec::from_slice(alloc, base.shape())?);
-        let words = laid(alloc, &self.mask, &self.words, base.words())?;
-        Ok(Dense::new(base.dtype(), shape, Words::wrap(words)))
+        let mut dense = base.copy(alloc)?;
+        self.lay_over(&mut dense);
+        Ok(dense)
+    }
+
+    /// Puts the staged words in place of the chunk's own.
+    pub fn lay_over(&self, chunk: &mut Dense)
+        requires size { length self.now ≡ length chunk.old.words }
+        requires words { AreWords chunk.old.dtype self.now }
+        ensures value { chunk.new ≡ record chunk.old { words = laid_over self.now chunk.old.words } }
+        ensures cells { (place : ℕ) → place < length self.now →
+            slice_index chunk.new.words place ≡ unwrap_or (staged_at self.now place)
+            (slice_index chunk.old.words place) }
+    {
+        chunk.set_where(&self.mask, &self.words);
     }
 }
 
 /// Whether the mask is set at each place that lies inside.
 fn covers_all(mask: &[bool], inside: &[bool]) -> bool
     requires { length inside.now ≡ length mask.now }
-    ensures { IsTrue result ↔ ((place : ℕ) → slice_get inside.now place ≡ Some true → slice_get mask.now place ≡ Some true) }
+    ensures { IsTrue result ↔ ((place : ℕ) → slice_get inside.now place ≡ Some true
+        → slice_get mask.now place ≡ Some true) }
 {
     for (place, covered) in mask.iter().enumerate() {
         if inside[place] && !covered {
@@ -114,28 +127,4 @@ fn covers_all(mask: &[bool], inside: &[bool]) -> bool
         }
     }
     true
-}
-
-/// The words of a chunk with the staged ones in place of its own.
-fn laid(alloc: Global, mask: &[bool], staged: &[u64], base: &[u64]) -> Result<Vec<u64>, AllocError>
-    requires mask { length mask.now ≡ length base.now }
-    requires staged { length staged.now ≡ length base.now }
-    ensures { IfOk result (λ words. words.items ≡ laid_over (staged_cells mask.now staged.now) base.now) }
-{
-    let mut words = Vec::from_slice(alloc, base)?;
-    lay_over(mask, staged, &mut words);
-    Ok(words)
-}
-
-/// Puts a staged word in the place of another wherever the mask is set.
-fn lay_over(mask: &[bool], staged: &[u64], laid: &mut [u64])
-    requires mask { length mask.now ≡ length laid.old }
-    requires staged { length staged.now ≡ length laid.old }
-    ensures { laid.new ≡ laid_over (staged_cells mask.now staged.now) laid.old }
-{
-    for (place, covered) in mask.iter().enumerate() {
-        if *covered {
-            laid[place] = staged[place];
-        }
-    }
 }

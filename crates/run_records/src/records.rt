@@ -98,7 +98,8 @@ impl Records {
     /// How many arrays were opened: the number of the next one.
     pub fn array_count(&self) -> u64
         ensures value { result ≡ count_by is_opening self.now.events }
-        ensures there { (here : List ℕ) (k : Known) → array_at self.now.events here ≡ Some k → known_after self.now.events k.info.number ≡ Some k }
+        ensures there { (here : List ℕ) (k : Known) → array_at self.now.events here ≡ Some k
+            → known_after self.now.events k.info.number ≡ Some k }
     {
         self.arrays.len() as u64
     }
@@ -108,7 +109,8 @@ impl Records {
         requires { IsSome (known_after self.now.events array) }
         ensures value { Some result.now ≡ option_map (λ (k : Known). k.info) (known_after self.now.events array) }
         // A local array keeps the shape that it was opened with.
-        ensures local { is_local result.now.home ≡ true → Some result.now.shape ≡ option_map (λ (k : Known). k.shape) (known_after self.now.events array) }
+        ensures local { is_local result.now.home ≡ true
+            → Some result.now.shape ≡ option_map (λ (k : Known). k.shape) (known_after self.now.events array) }
     {
         let Some(info) = info_at(&self.events, &self.arrays, array) else {
             unreachable!();
@@ -128,7 +130,8 @@ impl Records {
     /// How an array's chunks are stored, with its present shape.
     pub fn form(&self, array: u64) -> &Form
         requires { IsSome (known_after self.now.events array) }
-        ensures { Some result.now ≡ option_map (λ (k : Known). with_shape (form_of k.info.home) k.shape) (known_after self.now.events array) }
+        ensures { Some result.now ≡ option_map (λ (k : Known).
+            with_shape (form_of k.info.home) k.shape) (known_after self.now.events array) }
     {
         let entry = entry_at(&self.events, &self.arrays, array);
         &entry.form
@@ -177,7 +180,8 @@ impl Records {
     /// `AllocError` where the chunk can't be shared any more. Nothing has changed then.
     pub fn hit(&mut self, key: &str) -> Result<Option<Snapshot>, AllocError>
         ensures value { IfOk result (λ found. found ≡ kept key.now self.old.cache.entries) }
-        ensures after { OnOk result (self.new ≡ record self.old { cache = record self.old.cache { entries = after_hit key.now self.old.cache.entries } }) }
+        ensures after { OnOk result (self.new
+            ≡ record self.old { cache = record self.old.cache { entries = after_hit key.now self.old.cache.entries } }) }
         ensures err { OnErr result (self.new ≡ self.old) }
         ensures miss { kept key.now self.old.cache.entries ≡ None → IsOk result }
     {
@@ -195,7 +199,8 @@ impl Records {
           };
         }) }
         ensures err { OnErr result (self.new ≡ self.old) }
-        ensures handed_back { IfErr result (λ refused. (refused.key ≡ string_bytes key) × (refused.snapshot ≡ snapshot)) }
+        ensures handed_back { IfErr result (λ refused. (refused.key ≡ string_bytes key)
+            × (refused.snapshot ≡ snapshot)) }
     {
         self.cache.keep(key, snapshot)
     }
@@ -216,7 +221,8 @@ impl Records {
     pub fn add_fault(&mut self, owner: u32, mount: Name) -> u64
         requires { 0 < self.old.event_room }
         ensures number { result ≡ length self.old.events + 1 }
-        ensures after { self.new ≡ record self.old { events = self.old.events ++ fault owner mount ∷ []; room = self.new.room; event_room = self.new.event_room } }
+        ensures after { self.new
+            ≡ record self.old { events = self.old.events ++ fault owner mount ∷ []; room = self.new.room; event_room = self.new.event_room } }
         ensures room { self.new.event_room + 1 ≡ self.old.event_room }
     {
         let kind = Kind::Fault { mount };
@@ -291,7 +297,8 @@ impl Records {
         form: Form,
         keys: Vec<Name>,
     ) -> u64
-        requires stored { (k : Known) × (known_after self.old.events array ≡ Some k) × (is_local k.info.home ≡ false) × (form ≡ with_shape (form_of k.info.home) shape) }
+        requires stored { (k : Known) × (known_after self.old.events array ≡ Some k) × (is_local k.info.home ≡ false)
+            × (form ≡ with_shape (form_of k.info.home) shape) }
         requires room { 0 < self.old.event_room }
         requires prepared { AllByRecursion (IsPrepared self.old.prepared) keys.items }
         ensures number { result ≡ length self.old.events + 1 }
@@ -392,9 +399,12 @@ fn add(events: &mut Vec<Event>, event: Event) -> u64
 /// Gives an array another form, by the event of this number.
 fn reshape(entries: &mut Vec<Entry>, place: usize, form: Form, number: u64)
     requires { place < length entries.old.items }
-    ensures locals { map (λ (e : EntryOf). e.local) entries.new.items ≡ map (λ (e : EntryOf). e.local) entries.old.items }
-    ensures arrays { (h : History) (owner : ℕ) (shape : List ℕ) (k : Known) → number ≡ length h + 1 → known_after h place ≡ Some k → is_local k.info.home ≡ false
-        → form ≡ with_shape (form_of k.info.home) shape → AreArrays h entries.old.items → AreArrays (h ++ resized_event owner place shape ∷ []) entries.new.items }
+    ensures locals { map (λ (e : EntryOf). e.local) entries.new.items ≡ map (λ (e : EntryOf).
+        e.local) entries.old.items }
+    ensures arrays { (h : History) (owner : ℕ) (shape : List ℕ) (k : Known) → number ≡ length h + 1
+        → known_after h place ≡ Some k → is_local k.info.home ≡ false
+        → form ≡ with_shape (form_of k.info.home) shape → AreArrays h entries.old.items
+        → AreArrays (h ++ resized_event owner place shape ∷ []) entries.new.items }
 {
     reshape_at(entries.as_mut_slice(), place, form, number);
 }
@@ -402,8 +412,10 @@ fn reshape(entries: &mut Vec<Entry>, place: usize, form: Form, number: u64)
 fn reshape_at(entries: &mut [Entry], place: usize, form: Form, number: u64)
     requires { place < length entries.old }
     ensures locals { map (λ (e : EntryOf). e.local) entries.new ≡ map (λ (e : EntryOf). e.local) entries.old }
-    ensures arrays { (h : History) (owner : ℕ) (shape : List ℕ) (k : Known) → number ≡ length h + 1 → known_after h place ≡ Some k → is_local k.info.home ≡ false
-        → form ≡ with_shape (form_of k.info.home) shape → AreArrays h entries.old → AreArrays (h ++ resized_event owner place shape ∷ []) entries.new }
+    ensures arrays { (h : History) (owner : ℕ) (shape : List ℕ) (k : Known) → number ≡ length h + 1
+        → known_after h place ≡ Some k → is_local k.info.home ≡ false
+        → form ≡ with_shape (form_of k.info.home) shape → AreArrays h entries.old
+        → AreArrays (h ++ resized_event owner place shape ∷ []) entries.new }
 {
     let entry = &mut entries[place];
     entry.form = form;
@@ -412,7 +424,8 @@ fn reshape_at(entries: &mut [Entry], place: usize, form: Form, number: u64)
 
 fn put_cells(entries: &mut [Entry], place: usize, cells: Snapshot)
     requires { place < length entries.old }
-    ensures locals { map (λ (e : EntryOf). e.local) entries.new ≡ set (map (λ (e : EntryOf). e.local) entries.old) place (Some cells) }
+    ensures locals { map (λ (e : EntryOf). e.local) entries.new ≡ set (map (λ (e : EntryOf).
+        e.local) entries.old) place (Some cells) }
     ensures arrays { (events : History) → AreArrays events entries.old → AreArrays events entries.new }
 {
     entries[place].local = Some(cells);

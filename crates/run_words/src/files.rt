@@ -64,7 +64,8 @@ fn files(rest: &[String], start: usize) -> Option<usize>
 
 /// The words behind a first `--`.
 fn marked(words: &[String]) -> Option<&[String]>
-    ensures some { IfSome result (λ behind. (texts_of words.now ≡ codes "--" ∷ texts_of behind.now) × (length words.now ≡ length behind.now + 1)) }
+    ensures some { IfSome result (λ behind. (texts_of words.now ≡ codes "--" ∷ texts_of behind.now)
+        × (length words.now ≡ length behind.now + 1)) }
     ensures none { result ≡ None → (behind : List Text) → texts_of words.now ≢ codes "--" ∷ behind }
 {
     match words {

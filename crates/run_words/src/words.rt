@@ -20,7 +20,8 @@ use crate::settings::Settings;
 pub fn read_words(words: &[String]) -> Result<Settings, WordsError>
     ensures settings { IfOk result (IsSettings (texts_of words.now)) }
     ensures only { (settings : Settings) → IsSettings (texts_of words.now) settings → result ≡ Ok settings }
-    ensures refused { IsErrOf result WordsError.Refused → (settings : Settings) → ¬ IsSettings (texts_of words.now) settings }
+    ensures refused { IsErrOf result WordsError.Refused → (settings : Settings)
+        → ¬ IsSettings (texts_of words.now) settings }
     ensures limits { IfOk result (KeepsLimits (texts_of words.now)) }
 {
     let options = read_options(words)?;

@@ -23,20 +23,9 @@ fn is_named(left: &mut u64) -> bool {
 }
 
 impl<'n> KvStore for Counted<'n> {
-    ghost use Rattle.std.specs.Prelude.{Some, None};
-    ghost use Rattle.kv_face.specs.Memory.{faults_of, prefixes_of, change_count_of};
+    ghost use Rattle.kv_face.specs.Memory.{seen_of};
 
-    ghost contents = { λ s. Some s.store.contents };
-
-    ghost faults = { λ s. faults_of s.store };
-
-    ghost prefixes = { λ s. prefixes_of s.store };
-
-    ghost names = { λ s. None };
-
-    ghost standing = { λ s. s.store.standing };
-
-    ghost change_count = { λ s. change_count_of s.store };
+    ghost seen = { λ s. seen_of s.store };
 
     fn get(&mut self, key: &str) -> Result<Option<Vec<u8>>, KvError> {
         if is_named(&mut self.get_wants) {

@@ -34,6 +34,8 @@ fn failed<R: Threads + Wait + Sync>(
         workers: "2",
         looks: MOST_LOOKS,
         line: 5,
+        coding: 0,
+        until: 0,
         behind: true,
         texts: [FIRST, OTHER],
     };

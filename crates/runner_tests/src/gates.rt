@@ -13,14 +13,18 @@ impl Gate for Open {
     fn coding<R: Wait>(&self, _rt: &R, _session: u32) {}
 }
 
-/// A gate that holds session 0, before a line of its own or where it is about to decode or encode a chunk, until the store was changed so
-/// often and, where it is asked, session 1 is before its third line. Session 1 doesn't begin before session 0 is held.
+/// A gate that holds session 0, before a line of its own or where it is about to decode or encode a chunk for the nth time, until the store
+/// was changed so often and, where it is asked, session 1 is before its third line. Session 1 doesn't begin before session 0 is held.
 #[derive(Drop)]
 pub(crate) struct Holding<'n> {
     /// How often a session looks before it gives up.
     pub looks: u64,
     /// Session 0's line, or 0 where it is held in coding.
     pub line: u64,
+    /// At which of its codings session 0 is held, from 1 on; 0 where it is held before a line.
+    pub coding: u64,
+    /// How many codings session 0 has begun.
+    pub begun: AtomicU64,
     /// How often the store has to be changed before session 0 goes on.
     pub until: u64,
     /// How often it was changed.
@@ -75,7 +79,9 @@ impl<'n> Gate for Holding<'n> {
     }
 
     fn coding<R: Wait>(&self, _rt: &R, session: u32) {
-        if session == 0 && self.line == 0 {
+        if session == 0
+            && self.begun.fetch_add(1, Ordering::SeqCst).wrapping_add(1) == self.coding
+        {
             self.hold();
         }
     }

@@ -20,7 +20,11 @@ pub(crate) struct Plan<'t> {
     pub looks: u64,
     /// The line before which session 0 is held; 0 where it is held as it is about to decode or encode a chunk.
     pub line: u64,
-    /// Whether it is held until session 1 is before its third line, else until the store was changed twice.
+    /// At which of its codings it is held then, from 1 on; else 0.
+    pub coding: u64,
+    /// How often the store has to be changed before it goes on.
+    pub until: u64,
+    /// Whether session 1 has to be before its third line too.
     pub behind: bool,
     pub texts: [&'t str; 2],
 }
@@ -31,6 +35,21 @@ fn held_before<'t>(line: u64, texts: [&'t str; 2]) -> Plan<'t> {
         workers: "2",
         looks: MOST_LOOKS,
         line,
+        coding: 0,
+        until: 2,
+        behind: false,
+        texts,
+    }
+}
+
+// On two workers, session 0 held at one of its codings until the store was changed so often.
+fn held_in_coding<'t>(coding: u64, until: u64, texts: [&'t str; 2]) -> Plan<'t> {
+    Plan {
+        workers: "2",
+        looks: MOST_LOOKS,
+        line: 0,
+        coding,
+        until,
         behind: false,
         texts,
     }
@@ -51,7 +70,9 @@ pub(crate) fn met_over<R: Threads + Wait + Sync>(
     let gate = Holding {
         looks: plan.looks,
         line: plan.line,
-        until: if plan.behind { 0 } else { 2 },
+        coding: plan.coding,
+        begun: AtomicU64::new(0),
+        until: plan.until,
         made: &made,
         behind: plan.behind,
         come: AtomicU64::new(0),
@@ -147,6 +168,13 @@ const READS_AND_WRITES: &str =
 {"commit":true}
 "#;
 
+const WRITES_BOTH: &str =
+    r#"{"open":"a","spec":{"driver":"zarr","kvstore":{"driver":"memory","path":"a"},"metadata":{"chunks":[2],"dtype":"<i4","shape":[2]},"create":true}}
+{"begin":{}}
+{"write":"a","values":[3,4]}
+{"commit":true}
+"#;
+
 const READS_HELD: &str =
     r#"{"open":"a","spec":{"driver":"zarr","kvstore":{"driver":"memory","path":"a"}}}
 {"read":"a"}
@@ -223,6 +251,8 @@ fn sessions_of_one_worker_do_not_pass_the_gate(rt: HostRuntime) -> Result<(), Fa
         workers: "1",
         looks: 1_000,
         line: 4,
+        coding: 0,
+        until: 2,
         behind: false,
         texts: [READS_ALONE, WRITES_SIX],
     };
@@ -250,13 +280,14 @@ Some([1, 0, 0, 0, 2, 0, 0, 0])"#
     Ok(())
 }
 
-// Session 0 is held where it is about to encode its chunk, over which session 1 writes meanwhile: both cells stand.
+// Session 0 has decoded the chunk for its read and is held where it is about to encode it for its commit, while session 1 writes to the
+// same chunk: the bytes that are prepared then are of a chunk that is gone, and both cells stand.
 #[test]
 fn prepared_bytes_gone_stale(rt: HostRuntime) -> Result<(), Fail> {
     let text = met(
         &rt,
         rt.alloc(),
-        &held_before(0, [READS_AND_WRITES, WRITES_SIX]),
+        &held_in_coding(2, 2, [READS_AND_WRITES, WRITES_SIX]),
     )?;
     assert!(rt;
         text.as_str()
@@ -269,6 +300,28 @@ fn prepared_bytes_gone_stale(rt: HostRuntime) -> Result<(), Fail> {
 {"domain":{"exclusive_max":[[2]],"inclusive_min":[0]},"dtype":"int32","events":[],"line":1,"open":"a"}
 {"commit":[2],"line":2,"write":1}
 Some([1, 0, 0, 0, 6, 0, 0, 0])"#
+    );
+    Ok(())
+}
+
+// Session 0 is held where it is about to encode the chunk that it covers, and session 1 makes an array and commits to it meanwhile.
+#[test]
+fn encoding_outside_the_turn(rt: HostRuntime) -> Result<(), Fail> {
+    let text = met(
+        &rt,
+        rt.alloc(),
+        &held_in_coding(1, 3, [WRITES_BOTH, WRITES_ANOTHER]),
+    )?;
+    assert!(rt;
+        text.as_str()
+            == r#"status 0, unfinished [], events 4
+{"domain":{"exclusive_max":[[2]],"inclusive_min":[0]},"dtype":"int32","events":[1],"line":1,"open":"a"}
+{"begin":true,"line":2}
+{"line":3,"write":2}
+{"commit":[4],"line":4}
+{"domain":{"exclusive_max":[[2]],"inclusive_min":[0]},"dtype":"int32","events":[2],"line":1,"open":"b"}
+{"commit":[3],"line":2,"write":2}
+Some([3, 0, 0, 0, 4, 0, 0, 0])"#
     );
     Ok(())
 }
@@ -394,7 +447,7 @@ fn decoding_outside_the_turn(rt: HostRuntime) -> Result<(), Fail> {
         &rt,
         rt.alloc(),
         held(rt.alloc())?,
-        &held_before(0, [READS_HELD, WRITES_ANOTHER]),
+        &held_in_coding(1, 2, [READS_HELD, WRITES_ANOTHER]),
     )?;
     assert!(rt;
         text.as_str()

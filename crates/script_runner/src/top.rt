@@ -47,32 +47,45 @@ pub fn run<S: Reader, O: Writer, K: KvStore + Send, R: Threads + Wait + Sync, G:
 ) -> Outcome
     requires mounts { AreMounts mounts.old.items }
     // Serial transactions: over one empty store that makes all changes of a commit together.
-    ensures serial { result.logs ≢ [] → IsEmptyMount mounts.old.items → IsSerialOutcome (S.contents scripts.old) (texts_of words.now) mounts.old.items mounts.new.items result }
+    ensures serial { result.logs ≢ [] → IsEmptyMount mounts.old.items
+        → IsSerialOutcome (S.contents scripts.old) (texts_of words.now) mounts.old.items mounts.new.items result }
     // Over any mounts, where sessions were started, whatever the status.
-    ensures started { result.logs ≢ [] → HasRun (S.contents scripts.old) (texts_of words.now) mounts.old.items mounts.new.items result (sink.new ≡ sink.old) }
+    ensures started { result.logs ≢ [] → HasRun (S.contents scripts.old)
+        (texts_of words.now) mounts.old.items mounts.new.items result (sink.new ≡ sink.old) }
     // Where none was, no mount was touched and nothing was written.
-    ensures unstarted { result.logs ≡ [] → IsUnstarted result × (mounts.new.items ≡ mounts.old.items) × (sink.new ≡ sink.old) }
+    ensures unstarted { result.logs ≡ [] → IsUnstarted result × (mounts.new.items ≡ mounts.old.items)
+        × (sink.new ≡ sink.old) }
     ensures known { result.status ≤ 5 }
     // The words are refused exactly where they ask for nothing; no script was opened then.
     ensures refused { result.status ≡ 2 ↔ AreRefused (texts_of words.now) }
     ensures unopened { result.status ≡ 2 → scripts.new ≡ scripts.old }
     // Nor is one where the words ask for scripts that are made.
-    ensures made { (number : ℕ) → AskToMake (texts_of words.now) number → (scripts.new ≡ scripts.old) × (result.status ≢ 3) }
+    ensures made { (number : ℕ) → AskToMake (texts_of words.now) number → (scripts.new ≡ scripts.old)
+        × (result.status ≢ 3) }
     // The files that the words name are asked for in their order, each once and none behind the first that isn't given; what was given is run.
-    ensures asked { (files : List Text) → AskFor (texts_of words.now) files → HasAsked S.gives scripts.old files result (λ texts. HasRunTexts texts mounts.old.items mounts.new.items result (sink.new ≡ sink.old)) scripts.new }
+    ensures asked { (files : List Text) → AskFor (texts_of words.now) files
+        → HasAsked S.gives scripts.old files result (λ texts.
+        HasRunTexts texts mounts.old.items mounts.new.items result (sink.new ≡ sink.old)) scripts.new }
     // Status 3 comes only where the scripts failed or, as far as they are told, the script passes a limit.
-    ensures unread { result.status ≡ 3 → IsUnread (S.contents scripts.old) (texts_of words.now) (S.faults scripts.old) (S.faults scripts.new) result.script }
+    ensures unread { result.status ≡ 3 → IsUnread (S.contents scripts.old) (texts_of words.now) (S.faults scripts.old)
+        (S.faults scripts.new) result.script }
     ensures place { result.status ≢ 3 → result.script ≡ None }
     ensures none { (result.status ≡ 2) ⊎ (result.status ≡ 3) → result.logs ≡ [] }
     ensures some { (result.status ≢ 2) → (result.status ≢ 3) → (result.status ≢ 5) → result.logs ≢ [] }
     ensures contents { S.contents scripts.new ≡ S.contents scripts.old }
     ensures reading { S.faults scripts.old ≤ S.faults scripts.new }
     // The text of the run is given to the sink in pieces, in order, none behind the first that wasn't taken; the status tells how far.
-    ensures put { (settings : Settings) → IsSettings (texts_of words.now) settings → result.logs ≢ [] → IsPut O.takes sink.old (text_by settings.input result) result.status sink.new }
+    ensures put { (settings : Settings) → IsSettings (texts_of words.now) settings → result.logs ≢ []
+        → IsPut O.takes sink.old (text_by settings.input result) result.status sink.new }
     // What was written is this text, or a front part of it where the sink failed or memory was wanting.
-    ensures written { (settings : Settings) → IsSettings (texts_of words.now) settings → HasAnswers result.status → WhereTold (O.content sink.old) (λ before. O.content sink.new ≡ Some (before ++ text_by settings.input result)) }
-    ensures part { (settings : Settings) → IsSettings (texts_of words.now) settings → WhereTold (O.content sink.old) (λ before. IsPartOf (O.content sink.new) before (text_by settings.input result)) }
-    ensures status { HasAnswers result.status → (result.status ≡ status_of result) × (holds_memory result.logs ≡ false) }
+    ensures written { (settings : Settings) → IsSettings (texts_of words.now) settings → HasAnswers result.status
+        → WhereTold (O.content sink.old) (λ before.
+        O.content sink.new ≡ Some (before ++ text_by settings.input result)) }
+    ensures part { (settings : Settings) → IsSettings (texts_of words.now) settings
+        → WhereTold (O.content sink.old) (λ before.
+        IsPartOf (O.content sink.new) before (text_by settings.input result)) }
+    ensures status { HasAnswers result.status → (result.status ≡ status_of result)
+        × (holds_memory result.logs ≡ false) }
     ensures unwritten { Rises (O.faults sink.old) (O.faults sink.new) (result.status ≡ 4) }
 {
     match read_words(words) {
@@ -120,20 +133,27 @@ fn read_and_run<S: Reader, O: Writer, K: KvStore + Send, R: Threads + Wait + Syn
     requires files { (0 < length files.now) × (length files.now ≤ 1024) }
     requires workers { 0 < workers }
     requires cache { cache ≤ 2 ^ 27 }
-    ensures started { result.logs ≢ [] → HasRunFiles (S.contents scripts.old) (texts_of files.now) mounts.old.items mounts.new.items result (sink.new ≡ sink.old) }
-    ensures asked { HasAsked S.gives scripts.old (texts_of files.now) result (λ texts. HasRunTexts texts mounts.old.items mounts.new.items result (sink.new ≡ sink.old)) scripts.new }
-    ensures unstarted { result.logs ≡ [] → IsUnstarted result × (mounts.new.items ≡ mounts.old.items) × (sink.new ≡ sink.old) }
+    ensures started { result.logs ≢ [] → HasRunFiles (S.contents scripts.old)
+        (texts_of files.now) mounts.old.items mounts.new.items result (sink.new ≡ sink.old) }
+    ensures asked { HasAsked S.gives scripts.old (texts_of files.now) result (λ texts.
+        HasRunTexts texts mounts.old.items mounts.new.items result (sink.new ≡ sink.old)) scripts.new }
+    ensures unstarted { result.logs ≡ [] → IsUnstarted result × (mounts.new.items ≡ mounts.old.items)
+        × (sink.new ≡ sink.old) }
     ensures known { (result.status ≤ 5) × (result.status ≢ 2) }
-    ensures unread { result.status ≡ 3 → IsUnreadFile (S.contents scripts.old) (texts_of files.now) (S.faults scripts.old) (S.faults scripts.new) result.script }
+    ensures unread { result.status ≡ 3 → IsUnreadFile (S.contents scripts.old) (texts_of files.now)
+        (S.faults scripts.old) (S.faults scripts.new) result.script }
     ensures place { result.status ≢ 3 → result.script ≡ None }
     ensures none { result.status ≡ 3 → result.logs ≡ [] }
     ensures some { (result.status ≢ 3) → (result.status ≢ 5) → result.logs ≢ [] }
     ensures contents { S.contents scripts.new ≡ S.contents scripts.old }
     ensures reading { S.faults scripts.old ≤ S.faults scripts.new }
     ensures put { result.logs ≢ [] → IsPut O.takes sink.old (text_of_logs result.logs) result.status sink.new }
-    ensures written { HasAnswers result.status → WhereTold (O.content sink.old) (λ before. O.content sink.new ≡ Some (before ++ text_of_logs result.logs)) }
-    ensures part { WhereTold (O.content sink.old) (λ before. IsPartOf (O.content sink.new) before (text_of_logs result.logs)) }
-    ensures status { HasAnswers result.status → (result.status ≡ status_of result) × (holds_memory result.logs ≡ false) }
+    ensures written { HasAnswers result.status
+        → WhereTold (O.content sink.old) (λ before. O.content sink.new ≡ Some (before ++ text_of_logs result.logs)) }
+    ensures part { WhereTold (O.content sink.old) (λ before.
+        IsPartOf (O.content sink.new) before (text_of_logs result.logs)) }
+    ensures status { HasAnswers result.status → (result.status ≡ status_of result)
+        × (holds_memory result.logs ≡ false) }
     ensures unwritten { Rises (O.faults sink.old) (O.faults sink.new) (result.status ≡ 4) }
 {
     match read_scripts(alloc, scripts, files) {
@@ -168,15 +188,22 @@ fn make_and_run<O: Writer, K: KvStore + Send, R: Threads + Wait + Sync, G: Gate 
     requires mounts { AreMounts mounts.old.items }
     requires workers { 0 < workers }
     requires cache { cache ≤ 2 ^ 27 }
-    ensures started { result.logs ≢ [] → HasRunTexts (made number) mounts.old.items mounts.new.items result (sink.new ≡ sink.old) }
-    ensures unstarted { result.logs ≡ [] → IsUnstarted result × (mounts.new.items ≡ mounts.old.items) × (sink.new ≡ sink.old) }
+    ensures started { result.logs ≢ [] → HasRunTexts (made number) mounts.old.items mounts.new.items result (sink.new
+        ≡ sink.old) }
+    ensures unstarted { result.logs ≡ [] → IsUnstarted result × (mounts.new.items ≡ mounts.old.items)
+        × (sink.new ≡ sink.old) }
     ensures known { (result.status ≤ 5) × (result.status ≢ 2) × (result.status ≢ 3) }
     ensures place { result.script ≡ None }
     ensures some { result.status ≢ 5 → result.logs ≢ [] }
-    ensures put { result.logs ≢ [] → IsPut O.takes sink.old (summary_text result.logs result.history) result.status sink.new }
-    ensures written { HasAnswers result.status → WhereTold (O.content sink.old) (λ before. O.content sink.new ≡ Some (before ++ summary_text result.logs result.history)) }
-    ensures part { WhereTold (O.content sink.old) (λ before. IsPartOf (O.content sink.new) before (summary_text result.logs result.history)) }
-    ensures status { HasAnswers result.status → (result.status ≡ status_of result) × (holds_memory result.logs ≡ false) }
+    ensures put { result.logs ≢ [] → IsPut O.takes sink.old
+        (summary_text result.logs result.history) result.status sink.new }
+    ensures written { HasAnswers result.status
+        → WhereTold (O.content sink.old) (λ before.
+        O.content sink.new ≡ Some (before ++ summary_text result.logs result.history)) }
+    ensures part { WhereTold (O.content sink.old) (λ before.
+        IsPartOf (O.content sink.new) before (summary_text result.logs result.history)) }
+    ensures status { HasAnswers result.status → (result.status ≡ status_of result)
+        × (holds_memory result.logs ≡ false) }
     ensures unwritten { Rises (O.faults sink.old) (O.faults sink.new) (result.status ≡ 4) }
 {
     match make_scripts(alloc, number) {
@@ -212,15 +239,22 @@ fn run_texts<O: Writer, K: KvStore + Send, R: Threads + Wait + Sync, G: Gate + S
     requires short { All (λ s. length s.items < 2 ^ 62) texts.now }
     requires workers { 0 < workers }
     requires cache { cache ≤ 2 ^ 27 }
-    ensures started { result.logs ≢ [] → HasRunTexts (texts_in texts.now) mounts.old.items mounts.new.items result (sink.new ≡ sink.old) }
-    ensures unstarted { result.logs ≡ [] → IsUnstarted result × (mounts.new.items ≡ mounts.old.items) × (sink.new ≡ sink.old) }
+    ensures started { result.logs ≢ [] → HasRunTexts (texts_in texts.now) mounts.old.items mounts.new.items result
+        (sink.new ≡ sink.old) }
+    ensures unstarted { result.logs ≡ [] → IsUnstarted result × (mounts.new.items ≡ mounts.old.items)
+        × (sink.new ≡ sink.old) }
     ensures known { (result.status ≤ 5) × (result.status ≢ 2) × (result.status ≢ 3) }
     ensures place { result.script ≡ None }
     ensures some { result.status ≢ 5 → result.logs ≢ [] }
-    ensures put { result.logs ≢ [] → IsPut O.takes sink.old (text_of report result.logs result.history) result.status sink.new }
-    ensures written { HasAnswers result.status → WhereTold (O.content sink.old) (λ before. O.content sink.new ≡ Some (before ++ text_of report result.logs result.history)) }
-    ensures part { WhereTold (O.content sink.old) (λ before. IsPartOf (O.content sink.new) before (text_of report result.logs result.history)) }
-    ensures status { HasAnswers result.status → (result.status ≡ status_of result) × (holds_memory result.logs ≡ false) }
+    ensures put { result.logs ≢ [] → IsPut O.takes sink.old
+        (text_of report result.logs result.history) result.status sink.new }
+    ensures written { HasAnswers result.status
+        → WhereTold (O.content sink.old) (λ before.
+        O.content sink.new ≡ Some (before ++ text_of report result.logs result.history)) }
+    ensures part { WhereTold (O.content sink.old) (λ before.
+        IsPartOf (O.content sink.new) before (text_of report result.logs result.history)) }
+    ensures status { HasAnswers result.status → (result.status ≡ status_of result)
+        × (holds_memory result.logs ≡ false) }
     ensures unwritten { Rises (O.faults sink.old) (O.faults sink.new) (result.status ≡ 4) }
 {
     let list = mem::replace(mounts, Vec::new(alloc));
@@ -258,9 +292,13 @@ fn told<O: Writer, K: KvStore>(
     ensures full { result.status ≢ 5 → finished.whole ≡ true }
     ensures silent { finished.whole ≡ false → sink.new ≡ sink.old }
     ensures put { IsPut O.takes sink.old (text_of report result.logs result.history) result.status sink.new }
-    ensures written { HasAnswers result.status → WhereTold (O.content sink.old) (λ before. O.content sink.new ≡ Some (before ++ text_of report result.logs result.history)) }
-    ensures part { WhereTold (O.content sink.old) (λ before. IsPartOf (O.content sink.new) before (text_of report result.logs result.history)) }
-    ensures status { HasAnswers result.status → (result.status ≡ status_of result) × (holds_memory result.logs ≡ false) }
+    ensures written { HasAnswers result.status
+        → WhereTold (O.content sink.old) (λ before.
+        O.content sink.new ≡ Some (before ++ text_of report result.logs result.history)) }
+    ensures part { WhereTold (O.content sink.old) (λ before.
+        IsPartOf (O.content sink.new) before (text_of report result.logs result.history)) }
+    ensures status { HasAnswers result.status → (result.status ≡ status_of result)
+        × (holds_memory result.logs ≡ false) }
     ensures unwritten { Rises (O.faults sink.old) (O.faults sink.new) (result.status ≡ 4) }
 {
     let Finished {

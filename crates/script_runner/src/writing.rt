@@ -36,8 +36,10 @@ pub(crate) fn status_of<O: Writer>(
     ensures full { result ≢ 5 → whole ≡ true }
     ensures silent { whole ≡ false → sink.new ≡ sink.old }
     ensures put { IsPut O.takes sink.old (text_of report logs.now history.now) result sink.new }
-    ensures written { HasAnswers result → WhereTold (O.content sink.old) (λ before. O.content sink.new ≡ Some (before ++ text_of report logs.now history.now)) }
-    ensures part { WhereTold (O.content sink.old) (λ before. IsPartOf (O.content sink.new) before (text_of report logs.now history.now)) }
+    ensures written { HasAnswers result → WhereTold (O.content sink.old) (λ before.
+        O.content sink.new ≡ Some (before ++ text_of report logs.now history.now)) }
+    ensures part { WhereTold (O.content sink.old) (λ before.
+        IsPartOf (O.content sink.new) before (text_of report logs.now history.now)) }
     ensures unwritten { Rises (O.faults sink.old) (O.faults sink.new) (result ≡ 4) }
 {
     if !whole {
@@ -57,8 +59,10 @@ fn write_report<O: Writer>(
     logs: &[List<Answer>],
     history: &[Event],
 ) -> Result<(), Unwritten>
-    ensures all { OnOk result (WhereTold (O.content sink.old) (λ before. O.content sink.new ≡ Some (before ++ text_of report logs.now history.now))) }
-    ensures part { WhereTold (O.content sink.old) (λ before. IsPartOf (O.content sink.new) before (text_of report logs.now history.now)) }
+    ensures all { OnOk result (WhereTold (O.content sink.old) (λ before.
+        O.content sink.new ≡ Some (before ++ text_of report logs.now history.now))) }
+    ensures part { WhereTold (O.content sink.old) (λ before.
+        IsPartOf (O.content sink.new) before (text_of report logs.now history.now)) }
     ensures faults { Rises (O.faults sink.old) (O.faults sink.new) (IsErrOf result Unwritten.Failed) }
     ensures run { IsPutting O.takes sink.old (text_of report logs.now history.now) result [] sink.new }
 {
@@ -74,8 +78,10 @@ fn write_summary<O: Writer>(
     logs: &[List<Answer>],
     history: &[Event],
 ) -> Result<(), Unwritten>
-    ensures all { OnOk result (WhereTold (O.content sink.old) (λ before. O.content sink.new ≡ Some (before ++ summary_text logs.now history.now))) }
-    ensures part { WhereTold (O.content sink.old) (λ before. IsPartOf (O.content sink.new) before (summary_text logs.now history.now)) }
+    ensures all { OnOk result (WhereTold (O.content sink.old) (λ before.
+        O.content sink.new ≡ Some (before ++ summary_text logs.now history.now))) }
+    ensures part { WhereTold (O.content sink.old) (λ before.
+        IsPartOf (O.content sink.new) before (summary_text logs.now history.now)) }
     ensures faults { Rises (O.faults sink.old) (O.faults sink.new) (IsErrOf result Unwritten.Failed) }
     ensures run { IsPutting O.takes sink.old (summary_text logs.now history.now) result [] sink.new }
 {
@@ -87,7 +93,8 @@ fn write_summary<O: Writer>(
 
 // Gives the sink a text as one piece.
 fn put_line<O: Writer>(sink: &mut O, line: &[u8]) -> Result<(), Unwritten>
-    ensures all { OnOk result (WhereTold (O.content sink.old) (λ before. O.content sink.new ≡ Some (before ++ line.now))) }
+    ensures all { OnOk result (WhereTold (O.content sink.old) (λ before.
+        O.content sink.new ≡ Some (before ++ line.now))) }
     ensures part { WhereTold (O.content sink.old) (λ before. IsPartOf (O.content sink.new) before line.now) }
     ensures faults { Rises (O.faults sink.old) (O.faults sink.new) (IsErrOf result Unwritten.Failed) }
     ensures run { IsPutting O.takes sink.old line.now result [] sink.new }
@@ -101,7 +108,8 @@ fn put_line<O: Writer>(sink: &mut O, line: &[u8]) -> Result<(), Unwritten>
 // The status where all was written.
 fn status_by(logs: &[List<Answer>], unfinished: &[u32]) -> u8
     ensures other { result ≢ 4 }
-    ensures known { (result ≡ 5) × (holds_memory logs.now ≡ true) ⊎ (holds_memory logs.now ≡ false) × (result ≡ (if are_all_ok logs.now && is_empty unfinished.now then 0 else 1)) }
+    ensures known { (result ≡ 5) × (holds_memory logs.now ≡ true) ⊎ (holds_memory logs.now ≡ false)
+        × (result ≡ (if are_all_ok logs.now && is_empty unfinished.now then 0 else 1)) }
 {
     if has_memory(logs) {
         return 5;

@@ -26,7 +26,8 @@ pub trait Reader {
     fn read(&mut self, alloc: Global, name: &str) -> Result<Vec<u8>, ReadError>
         ensures all { IfOk result (λ v. WhereTold (script_of (contents self.old) name.now) (λ bytes. v.items ≡ bytes)) }
         ensures short { IfOk result (λ v. length v.items ≤ 67108864) }
-        ensures long { IsErrOf result ReadError.TooLong → WhereTold (script_of (contents self.old) name.now) (λ bytes. 67108864 < length bytes) }
+        ensures long { IsErrOf result ReadError.TooLong
+            → WhereTold (script_of (contents self.old) name.now) (λ bytes. 67108864 < length bytes) }
         ensures missing { IsMissing (contents self.old) name.now → result ≡ Err ReadError.Failed }
         ensures contents { contents self.new ≡ contents self.old }
         ensures cause { Rises (faults self.old) (faults self.new) (IsErrOf result ReadError.Failed) }

@@ -59,11 +59,13 @@ pub fn read_scripts<S: Reader>(
 ) -> Result<Vec<Vec<u8>>, Unread>
     requires { length names.now ≤ 1024 }
     // Where scripts are told, each name has one, and these are they, in the order of the names.
-    ensures read { IfOk result (λ read. WhereTold (S.contents scripts.old) (λ told. AreScripts told (names_in names.now) (texts_in read.items))) }
+    ensures read { IfOk result (λ read. WhereTold (S.contents scripts.old) (λ told.
+        AreScripts told (names_in names.now) (texts_in read.items))) }
     ensures count { IfOk result (λ read. length read.items ≡ length names.now) }
     ensures short { IfOk result (λ read. AreShort (texts_in read.items)) }
     // A script that is missing among told ones is never passed over.
-    ensures missing { (name : List ℕ) → Contains (names_in names.now) name → IsMissing (S.contents scripts.old) name → IsErr result }
+    ensures missing { (name : List ℕ) → Contains (names_in names.now) name → IsMissing (S.contents scripts.old) name
+        → IsErr result }
     // Scripts before the place of an error can be read; too long is only what passes a limit.
     ensures cause { IfErr result (IsCause (S.contents scripts.old) (names_in names.now)) }
     // Scripts fail only where their count of faults rose.
@@ -90,7 +92,8 @@ fn read_at<S: Reader>(
     room: usize,
     place: u32,
 ) -> Result<Vec<u8>, Unread>
-    ensures read { IfOk result (λ v. WhereTold (S.contents scripts.old) (λ told. finmap.get told name.now ≡ Some v.items)) }
+    ensures read { IfOk result (λ v. WhereTold (S.contents scripts.old) (λ told.
+        finmap.get told name.now ≡ Some v.items)) }
     ensures short { IfOk result (λ v. (length v.items ≤ 67108864) × (length v.items ≤ room)) }
     ensures cause { IfErr result (IsCauseAt (S.contents scripts.old) name.now room place) }
     ensures faults { Rises (S.faults scripts.old) (S.faults scripts.new) (IsErrAnd result IsFailure) }

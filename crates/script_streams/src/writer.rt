@@ -20,7 +20,8 @@ pub trait Writer {
     /// # Errors
     /// `Failed` where nothing more can be written.
     fn put(&mut self, text: &[u8]) -> Result<(), Failed>
-        ensures all { OnOk result (WhereTold (content self.old) (λ bytes. content self.new ≡ Some (bytes ++ text.now))) }
+        ensures all { OnOk result (WhereTold (content self.old) (λ bytes.
+            content self.new ≡ Some (bytes ++ text.now))) }
         ensures part { WhereTold (content self.old) (λ bytes. IsPartOf (content self.new) bytes text.now) }
         ensures cause { Rises (faults self.old) (faults self.new) (IsErr result) }
         ensures takes { takes self.old text.now (is_ok result) self.new };

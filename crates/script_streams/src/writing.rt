@@ -55,9 +55,11 @@ pub fn write_logs<O: Writer>(
     logs: &[List<Answer>],
 ) -> Result<(), Unwritten>
     // The whole text stands behind what was there.
-    ensures all { OnOk result (WhereTold (O.content sink.old) (λ before. O.content sink.new ≡ Some (before ++ text_of_logs logs.now))) }
+    ensures all { OnOk result (WhereTold (O.content sink.old) (λ before.
+        O.content sink.new ≡ Some (before ++ text_of_logs logs.now))) }
     // In every case a front part of the text was written, and nothing else.
-    ensures part { WhereTold (O.content sink.old) (λ before. IsPartOf (O.content sink.new) before (text_of_logs logs.now)) }
+    ensures part { WhereTold (O.content sink.old) (λ before.
+        IsPartOf (O.content sink.new) before (text_of_logs logs.now)) }
     // The sink fails only where its count of faults rose.
     ensures faults { Rises (O.faults sink.old) (O.faults sink.new) (IsErrOf result Unwritten.Failed) }
     // The text is given in pieces, each once and none behind the first that wasn't taken; the answer is by these.
@@ -77,10 +79,13 @@ fn put_log<O: Writer>(
     waiting: &mut Vec<u8>,
     log: &[Answer],
 ) -> Result<(), Unwritten>
-    ensures put { OnOk result (WhereTold (O.content sink.old) (λ before. IsUnderWay (O.content sink.new) before (waiting.old.items ++ text_of_log log.now) waiting.new.items)) }
-    ensures part { WhereTold (O.content sink.old) (λ before. IsPartOf (O.content sink.new) before (waiting.old.items ++ text_of_log log.now)) }
+    ensures put { OnOk result (WhereTold (O.content sink.old) (λ before.
+        IsUnderWay (O.content sink.new) before (waiting.old.items ++ text_of_log log.now) waiting.new.items)) }
+    ensures part { WhereTold (O.content sink.old) (λ before.
+        IsPartOf (O.content sink.new) before (waiting.old.items ++ text_of_log log.now)) }
     ensures faults { Rises (O.faults sink.old) (O.faults sink.new) (IsErrOf result Unwritten.Failed) }
-    ensures run { IsPutting O.takes sink.old (waiting.old.items ++ text_of_log log.now) result waiting.new.items sink.new }
+    ensures run { IsPutting O.takes sink.old
+        (waiting.old.items ++ text_of_log log.now) result waiting.new.items sink.new }
 {
     for answer in log {
         put_answer(alloc, sink, waiting, answer)?;
@@ -94,10 +99,13 @@ fn put_answer<O: Writer>(
     waiting: &mut Vec<u8>,
     answer: &Answer,
 ) -> Result<(), Unwritten>
-    ensures put { OnOk result (WhereTold (O.content sink.old) (λ before. IsUnderWay (O.content sink.new) before (waiting.old.items ++ answer_text answer.now) waiting.new.items)) }
-    ensures part { WhereTold (O.content sink.old) (λ before. IsPartOf (O.content sink.new) before (waiting.old.items ++ answer_text answer.now)) }
+    ensures put { OnOk result (WhereTold (O.content sink.old) (λ before.
+        IsUnderWay (O.content sink.new) before (waiting.old.items ++ answer_text answer.now) waiting.new.items)) }
+    ensures part { WhereTold (O.content sink.old) (λ before.
+        IsPartOf (O.content sink.new) before (waiting.old.items ++ answer_text answer.now)) }
     ensures faults { Rises (O.faults sink.old) (O.faults sink.new) (IsErrOf result Unwritten.Failed) }
-    ensures run { IsPutting O.takes sink.old (waiting.old.items ++ answer_text answer.now) result waiting.new.items sink.new }
+    ensures run { IsPutting O.takes sink.old
+        (waiting.old.items ++ answer_text answer.now) result waiting.new.items sink.new }
 {
     let line = render(alloc, answer)?;
     put_line(sink, waiting, line.as_slice())
@@ -105,8 +113,10 @@ fn put_answer<O: Writer>(
 
 // Puts a line behind what waits, which is written first where both together are more than a piece.
 fn put_line<O: Writer>(sink: &mut O, waiting: &mut Vec<u8>, line: &[u8]) -> Result<(), Unwritten>
-    ensures put { OnOk result (WhereTold (O.content sink.old) (λ before. IsUnderWay (O.content sink.new) before (waiting.old.items ++ line.now) waiting.new.items)) }
-    ensures part { WhereTold (O.content sink.old) (λ before. IsPartOf (O.content sink.new) before (waiting.old.items ++ line.now)) }
+    ensures put { OnOk result (WhereTold (O.content sink.old) (λ before.
+        IsUnderWay (O.content sink.new) before (waiting.old.items ++ line.now) waiting.new.items)) }
+    ensures part { WhereTold (O.content sink.old) (λ before.
+        IsPartOf (O.content sink.new) before (waiting.old.items ++ line.now)) }
     ensures faults { Rises (O.faults sink.old) (O.faults sink.new) (IsErrOf result Unwritten.Failed) }
     ensures run { IsPutting O.takes sink.old (waiting.old.items ++ line.now) result waiting.new.items sink.new }
 {
@@ -121,7 +131,8 @@ fn put_line<O: Writer>(sink: &mut O, waiting: &mut Vec<u8>, line: &[u8]) -> Resu
 // Puts a line where nothing waits: what is more than a piece is written.
 fn put_alone<O: Writer>(sink: &mut O, waiting: &mut Vec<u8>, line: &[u8]) -> Result<(), Unwritten>
     requires { waiting.old.items ≡ [] }
-    ensures put { OnOk result (WhereTold (O.content sink.old) (λ before. IsUnderWay (O.content sink.new) before line.now waiting.new.items)) }
+    ensures put { OnOk result (WhereTold (O.content sink.old) (λ before.
+        IsUnderWay (O.content sink.new) before line.now waiting.new.items)) }
     ensures part { WhereTold (O.content sink.old) (λ before. IsPartOf (O.content sink.new) before line.now) }
     ensures faults { Rises (O.faults sink.old) (O.faults sink.new) (IsErrOf result Unwritten.Failed) }
     ensures run { IsPutting O.takes sink.old line.now result waiting.new.items sink.new }
@@ -136,7 +147,8 @@ fn put_alone<O: Writer>(sink: &mut O, waiting: &mut Vec<u8>, line: &[u8]) -> Res
 
 // Writes what waits.
 fn write_waiting<O: Writer>(sink: &mut O, waiting: &mut Vec<u8>) -> Result<(), Unwritten>
-    ensures all { OnOk result (WhereTold (O.content sink.old) (λ before. O.content sink.new ≡ Some (before ++ waiting.old.items))) }
+    ensures all { OnOk result (WhereTold (O.content sink.old) (λ before.
+        O.content sink.new ≡ Some (before ++ waiting.old.items))) }
     ensures none { OnOk result (waiting.new.items ≡ []) }
     ensures part { WhereTold (O.content sink.old) (λ before. IsPartOf (O.content sink.new) before waiting.old.items) }
     ensures faults { Rises (O.faults sink.old) (O.faults sink.new) (IsErrOf result Unwritten.Failed) }

@@ -86,7 +86,8 @@ fn with_sessions<R: Wait>(
     requires mounts { HasMounts book mounts.now }
     requires two { book.passes ≡ 2 }
     requires one { IsFresh book 0 (session_with one.pass (get_by_text one.names) one.txn one.log.items one.ended) }
-    requires other { IsFresh book 1 (session_with other.pass (get_by_text other.names) other.txn other.log.items other.ended) }
+    requires other { IsFresh book 1 (session_with other.pass
+        (get_by_text other.names) other.txn other.log.items other.ended) }
 {
     let text = answers(rt, alloc, v, mounts, &book, &mut one, &mut other)?;
     closed(alloc, v, text, book, one, other)
@@ -102,8 +103,10 @@ fn answers<R: Wait>(
     other: &mut Session<MemoryKv>,
 ) -> Result<Vec<u8>, Fault>
     requires mounts { HasMounts book.now mounts.now }
-    requires one { IsFresh book.now 0 (session_with one.old.pass (get_by_text one.old.names) one.old.txn one.old.log.items one.old.ended) }
-    requires other { IsFresh book.now 1 (session_with other.old.pass (get_by_text other.old.names) other.old.txn other.old.log.items other.old.ended) }
+    requires one { IsFresh book.now 0 (session_with one.old.pass
+        (get_by_text one.old.names) one.old.txn one.old.log.items one.old.ended) }
+    requires other { IsFresh book.now 1 (session_with other.old.pass
+        (get_by_text other.old.names) other.old.txn other.old.log.items other.old.ended) }
     ensures one { IsBetween book.now 0 one.new.pass (get_by_text one.new.names) one.new.txn one.new.ended }
     ensures other { IsBetween book.now 1 other.new.pass (get_by_text other.new.names) other.new.txn other.new.ended }
 {

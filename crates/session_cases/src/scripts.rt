@@ -30,8 +30,10 @@ pub(crate) fn by_scripts<R: Wait>(
     other: &mut Session<MemoryKv>,
 ) -> Result<Vec<u8>, Fault>
     requires mounts { HasMounts book.now mounts.now }
-    requires one { IsFresh book.now 0 (session_with one.old.pass (get_by_text one.old.names) one.old.txn one.old.log.items one.old.ended) }
-    requires other { IsFresh book.now 1 (session_with other.old.pass (get_by_text other.old.names) other.old.txn other.old.log.items other.old.ended) }
+    requires one { IsFresh book.now 0 (session_with one.old.pass
+        (get_by_text one.old.names) one.old.txn one.old.log.items one.old.ended) }
+    requires other { IsFresh book.now 1 (session_with other.old.pass
+        (get_by_text other.old.names) other.old.txn other.old.log.items other.old.ended) }
     ensures one { IsBetween book.now 0 one.new.pass (get_by_text one.new.names) one.new.txn one.new.ended }
     ensures other { IsBetween book.now 1 other.new.pass (get_by_text other.new.names) other.new.txn other.new.ended }
 {
@@ -65,7 +67,8 @@ fn ran<R: Wait>(
 )
     requires mounts { HasMounts book.now mounts.now }
     requires short { length script.now < 2 ^ 62 }
-    requires session { IsFresh book.now by (session_with session.old.pass (get_by_text session.old.names) session.old.txn session.old.log.items session.old.ended) }
+    requires session { IsFresh book.now by (session_with session.old.pass
+        (get_by_text session.old.names) session.old.txn session.old.log.items session.old.ended) }
     ensures { IsBetween book.now by session.new.pass (get_by_text session.new.names) session.new.txn session.new.ended }
 {
     run_script(alloc, rt, book, mounts, session, script, &Open);

@@ -77,7 +77,8 @@ fn put_line<R: Wait>(
     session: &mut Session<MemoryKv>,
 ) -> Result<(), Fault>
     requires mounts { HasMounts book.now mounts.now }
-    requires session { IsBetween book.now by session.old.pass (get_by_text session.old.names) session.old.txn session.old.ended }
+    requires session { IsBetween book.now by session.old.pass
+        (get_by_text session.old.names) session.old.txn session.old.ended }
     ensures { IsBetween book.now by session.new.pass (get_by_text session.new.names) session.new.txn session.new.ended }
 {
     if let Some(bytes) = command.as_str() {
@@ -98,7 +99,8 @@ fn put_bytes<R: Wait>(
     session: &mut Session<MemoryKv>,
 ) -> Result<(), Fault>
     requires mounts { HasMounts book.now mounts.now }
-    requires session { IsBetween book.now by session.old.pass (get_by_text session.old.names) session.old.txn session.old.ended }
+    requires session { IsBetween book.now by session.old.pass
+        (get_by_text session.old.names) session.old.txn session.old.ended }
     ensures { IsBetween book.now by session.new.pass (get_by_text session.new.names) session.new.txn session.new.ended }
 {
     if session.ended {

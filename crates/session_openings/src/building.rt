@@ -27,7 +27,8 @@ pub(crate) fn built(
     events: Vec<u64>,
 ) -> Body
     requires { IsTree (length arrays.now) tree.now }
-    ensures { IsBuiltBy (built arrays.now tree.now) events.items name.now (get_by_text names.old) (get_by_text names.new) result }
+    ensures { IsBuiltBy (built arrays.now tree.now) events.items name.now (get_by_text names.old)
+        (get_by_text names.new) result }
 {
     match build(alloc, tree, arrays) {
         Ok(view) => bound(alloc, names, name, view, events),
@@ -36,7 +37,8 @@ pub(crate) fn built(
 }
 
 fn bound(alloc: Global, names: &mut Names, name: &str, view: View, events: Vec<u64>) -> Body
-    ensures { IsBoundAs (body.Opened name.now (look_of view).dtype (own_transform view).domain events.items) (get_by_text names.old) name.now view (get_by_text names.new) result }
+    ensures { IsBoundAs (body.Opened name.now (look_of view).dtype (own_transform view).domain events.items)
+        (get_by_text names.old) name.now view (get_by_text names.new) result }
 {
     match opened_body(alloc, name, &view, events) {
         Ok(body) => bound_with(alloc, names, name, view, body),
@@ -45,7 +47,8 @@ fn bound(alloc: Global, names: &mut Names, name: &str, view: View, events: Vec<u
 }
 
 fn opened_body(alloc: Global, name: &str, view: &View, events: Vec<u64>) -> Result<Body, AllocError>
-    ensures { IfOk result (λ b. b ≡ body.Opened name.now (look_of view.now).dtype (own_transform view.now).domain events.items) }
+    ensures { IfOk result (λ b. b ≡ body.Opened name.now (look_of view.now).dtype
+        (own_transform view.now).domain events.items) }
 {
     let (name, domain) = name_and_domain(alloc, name, view)?;
     Ok(Body::Opened {

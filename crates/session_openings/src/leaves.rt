@@ -61,7 +61,9 @@ pub(crate) fn leaf_wanted(leaf: SpecLeaf) -> Wanted
 }
 
 fn stored(mount: Name, path: Name, want: Want, may_open: bool, may_create: bool) -> Wanted
-    ensures { result ≡ Wanted.Stored (record { mount = mount; path = path; want = want; may_open = may_open; may_create = may_create }) }
+    ensures { result
+        ≡ Wanted.Stored
+        (record { mount = mount; path = path; want = want; may_open = may_open; may_create = may_create }) }
 {
     let asked = Asked {
         mount,
@@ -83,7 +85,9 @@ pub(crate) fn unopened(
     e: OpenError,
     events: Vec<u64>,
 ) -> Body
-    ensures { ((result ≡ body.Memory) × IsUnseen e) ⊎ (result ≡ body_of (open_answer (unwrap_or (node_of number tree.now) []) (asked_leaf asked.now) events.items e)) }
+    ensures { ((result ≡ body.Memory) × IsUnseen e)
+        ⊎ (result ≡ body_of (open_answer (unwrap_or (node_of number tree.now) [])
+        (asked_leaf asked.now) events.items e)) }
 {
     match e {
         OpenError::PathTaken { path, at } => Body::PathTaken {
@@ -115,7 +119,8 @@ fn cause_in(cause: MetaCause) -> MetaError
 }
 
 fn exists(alloc: Global, asked: &Asked, at: u64, events: Vec<u64>) -> Body
-    ensures { (result ≡ body.Memory) ⊎ (result ≡ body.Exists at (location_of_leaf (asked_leaf asked.now)) events.items) }
+    ensures { (result ≡ body.Memory) ⊎ (result
+        ≡ body.Exists at (location_of_leaf (asked_leaf asked.now)) events.items) }
 {
     match location(alloc, asked) {
         Ok(path) => Body::Exists {
@@ -128,7 +133,8 @@ fn exists(alloc: Global, asked: &Asked, at: u64, events: Vec<u64>) -> Body
 }
 
 fn not_found(alloc: Global, asked: &Asked, at: u64, events: Vec<u64>) -> Body
-    ensures { (result ≡ body.Memory) ⊎ (result ≡ body.NotFound at (location_of_leaf (asked_leaf asked.now)) events.items) }
+    ensures { (result ≡ body.Memory) ⊎ (result
+        ≡ body.NotFound at (location_of_leaf (asked_leaf asked.now)) events.items) }
 {
     match location(alloc, asked) {
         Ok(path) => Body::NotFound {
@@ -141,7 +147,8 @@ fn not_found(alloc: Global, asked: &Asked, at: u64, events: Vec<u64>) -> Body
 }
 
 fn mismatch(alloc: Global, asked: &Asked, member: &str, at: u64, events: Vec<u64>) -> Body
-    ensures { (result ≡ body.Memory) ⊎ (result ≡ body.Mismatch at member.now (location_of_leaf (asked_leaf asked.now)) events.items) }
+    ensures { (result ≡ body.Memory) ⊎ (result
+        ≡ body.Mismatch at member.now (location_of_leaf (asked_leaf asked.now)) events.items) }
 {
     match member_and_location(alloc, asked, member) {
         Ok((member, path)) => Body::Mismatch {
@@ -155,7 +162,9 @@ fn mismatch(alloc: Global, asked: &Asked, member: &str, at: u64, events: Vec<u64
 }
 
 fn bad_want(alloc: Global, tree: &Tree, number: usize, member: Member, events: Vec<u64>) -> Body
-    ensures { (result ≡ body.Memory) ⊎ (result ≡ body.BadSpec (member_of_node (unwrap_or (node_of number tree.now) []) (member_name member)) (Some events.items)) }
+    ensures { (result ≡ body.Memory) ⊎ (result
+        ≡ body.BadSpec (member_of_node (unwrap_or (node_of number tree.now) []) (member_name member))
+        (Some events.items)) }
 {
     match member_path(alloc, tree, number, member) {
         Ok(path) => Body::BadSpec {

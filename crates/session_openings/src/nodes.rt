@@ -49,7 +49,8 @@ pub(crate) fn member_path(
     number: usize,
     member: Member,
 ) -> Result<Name, AllocError>
-    ensures { IfOk result (λ path. path ≡ member_of_node (unwrap_or (node_of number tree.now) []) (member_name member)) }
+    ensures { IfOk result (λ path. path ≡ member_of_node (unwrap_or (node_of number tree.now) [])
+        (member_name member)) }
 {
     match node_at(tree, number) {
         Some(node) => below(alloc, node.items(), member),

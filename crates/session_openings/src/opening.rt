@@ -61,9 +61,12 @@ pub fn open<K: KvStore, R: Wait>(
     requires plan { MayOpen book.now.fixed.store.names plan }
     requires views { AreViews (get_by_text names.old) }
     requires known { AreKnownNames pass.old.seen (get_by_text names.old) }
-    ensures told { (line : ℕ) → IsToldBy book.now pass.old pass.new (session_state (get_by_text names.old) (length pass.old.seen) txn.now) line (opening name.now (leaves_of plan) (build_of plan)) (get_by_text names.new) (transaction_in txn.now) result }
+    ensures told { (line : ℕ) → IsToldBy book.now pass.old pass.new
+        (session_state (get_by_text names.old) (length pass.old.seen) txn.now) line
+        (opening name.now (leaves_of plan) (build_of plan)) (get_by_text names.new) (transaction_in txn.now) result }
     ensures events { AreTold (added_by pass.old pass.new) result }
-    ensures bound { IsBoundOrNot pass.old pass.new plan name.now (get_by_text names.old) (get_by_text names.new) result }
+    ensures bound { IsBoundOrNot pass.old pass.new plan name.now (get_by_text names.old)
+        (get_by_text names.new) result }
     ensures passed { HasPassed book.now pass.old pass.new }
     ensures views { AreViews (get_by_text names.new) }
     ensures known { AreKnownNames pass.new.seen (get_by_text names.new) }
@@ -85,7 +88,8 @@ fn open_plan<K: KvStore, R: Wait>(
 ) -> Body
     requires pass { IsRested book.now pass.old }
     requires plan { MayOpen book.now.fixed.store.names plan }
-    ensures { IsLineOpened book.now pass.old pass.new (get_by_text names.old) (get_by_text names.new) name.now plan result }
+    ensures { IsLineOpened book.now pass.old pass.new (get_by_text names.old)
+        (get_by_text names.new) name.now plan result }
 {
     let OpenPlan { leaves, tree } = plan;
     match open_all(alloc, rt, book, pass, &tree, leaves.into_inner()) {
@@ -96,7 +100,8 @@ fn open_plan<K: KvStore, R: Wait>(
 
 fn bound(alloc: Global, names: &mut Names, name: &str, tree: &Tree, opened: OpenedArrays) -> Body
     requires { IsTree (length opened.arrays.items) tree.now }
-    ensures { IsBuiltBy (built opened.arrays.items tree.now) opened.events.items name.now (get_by_text names.old) (get_by_text names.new) result }
+    ensures { IsBuiltBy (built opened.arrays.items tree.now) opened.events.items name.now (get_by_text names.old)
+        (get_by_text names.new) result }
 {
     let OpenedArrays { arrays, events } = opened;
     built(alloc, names, name, tree, &arrays, events)
@@ -113,7 +118,8 @@ fn open_all<K: KvStore, R: Wait>(
 ) -> Result<OpenedArrays, Body>
     requires pass { IsRested book.now pass.old }
     requires leaves { AllByRecursion (MayBeAsked book.now.fixed.store.names) (leaves_from tree.now 0 leaves.items) }
-    ensures ok { IfOk result (λ o. AreAllOpened book.now pass.old pass.new (leaves_from tree.now 0 leaves.items) [] o.arrays.items o.events.items) }
+    ensures ok { IfOk result (λ o. AreAllOpened book.now pass.old pass.new
+        (leaves_from tree.now 0 leaves.items) [] o.arrays.items o.events.items) }
     ensures err { IfErr result (λ b. IsLeafRefused book.now pass.old pass.new (leaves_from tree.now 0 leaves.items) b) }
 {
     let mut opened = none_opened(alloc);
@@ -146,9 +152,17 @@ fn open_leaf<K: KvStore, R: Wait>(
     opened: OpenedArrays,
 ) -> Result<OpenedArrays, Body>
     requires pass { IsRested book.now pass.old }
-    requires leaf { MayBeAsked book.now.fixed.store.names (leaf_of (unwrap_or (node_of (length opened.arrays.items) tree.now) []) leaf) }
-    ensures ok { IfOk result (λ o. OpensOne book.now pass.old pass.new (leaf_of (unwrap_or (node_of (length opened.arrays.items) tree.now) []) leaf) opened.arrays.items opened.events.items o.arrays.items o.events.items) }
-    ensures err { IfErr result (λ b. RefusesOne book.now pass.old pass.new (leaf_of (unwrap_or (node_of (length opened.arrays.items) tree.now) []) leaf) opened.arrays.items opened.events.items b) }
+    requires leaf { MayBeAsked book.now.fixed.store.names
+        (leaf_of (unwrap_or (node_of (length opened.arrays.items) tree.now) []) leaf) }
+    ensures ok { IfOk result (λ o. OpensOne book.now pass.old pass.new
+        (leaf_of
+        (unwrap_or
+        (node_of
+        (length opened.arrays.items) tree.now) []) leaf) opened.arrays.items opened.events.items o.arrays.items o.events.items) }
+    ensures err { IfErr result (λ b. RefusesOne book.now pass.old pass.new
+        (leaf_of
+        (unwrap_or
+        (node_of (length opened.arrays.items) tree.now) []) leaf) opened.arrays.items opened.events.items b) }
 {
     match with_room(opened) {
         Ok(opened) => open_wanted(alloc, rt, book, pass, tree, leaf_wanted(leaf), opened),
@@ -166,10 +180,18 @@ fn open_wanted<K: KvStore, R: Wait>(
     opened: OpenedArrays,
 ) -> Result<OpenedArrays, Body>
     requires pass { IsRested book.now pass.old }
-    requires leaf { MayBeAsked book.now.fixed.store.names (wanted_leaf (unwrap_or (node_of (length opened.arrays.items) tree.now) []) wanted) }
+    requires leaf { MayBeAsked book.now.fixed.store.names
+        (wanted_leaf (unwrap_or (node_of (length opened.arrays.items) tree.now) []) wanted) }
     requires room { HasRoom opened }
-    ensures ok { IfOk result (λ o. OpensOne book.now pass.old pass.new (wanted_leaf (unwrap_or (node_of (length opened.arrays.items) tree.now) []) wanted) opened.arrays.items opened.events.items o.arrays.items o.events.items) }
-    ensures err { IfErr result (λ b. RefusesOne book.now pass.old pass.new (wanted_leaf (unwrap_or (node_of (length opened.arrays.items) tree.now) []) wanted) opened.arrays.items opened.events.items b) }
+    ensures ok { IfOk result (λ o. OpensOne book.now pass.old pass.new
+        (wanted_leaf
+        (unwrap_or
+        (node_of
+        (length opened.arrays.items) tree.now) []) wanted) opened.arrays.items opened.events.items o.arrays.items o.events.items) }
+    ensures err { IfErr result (λ b. RefusesOne book.now pass.old pass.new
+        (wanted_leaf
+        (unwrap_or
+        (node_of (length opened.arrays.items) tree.now) []) wanted) opened.arrays.items opened.events.items b) }
 {
     match wanted {
         Wanted::Stored { asked } => open_stored(alloc, rt, book, pass, tree, &asked, opened),
@@ -190,8 +212,12 @@ fn open_stored<K: KvStore, R: Wait>(
     requires mount { IsMount asked.now.mount }
     requires taken { TakesMount book.now.fixed.store.names asked.now.mount }
     requires room { HasRoom opened }
-    ensures ok { IfOk result (λ o. OpensOne book.now pass.old pass.new (stored (unwrap_or (node_of (length opened.arrays.items) tree.now) []) (asked_leaf asked.now)) opened.arrays.items opened.events.items o.arrays.items o.events.items) }
-    ensures err { IfErr result (λ b. RefusesOne book.now pass.old pass.new (stored (unwrap_or (node_of (length opened.arrays.items) tree.now) []) (asked_leaf asked.now)) opened.arrays.items opened.events.items b) }
+    ensures ok { IfOk result (λ o. OpensOne book.now pass.old pass.new
+        (stored (unwrap_or (node_of (length opened.arrays.items) tree.now) [])
+        (asked_leaf asked.now)) opened.arrays.items opened.events.items o.arrays.items o.events.items) }
+    ensures err { IfErr result (λ b. RefusesOne book.now pass.old pass.new
+        (stored (unwrap_or (node_of (length opened.arrays.items) tree.now) [])
+        (asked_leaf asked.now)) opened.arrays.items opened.events.items b) }
 {
     match open_in_turn(rt, book, pass, asked) {
         Ok(found) => Ok(with_array(opened, found)),
@@ -200,7 +226,9 @@ fn open_stored<K: KvStore, R: Wait>(
 }
 
 fn refused(alloc: Global, tree: &Tree, asked: &Asked, e: OpenError, opened: OpenedArrays) -> Body
-    ensures { ((result ≡ body.Memory) × IsUnseen e) ⊎ (result ≡ body_of (open_answer (unwrap_or (node_of (length opened.arrays.items) tree.now) []) (asked_leaf asked.now) opened.events.items e)) }
+    ensures { ((result ≡ body.Memory) × IsUnseen e)
+        ⊎ (result ≡ body_of (open_answer (unwrap_or (node_of (length opened.arrays.items) tree.now) [])
+        (asked_leaf asked.now) opened.events.items e)) }
 {
     let OpenedArrays { arrays, events } = opened;
     unopened(alloc, tree, arrays.as_slice().len(), asked, e, events)
@@ -216,8 +244,10 @@ fn open_given<K: KvStore, R: Wait>(
     requires pass { IsRested book.now pass.old }
     requires small { cell_count (map (max 1) start.shape) ≤ 2 ^ 22 }
     requires room { HasRoom opened }
-    ensures ok { IfOk result (λ o. OpensOne book.now pass.old pass.new (given start) opened.arrays.items opened.events.items o.arrays.items o.events.items) }
-    ensures err { IfErr result (λ b. RefusesOne book.now pass.old pass.new (given start) opened.arrays.items opened.events.items b) }
+    ensures ok { IfOk result (λ o. OpensOne book.now pass.old pass.new
+        (given start) opened.arrays.items opened.events.items o.arrays.items o.events.items) }
+    ensures err { IfErr result (λ b. RefusesOne book.now pass.old pass.new
+        (given start) opened.arrays.items opened.events.items b) }
 {
     match open_given_in_turn(rt, book, pass, start) {
         Ok(found) => Ok(with_array(opened, found)),

@@ -46,8 +46,13 @@ pub fn resolve<K: KvStore, R: Wait>(
     requires pass { IsRested book.now pass.old }
     requires views { AreViews (get_by_text names.old) }
     requires known { AreKnownNames pass.old.seen (get_by_text names.old) }
-    ensures told { (line : ℕ) → IsToldBy book.now pass.old pass.new (session_state (get_by_text names.old) (length pass.old.seen) txn.now) line (resolving name.now) (get_by_text names.new) (transaction_in txn.now) result }
-    ensures anywhere { (fixed : Fixed) (line : ℕ) → IsTold fixed pass.old.number pass.new.seen (session_state (get_by_text names.old) (length pass.old.seen) txn.now) line (resolving name.now) (get_by_text names.new) (transaction_in txn.now) result [] }
+    ensures told { (line : ℕ) → IsToldBy book.now pass.old pass.new
+        (session_state (get_by_text names.old) (length pass.old.seen) txn.now) line (resolving name.now)
+        (get_by_text names.new) (transaction_in txn.now) result }
+    ensures anywhere { (fixed : Fixed) (line : ℕ)
+        → IsTold fixed pass.old.number pass.new.seen
+        (session_state (get_by_text names.old) (length pass.old.seen) txn.now) line (resolving name.now)
+        (get_by_text names.new) (transaction_in txn.now) result [] }
     ensures none { added_by pass.old pass.new ≡ [] }
     ensures passed { HasPassed book.now pass.old pass.new }
     ensures views { AreViews (get_by_text names.new) }
@@ -62,8 +67,10 @@ pub fn resolve<K: KvStore, R: Wait>(
 // A copy of the view of an array that a name is bound to, or the answer to what refuses it.
 fn asked(alloc: Global, names: &Names, txn: &Option<Txn>, name: &str) -> Result<View, Body>
     ensures view { IfOk result (λ v. get_by_text names.now name.now ≡ Some v) }
-    ensures array { IfOk result (λ v. (r : Reference) × (array_of v ≡ Some r) × IsReference r × (act_of (get_by_text names.now) (transaction_in txn.now) (resolving name.now) ≡ Ok (resolves name.now v r))) }
-    ensures err { IfErr result (λ b. IsAnswerTo (act_of (get_by_text names.now) (transaction_in txn.now) (resolving name.now)) b) }
+    ensures array { IfOk result (λ v. (r : Reference) × (array_of v ≡ Some r) × IsReference r
+        × (act_of (get_by_text names.now) (transaction_in txn.now) (resolving name.now) ≡ Ok (resolves name.now v r))) }
+    ensures err { IfErr result (λ b. IsAnswerTo
+        (act_of (get_by_text names.now) (transaction_in txn.now) (resolving name.now)) b) }
 {
     if txn.is_some() {
         return Err(Body::InTransaction);
@@ -113,7 +120,9 @@ fn resolved<K: KvStore, R: Wait>(
     requires view { IsView view }
     requires known { HasKnownRefs pass.old.seen view }
     ensures turn { IsTurn book.now pass.old pass.new pass.new.seen [] }
-    ensures answer { (r : Reference) → array_of view ≡ Some r → IsRenewed (shape_after pass.new.seen r.number) name.now view (get_by_text names.old) (get_by_text names.new) result }
+    ensures answer { (r : Reference) → array_of view ≡ Some r
+        → IsRenewed (shape_after pass.new.seen r.number) name.now view (get_by_text names.old)
+        (get_by_text names.new) result }
 {
     match bounds_in_turn(rt, book, pass, array_number(&view)) {
         Ok(bounds) => renewed(alloc, names, name, view, bounds.shape.items()),
@@ -145,7 +154,8 @@ fn renewed(alloc: Global, names: &mut Names, name: &str, view: View, shape: &[u6
 }
 
 fn bound(alloc: Global, names: &mut Names, name: &str, view: View) -> Body
-    ensures { IsBoundAs (Resolved name.now (look_of view).dtype (own_transform view)) (get_by_text names.old) name.now view (get_by_text names.new) result }
+    ensures { IsBoundAs (Resolved name.now (look_of view).dtype (own_transform view))
+        (get_by_text names.old) name.now view (get_by_text names.new) result }
 {
     match resolved_body(alloc, name, &view) {
         Ok(body) => bound_with(alloc, names, name, view, body),
@@ -167,7 +177,9 @@ fn resolved_body(alloc: Global, name: &str, view: &View) -> Result<Body, AllocEr
 
 // The answer where a view of an array isn't renewed.
 fn refused(e: RenewError) -> Body
-    ensures { (shape : List ℕ) (view : ViewOf) (name : Text) (names : NamesOf) → (r : Reference) × (array_of view ≡ Some r) → (e ≢ renew_error.Memory → renewed shape view ≡ Err e) → IsRenewed shape name view names names result }
+    ensures { (shape : List ℕ) (view : ViewOf) (name : Text) (names : NamesOf) → (r : Reference)
+        × (array_of view ≡ Some r) → (e ≢ renew_error.Memory → renewed shape view ≡ Err e)
+        → IsRenewed shape name view names names result }
 {
     match e {
         RenewError::Refused { cause } => Body::RefusedView { cause },

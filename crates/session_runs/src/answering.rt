@@ -38,7 +38,8 @@ pub(crate) fn answered<K: KvStore, R: Wait, G: Gate>(
 ) -> Body
     requires on { MayGoOn book.now pass.old (get_by_text names.old) txn.old }
     requires mounts { HasMounts book.now mounts.now }
-    ensures told { IsLineTold book.now pass.old pass.new (get_by_text names.old) txn.old line (line_of_bytes mounts.now bytes.now) (get_by_text names.new) txn.new result }
+    ensures told { IsLineTold book.now pass.old pass.new (get_by_text names.old) txn.old line
+        (line_of_bytes mounts.now bytes.now) (get_by_text names.new) txn.new result }
     ensures passed { HasPassed book.now pass.old pass.new }
     ensures on { result ≢ printed.Memory → MayGoOn book.now pass.new (get_by_text names.new) txn.new }
 {
@@ -75,7 +76,8 @@ fn obeyed<K: KvStore, R: Wait, G: Gate>(
     requires on { MayGoOn book.now pass.old (get_by_text names.old) txn.old }
     requires mounts { HasMounts book.now mounts.now }
     requires sound { IsSound mounts.now command }
-    ensures told { IsLineTold book.now pass.old pass.new (get_by_text names.old) txn.old line (line_of (form_of command)) (get_by_text names.new) txn.new result }
+    ensures told { IsLineTold book.now pass.old pass.new (get_by_text names.old) txn.old line
+        (line_of (form_of command)) (get_by_text names.new) txn.new result }
     ensures passed { HasPassed book.now pass.old pass.new }
     ensures on { result ≢ printed.Memory → MayGoOn book.now pass.new (get_by_text names.new) txn.new }
 {

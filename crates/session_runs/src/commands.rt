@@ -52,7 +52,9 @@ pub(crate) fn opened<K: KvStore, R: Wait>(
     requires views { AreViews (get_by_text names.old) }
     requires known { AreKnownNames pass.old.seen (get_by_text names.old) }
     requires plan { MayOpen book.now.fixed.store.names plan }
-    ensures told { (line : ℕ) → IsToldBy book.now pass.old pass.new (session_state (get_by_text names.old) (length pass.old.seen) txn.now) line (opening name (leaves_of plan) (build_of plan)) (get_by_text names.new) (transaction_in txn.now) result }
+    ensures told { (line : ℕ) → IsToldBy book.now pass.old pass.new
+        (session_state (get_by_text names.old) (length pass.old.seen) txn.now) line
+        (opening name (leaves_of plan) (build_of plan)) (get_by_text names.new) (transaction_in txn.now) result }
     ensures passed { HasPassed book.now pass.old pass.new }
     ensures views { AreViews (get_by_text names.new) }
     ensures known { AreKnownNames pass.new.seen (get_by_text names.new) }
@@ -71,9 +73,12 @@ pub(crate) fn viewed(
 ) -> Body
     requires given { All IsGiven steps }
     requires views { AreViews (get_by_text names.old) }
-    ensures told { (seen line : ℕ) (t : Option TxnSeen) → IsToldAlone (session_state (get_by_text names.old) seen t) line (viewing name of (changes_of transform steps)) (get_by_text names.new) (transaction_in t) result }
+    ensures told { (seen line : ℕ) (t : Option TxnSeen)
+        → IsToldAlone (session_state (get_by_text names.old) seen t) line
+        (viewing name of (changes_of transform steps)) (get_by_text names.new) (transaction_in t) result }
     ensures views { AreViews (get_by_text names.new) }
-    ensures known { (events : History) → AreKnownNames events (get_by_text names.old) → AreKnownNames events (get_by_text names.new) }
+    ensures known { (events : History) → AreKnownNames events (get_by_text names.old)
+        → AreKnownNames events (get_by_text names.new) }
 {
     view(
         alloc,
@@ -98,9 +103,13 @@ pub(crate) fn joined(
     requires given { All IsGiven steps }
     requires layers { AreLayers layers }
     requires views { AreViews (get_by_text names.old) }
-    ensures told { (seen line : ℕ) (t : Option TxnSeen) → IsToldAlone (session_state (get_by_text names.old) seen t) line (joining name layers (join_of form) (changes_of transform steps)) (get_by_text names.new) (transaction_in t) result }
+    ensures told { (seen line : ℕ) (t : Option TxnSeen)
+        → IsToldAlone (session_state (get_by_text names.old) seen t) line
+        (joining name layers (join_of form) (changes_of transform steps)) (get_by_text names.new)
+        (transaction_in t) result }
     ensures views { AreViews (get_by_text names.new) }
-    ensures known { (events : History) → AreKnownNames events (get_by_text names.old) → AreKnownNames events (get_by_text names.new) }
+    ensures known { (events : History) → AreKnownNames events (get_by_text names.old)
+        → AreKnownNames events (get_by_text names.new) }
 {
     join(
         alloc,
@@ -133,7 +142,8 @@ pub(crate) fn shown<K: KvStore, R: Wait, G: Gate>(
     requires views { AreViews (get_by_text names.now) }
     requires known { AreKnownNames pass.old.seen (get_by_text names.now) }
     requires txn { HasSoundTxn book.now.fixed pass.old.seen txn.old }
-    ensures told { IsReadTold book.now pass.old pass.new (get_by_text names.now) txn.old txn.new line (reading name (changes_of None steps) (downsampling_of down)) result }
+    ensures told { IsReadTold book.now pass.old pass.new (get_by_text names.now) txn.old txn.new line
+        (reading name (changes_of None steps) (downsampling_of down)) result }
     ensures passed { HasPassed book.now pass.old pass.new }
     ensures txn { HasSoundTxn book.now.fixed pass.new.seen txn.new }
 {
@@ -171,7 +181,10 @@ pub(crate) fn written<K: KvStore, R: Wait, G: Gate>(
     requires views { AreViews (get_by_text names.now) }
     requires known { AreKnownNames pass.old.seen (get_by_text names.now) }
     requires txn { HasSoundTxn book.now.fixed pass.old.seen txn.old }
-    ensures told { IsToldBy book.now pass.old pass.new (session_state (get_by_text names.now) (length pass.old.seen) txn.old) line (writing name (changes_of None steps) (values_of (data_in values))) (get_by_text names.now) (transaction_in txn.new) result }
+    ensures told { IsToldBy book.now pass.old pass.new
+        (session_state (get_by_text names.now) (length pass.old.seen) txn.old) line
+        (writing name (changes_of None steps) (values_of (data_in values))) (get_by_text names.now)
+        (transaction_in txn.new) result }
     ensures passed { HasPassed book.now pass.old pass.new }
     ensures txn { result ≢ printed.Memory → HasSoundTxn book.now.fixed pass.new.seen txn.new }
 {
@@ -204,7 +217,9 @@ pub(crate) fn resized<K: KvStore, R: Wait>(
     requires pass { IsRested book.now pass.old }
     requires known { AreKnownNames pass.old.seen (get_by_text names.now) }
     requires sizes { IsShape shape }
-    ensures told { (line : ℕ) → IsToldBy book.now pass.old pass.new (session_state (get_by_text names.now) (length pass.old.seen) txn.now) line (resizing name shape) (get_by_text names.now) (transaction_in txn.now) result }
+    ensures told { (line : ℕ) → IsToldBy book.now pass.old pass.new
+        (session_state (get_by_text names.now) (length pass.old.seen) txn.now) line (resizing name shape)
+        (get_by_text names.now) (transaction_in txn.now) result }
     ensures passed { HasPassed book.now pass.old pass.new }
 {
     resize(
@@ -232,7 +247,9 @@ pub(crate) fn resolved<K: KvStore, R: Wait>(
     requires pass { IsRested book.now pass.old }
     requires views { AreViews (get_by_text names.old) }
     requires known { AreKnownNames pass.old.seen (get_by_text names.old) }
-    ensures told { (line : ℕ) → IsToldBy book.now pass.old pass.new (session_state (get_by_text names.old) (length pass.old.seen) txn.now) line (resolving name) (get_by_text names.new) (transaction_in txn.now) result }
+    ensures told { (line : ℕ) → IsToldBy book.now pass.old pass.new
+        (session_state (get_by_text names.old) (length pass.old.seen) txn.now) line (resolving name)
+        (get_by_text names.new) (transaction_in txn.now) result }
     ensures passed { HasPassed book.now pass.old pass.new }
     ensures views { AreViews (get_by_text names.new) }
     ensures known { AreKnownNames pass.new.seen (get_by_text names.new) }

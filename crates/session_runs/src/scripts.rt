@@ -27,10 +27,13 @@ pub fn run_script<K: KvStore, R: Wait, G: Gate>(
     gate: &G,
 )
     requires going { session.old.ended ≡ false }
-    requires on { IsSessionOn book.now (session_with session.old.pass (get_by_text session.old.names) session.old.txn session.old.log.items session.old.ended) [] }
+    requires on { IsSessionOn book.now (session_with session.old.pass
+        (get_by_text session.old.names) session.old.txn session.old.log.items session.old.ended) [] }
     requires mounts { HasMounts book.now mounts.now }
     requires short { length script.now < 2 ^ 62 }
-    ensures run { HasRunScript book.now mounts.now script.now (session_with session.new.pass (get_by_text session.new.names) session.new.txn session.new.log.items session.new.ended) }
+    ensures run { HasRunScript book.now mounts.now script.now
+        (session_with session.new.pass
+        (get_by_text session.new.names) session.new.txn session.new.log.items session.new.ended) }
     ensures passed { HasPassed book.now session.old.pass session.new.pass }
 {
     let mut line = 0u64;
@@ -59,8 +62,18 @@ fn given<K: KvStore, R: Wait, G: Gate>(
     requires going { session.old.ended ≡ false }
     requires on { MayGoOn book.now session.old.pass (get_by_text session.old.names) session.old.txn }
     requires mounts { HasMounts book.now mounts.now }
-    ensures more { result ≡ true → IsGivenMore book.now (session_with session.old.pass (get_by_text session.old.names) session.old.txn session.old.log.items session.old.ended) (session_with session.new.pass (get_by_text session.new.names) session.new.txn session.new.log.items session.new.ended) line (asked_line mounts.now bytes.now) }
-    ensures last { result ≡ false → IsGivenLast book.now (session_with session.old.pass (get_by_text session.old.names) session.old.txn session.old.log.items session.old.ended) (session_with session.new.pass (get_by_text session.new.names) session.new.txn session.new.log.items session.new.ended) line (asked_line mounts.now bytes.now) }
+    ensures more { result ≡ true → IsGivenMore book.now
+        (session_with session.old.pass
+        (get_by_text session.old.names) session.old.txn session.old.log.items session.old.ended)
+        (session_with session.new.pass
+        (get_by_text session.new.names) session.new.txn session.new.log.items session.new.ended) line
+        (asked_line mounts.now bytes.now) }
+    ensures last { result ≡ false → IsGivenLast book.now
+        (session_with session.old.pass
+        (get_by_text session.old.names) session.old.txn session.old.log.items session.old.ended)
+        (session_with session.new.pass
+        (get_by_text session.new.names) session.new.txn session.new.log.items session.new.ended) line
+        (asked_line mounts.now bytes.now) }
     ensures passed { HasPassed book.now session.old.pass session.new.pass }
 {
     if is_blank(bytes) {

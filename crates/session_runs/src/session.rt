@@ -39,7 +39,9 @@ impl<K: KvStore> Session<K> {
         ensures pass { result.pass ≡ pass }
         ensures log { result.log.items ≡ [] }
         ensures going { result.ended ≡ false }
-        ensures on { (book : BookView Opening) → IsRested book pass → pass.seen ≡ [] → IsSessionOn book (session_with result.pass (get_by_text result.names) result.txn result.log.items result.ended) [] }
+        ensures on { (book : BookView Opening) → IsRested book pass → pass.seen ≡ []
+            → IsSessionOn book (session_with result.pass
+            (get_by_text result.names) result.txn result.log.items result.ended) [] }
     {
         Session {
             pass,
@@ -68,8 +70,15 @@ impl<K: KvStore> Session<K> {
         requires going { self.old.ended ≡ false }
         requires on { MayGoOn book.now self.old.pass (get_by_text self.old.names) self.old.txn }
         requires mounts { HasMounts book.now mounts.now }
-        ensures run { OnOk result ((lines : List (Option Line)) → line ≡ length lines + 1 → IsSessionOn book.now (session_with self.old.pass (get_by_text self.old.names) self.old.txn self.old.log.items self.old.ended) lines → IsSessionOn book.now (session_with self.new.pass (get_by_text self.new.names) self.new.txn self.new.log.items self.new.ended) (lines ++ Some (line_of_bytes mounts.now bytes.now) ∷ [])) }
-        ensures log { OnOk result ((body : BodyOf) × (self.new.log.items ≡ self.old.log.items ++ record { line = line; body = body } ∷ []) × (body ≡ printed.Memory → self.new.ended ≡ true) × (self.new.ended ≡ true → body ≡ printed.Memory)) }
+        ensures run { OnOk result ((lines : List (Option Line)) → line ≡ length lines + 1
+            → IsSessionOn book.now (session_with self.old.pass
+            (get_by_text self.old.names) self.old.txn self.old.log.items self.old.ended) lines
+            → IsSessionOn book.now (session_with self.new.pass
+            (get_by_text self.new.names) self.new.txn self.new.log.items self.new.ended)
+            (lines ++ Some (line_of_bytes mounts.now bytes.now) ∷ [])) }
+        ensures log { OnOk result ((body : BodyOf)
+            × (self.new.log.items ≡ self.old.log.items ++ record { line = line; body = body } ∷ [])
+            × (body ≡ printed.Memory → self.new.ended ≡ true) × (self.new.ended ≡ true → body ≡ printed.Memory)) }
         ensures passed { HasPassed book.now self.old.pass self.new.pass }
         ensures on { self.new.ended ≡ false → MayGoOn book.now self.new.pass (get_by_text self.new.names) self.new.txn }
         ensures ended { OnErr result (self.new.ended ≡ true) }

@@ -13,7 +13,6 @@ ghost use Rattle.state_laws.specs.Agreement.{Opening, Agrees, TakesMount, IsStat
 ghost use Rattle.state_laws.specs.Fetches.{bounds_in};
 ghost use Rattle.state_laws.specs.Openings.{IsOpening};
 ghost use Rattle.state_laws.specs.Outline.{outline};
-ghost use Rattle.state_laws.specs.Seen.{seen_of};
 ghost use Rattle.state_resizes.specs.Conditions.{IsAsked};
 ghost use Rattle.turn_book.specs.Passes.{IsIdle};
 
@@ -35,9 +34,11 @@ pub fn bounds_in_turn<K: KvStore, R: Wait>(
     array: u64,
 ) -> Result<Bounds, AllocError>
     requires pass { IsIdle book.now pass.old }
-    requires array { (events : History) → IsPrefix pass.old.seen events → IsLegal finmap.empty (outline events) → IsSome (known_after events array) }
+    requires array { (events : History) → IsPrefix pass.old.seen events → IsLegal finmap.empty (outline events)
+        → IsSome (known_after events array) }
     ensures turn { IsTurn book.now pass.old pass.new pass.new.seen [] }
-    ensures bounds { IfOk result (λ b. (k : Known) → known_after pass.new.seen array ≡ Some k → b ≡ bounds_in pass.new.seen array k) }
+    ensures bounds { IfOk result (λ b. (k : Known) → known_after pass.new.seen array ≡ Some k
+        → b ≡ bounds_in pass.new.seen array k) }
 {
     let mut held = book.take(rt, pass);
     let bounds = held.state().bounds(array);
@@ -55,7 +56,8 @@ pub fn resize_in_turn<K: KvStore, R: Wait>(
     shape: &[u64],
 ) -> Result<u64, ResizeError>
     requires pass { IsIdle book.now pass.old }
-    requires asked { (events : History) → IsPrefix pass.old.seen events → IsLegal finmap.empty (outline events) → IsAsked events array shape.now }
+    requires asked { (events : History) → IsPrefix pass.old.seen events → IsLegal finmap.empty (outline events)
+        → IsAsked events array shape.now }
     ensures { IsResizeTurn book.now pass.old pass.new array shape.now result }
 {
     let owner = pass.number();
@@ -89,11 +91,13 @@ fn open_asked<K: KvStore>(
     owner: u32,
     asked: &Asked,
 ) -> Result<Opened, OpenError>
-    requires agrees { let seen = seen_of K.contents K.faults K.prefixes K.names K.standing K.change_count in IsState (seen state.old.store) state.old.log }
+    requires agrees { IsState (K.seen state.old.store) state.old.log }
     requires mount { IsMount asked.now.mount }
-    requires taken { TakesMount (K.names state.old.store) asked.now.mount }
-    ensures answer { let seen = seen_of K.contents K.faults K.prefixes K.names K.standing K.change_count in (opening : Opening) → Agrees opening (seen state.old.store) state.old.log → IsOpening opening.store.contents state.old.log.events owner (asked_leaf asked.now) result state.new.log.events }
-    ensures kept { let seen = seen_of K.contents K.faults K.prefixes K.names K.standing K.change_count in KeepsAgreement (seen state.old.store) state.old.log (seen state.new.store) state.new.log }
+    requires taken { TakesMount ((K.seen state.old.store).names) asked.now.mount }
+    ensures answer { (opening : Opening) → Agrees opening (K.seen state.old.store) state.old.log
+        → IsOpening opening.store.contents state.old.log.events owner
+        (asked_leaf asked.now) result state.new.log.events }
+    ensures kept { KeepsAgreement (K.seen state.old.store) state.old.log (K.seen state.new.store) state.new.log }
 {
     state.open(
         owner,

@@ -25,7 +25,8 @@ pub(crate) fn workers<K: KvStore>(
     room: usize,
 ) -> Result<Vec<Worker<K>>, AllocError>
     ensures count { IfOk result (λ row. length row.items ≡ count) }
-    ensures rooms { IfOk result (λ row. All (λ w. (w.sessions.items ≡ []) × (room ≤ vec_capacity w.sessions)) row.items) }
+    ensures rooms { IfOk result (λ row. All (λ w. (w.sessions.items ≡ [])
+        × (room ≤ vec_capacity w.sessions)) row.items) }
 {
     let mut row = Vec::with_capacity(alloc, count)?;
     for _place in 0..count {
@@ -55,7 +56,9 @@ pub(crate) fn deal<K: KvStore>(
     requires rooms { All (λ w. (w.sessions.items ≡ []) × (length passes.items ≤ vec_capacity w.sessions)) row.old }
     ensures count { length row.new ≡ length row.old }
     ensures dealt { (book : BookView Opening) → book.passes ≡ length passes.items → AreNew book passes.items
-        → AreDealt (IsFresh book) (map (λ w. map (λ s. session_with s.pass (get_by_text s.names) s.txn s.log.items s.ended) w.sessions.items) row.new) (length passes.items) }
+        → AreDealt (IsFresh book) (map (λ w. map (λ s.
+        session_with s.pass (get_by_text s.names) s.txn s.log.items s.ended) w.sessions.items) row.new)
+        (length passes.items) }
 {
     let ahead = passes.len().saturating_sub(behind);
     let mut next = 0;
@@ -87,8 +90,13 @@ fn add<K: KvStore>(row: &mut [Worker<K>], place: usize, session: Session<K>)
     requires place { place < length row.old }
     requires room { All (λ w. length w.sessions.items < vec_capacity w.sessions) row.old }
     ensures count { length row.new ≡ length row.old }
-    ensures added { (map (λ w. map (λ s. session_with s.pass (get_by_text s.names) s.txn s.log.items s.ended) w.sessions.items) row.new) ≡ with_session place (session_with session.pass (get_by_text session.names) session.txn session.log.items session.ended) (map (λ w. map (λ s. session_with s.pass (get_by_text s.names) s.txn s.log.items s.ended) w.sessions.items) row.old) }
-    ensures rooms { (n room : ℕ) → All (λ w. (length w.sessions.items ≤ n) × (room ≤ vec_capacity w.sessions)) row.old → All (λ w. (length w.sessions.items ≤ n + 1) × (room ≤ vec_capacity w.sessions)) row.new }
+    ensures added { (map (λ w. map (λ s. session_with s.pass
+        (get_by_text s.names) s.txn s.log.items s.ended) w.sessions.items) row.new)
+        ≡ with_session place (session_with session.pass
+        (get_by_text session.names) session.txn session.log.items session.ended) (map (λ w.
+        map (λ s. session_with s.pass (get_by_text s.names) s.txn s.log.items s.ended) w.sessions.items) row.old) }
+    ensures rooms { (n room : ℕ) → All (λ w. (length w.sessions.items ≤ n) × (room ≤ vec_capacity w.sessions)) row.old
+        → All (λ w. (length w.sessions.items ≤ n + 1) × (room ≤ vec_capacity w.sessions)) row.new }
 {
     take_on(&mut row[place], session);
 }

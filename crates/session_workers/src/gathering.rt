@@ -18,7 +18,8 @@ use turn_book::Pass;
 
 /// True only where no session ended without an answer to a line.
 pub(crate) fn are_full<K: KvStore>(row: &[Worker<K>]) -> bool
-    ensures { result ≡ true → All (λ w. All (λ s. IsFull (session_with s.pass (get_by_text s.names) s.txn s.log.items s.ended)) w.sessions.items) row.now }
+    ensures { result ≡ true → All (λ w. All (λ s.
+        IsFull (session_with s.pass (get_by_text s.names) s.txn s.log.items s.ended)) w.sessions.items) row.now }
 {
     for worker in row {
         if !each_full(worker.sessions.as_slice()) {
@@ -29,7 +30,8 @@ pub(crate) fn are_full<K: KvStore>(row: &[Worker<K>]) -> bool
 }
 
 fn each_full<K: KvStore>(sessions: &[Session<K>]) -> bool
-    ensures { result ≡ true → All (λ s. IsFull (session_with s.pass (get_by_text s.names) s.txn s.log.items s.ended)) sessions.now }
+    ensures { result ≡ true → All (λ s. IsFull
+        (session_with s.pass (get_by_text s.names) s.txn s.log.items s.ended)) sessions.now }
 {
     for session in sessions {
         if !is_full(session) {
@@ -40,7 +42,8 @@ fn each_full<K: KvStore>(sessions: &[Session<K>]) -> bool
 }
 
 fn is_full<K: KvStore>(session: &Session<K>) -> bool
-    ensures { result ≡ true → IsFull (session_with session.now.pass (get_by_text session.now.names) session.now.txn session.now.log.items session.now.ended) }
+    ensures { result ≡ true → IsFull (session_with session.now.pass
+        (get_by_text session.now.names) session.now.txn session.now.log.items session.now.ended) }
 {
     !session.ended || ends_in_want(session.log.as_slice())
 }
@@ -70,12 +73,21 @@ pub(crate) fn gather<K: KvStore>(
     back: &mut Vec<Pass<State<K>>>,
     logs: &mut [List<Answer>],
 )
-    requires room { length back.old.items + length (numbers_in (map (λ w. map (λ s. session_with s.pass (get_by_text s.names) s.txn s.log.items s.ended) w.sessions.items) row.items)) ≤ vec_capacity back.old }
-    requires small { AllByRecursion (AllByRecursion (λ s. s.pass.number < length logs.old)) (map (λ w. map (λ s. session_with s.pass (get_by_text s.names) s.txn s.log.items s.ended) w.sessions.items) row.items) }
-    ensures all { (k : ℕ) → Contains (numbers_in (map (λ w. map (λ s. session_with s.pass (get_by_text s.names) s.txn s.log.items s.ended) w.sessions.items) row.items)) k → Contains (map (λ p. p.number) back.new.items) k }
+    requires room { length back.old.items + length (numbers_in (map (λ w.
+        map (λ s.
+        session_with s.pass
+        (get_by_text s.names) s.txn s.log.items s.ended) w.sessions.items) row.items)) ≤ vec_capacity back.old }
+    requires small { AllByRecursion (AllByRecursion (λ s. s.pass.number < length logs.old)) (map (λ w.
+        map (λ s. session_with s.pass (get_by_text s.names) s.txn s.log.items s.ended) w.sessions.items) row.items) }
+    ensures all { (k : ℕ) → Contains (numbers_in (map (λ w.
+        map (λ s. session_with s.pass (get_by_text s.names) s.txn s.log.items s.ended) w.sessions.items) row.items)) k
+        → Contains (map (λ p. p.number) back.new.items) k }
     ensures count { length logs.new ≡ length logs.old }
-    ensures kept { (book : BookView Opening) (mounts scripts : List (List ℕ)) (whole : Bool) → AllByRecursion (AllByRecursion (HasRun book mounts scripts whole)) (map (λ w. map (λ s. session_with s.pass (get_by_text s.names) s.txn s.log.items s.ended) w.sessions.items) row.items)
-        → AreKept book mounts scripts whole back.old.items logs.old → AreKept book mounts scripts whole back.new.items logs.new }
+    ensures kept { (book : BookView Opening) (mounts scripts : List (List ℕ)) (whole : Bool)
+        → AllByRecursion (AllByRecursion (HasRun book mounts scripts whole)) (map (λ w.
+        map (λ s. session_with s.pass (get_by_text s.names) s.txn s.log.items s.ended) w.sessions.items) row.items)
+        → AreKept book mounts scripts whole back.old.items logs.old
+        → AreKept book mounts scripts whole back.new.items logs.new }
 {
     while let Some(worker) = row.pop() {
         gather_one(worker.sessions, back, logs);
@@ -89,14 +101,20 @@ fn gather_one<K: KvStore>(
     logs: &mut [List<Answer>],
 )
     requires room { length back.old.items + length sessions.items ≤ vec_capacity back.old }
-    requires small { AllByRecursion (λ s. s.pass.number < length logs.old) (map (λ s. session_with s.pass (get_by_text s.names) s.txn s.log.items s.ended) sessions.items) }
-    ensures all { (k : ℕ) → Contains (map (λ s. s.pass.number) sessions.items) k → Contains (map (λ p. p.number) back.new.items) k }
-    ensures stay { (k : ℕ) → Contains (map (λ p. p.number) back.old.items) k → Contains (map (λ p. p.number) back.new.items) k }
+    requires small { AllByRecursion (λ s. s.pass.number < length logs.old) (map (λ s.
+        session_with s.pass (get_by_text s.names) s.txn s.log.items s.ended) sessions.items) }
+    ensures all { (k : ℕ) → Contains (map (λ s. s.pass.number) sessions.items) k
+        → Contains (map (λ p. p.number) back.new.items) k }
+    ensures stay { (k : ℕ) → Contains (map (λ p. p.number) back.old.items) k
+        → Contains (map (λ p. p.number) back.new.items) k }
     ensures length_is { length back.new.items ≡ length back.old.items + length sessions.items }
     ensures room { vec_capacity back.new ≡ vec_capacity back.old }
     ensures count { length logs.new ≡ length logs.old }
-    ensures kept { (book : BookView Opening) (mounts scripts : List (List ℕ)) (whole : Bool) → AllByRecursion (HasRun book mounts scripts whole) (map (λ s. session_with s.pass (get_by_text s.names) s.txn s.log.items s.ended) sessions.items)
-        → AreKept book mounts scripts whole back.old.items logs.old → AreKept book mounts scripts whole back.new.items logs.new }
+    ensures kept { (book : BookView Opening) (mounts scripts : List (List ℕ)) (whole : Bool)
+        → AllByRecursion (HasRun book mounts scripts whole) (map (λ s.
+        session_with s.pass (get_by_text s.names) s.txn s.log.items s.ended) sessions.items)
+        → AreKept book mounts scripts whole back.old.items logs.old
+        → AreKept book mounts scripts whole back.new.items logs.new }
 {
     while let Some(session) = sessions.pop() {
         take_apart(session, back, logs);
@@ -114,8 +132,11 @@ fn take_apart<K: KvStore>(
     ensures back { back.new.items ≡ back.old.items ++ session.pass ∷ [] }
     ensures room { vec_capacity back.new ≡ vec_capacity back.old }
     ensures count { length logs.new ≡ length logs.old }
-    ensures kept { (book : BookView Opening) (mounts scripts : List (List ℕ)) (whole : Bool) → HasRun book mounts scripts whole (session_with session.pass (get_by_text session.names) session.txn session.log.items session.ended)
-        → AreKept book mounts scripts whole back.old.items logs.old → AreKept book mounts scripts whole back.new.items logs.new }
+    ensures kept { (book : BookView Opening) (mounts scripts : List (List ℕ)) (whole : Bool)
+        → HasRun book mounts scripts whole (session_with session.pass
+        (get_by_text session.names) session.txn session.log.items session.ended)
+        → AreKept book mounts scripts whole back.old.items logs.old
+        → AreKept book mounts scripts whole back.new.items logs.new }
 {
     let Session {
         pass,

@@ -6,7 +6,6 @@ ghost use Rattle.indexmap.specs.IndexMap.{get_by_text};
 ghost use Rattle.session_runs.specs.Session.{session_with, HasMounts};
 ghost use Rattle.session_workers.specs.Workers.{AreSessionLogs, AreWhole, AreDealt, IsFresh, HasRun};
 ghost use Rattle.state_laws.specs.Agreement.{Opening, Agrees, TakesMount};
-ghost use Rattle.state_laws.specs.Seen.{seen_of};
 ghost use Rattle.turn_book.specs.Passes.{BookView, AreNew};
 
 use crate::dealing::{Worker, deal, workers};
@@ -54,13 +53,14 @@ pub fn run_scripts<K: KvStore + Send, R: Threads + Wait + Sync, G: Gate + Sync>(
     requires few { length scripts.now < 2 ^ 32 }
     requires short { All (λ s. length s.items < 2 ^ 62) scripts.now }
     requires valid { AllByRecursion IsMount mounts.now }
-    requires taken { AllByRecursion (TakesMount (K.names store)) mounts.now }
-    ensures logs { let seen = seen_of K.contents K.faults K.prefixes K.names K.standing K.change_count in
-        IfOk result (λ r. AreSessionLogs (record { store = seen store; limit = limit }) mounts.now (map (λ v. v.items) scripts.now) r.state.log.events r.logs.items) }
+    requires taken { AllByRecursion (TakesMount ((K.seen store).names)) mounts.now }
+    ensures logs { IfOk result (λ r. AreSessionLogs (record { store = K.seen store; limit = limit }) mounts.now
+        (map (λ v. v.items) scripts.now) r.state.log.events r.logs.items) }
     // Each line that isn't blank has its answer, up to one that is want of memory.
-    ensures whole { IfOk result (λ r. r.whole ≡ true → AreWhole mounts.now (map (λ v. v.items) scripts.now) r.logs.items) }
-    ensures agrees { let seen = seen_of K.contents K.faults K.prefixes K.names K.standing K.change_count in
-        IfOk result (λ r. Agrees (record { store = seen store; limit = limit }) (seen r.state.store) r.state.log) }
+    ensures whole { IfOk result (λ r. r.whole ≡ true
+        → AreWhole mounts.now (map (λ v. v.items) scripts.now) r.logs.items) }
+    ensures agrees { IfOk result (λ r. Agrees (record { store = K.seen store; limit = limit })
+        (K.seen r.state.store) r.state.log) }
     ensures handed_back { IfErr result (λ refused. refused.store ≡ store) }
 {
     let front = threads.min(scripts.len());
@@ -92,7 +92,9 @@ fn dealt<K: KvStore>(
     requires rooms { All (λ w. (w.sessions.items ≡ []) × (length passes.items ≤ vec_capacity w.sessions)) row.items }
     ensures count { length result.items ≡ length row.items }
     ensures dealt { (book : BookView Opening) → book.passes ≡ length passes.items → AreNew book passes.items
-        → AreDealt (IsFresh book) (map (λ w. map (λ s. session_with s.pass (get_by_text s.names) s.txn s.log.items s.ended) w.sessions.items) result.items) (length passes.items) }
+        → AreDealt (IsFresh book) (map (λ w. map (λ s.
+        session_with s.pass (get_by_text s.names) s.txn s.log.items s.ended) w.sessions.items) result.items)
+        (length passes.items) }
 {
     deal(alloc, passes, row.as_mut_slice(), front, behind);
     row
@@ -111,11 +113,15 @@ fn worked<K: KvStore + Send, R: Threads + Wait + Sync, G: Gate + Sync>(
 ) -> Vec<Worker<K>>
     requires some { 0 < front }
     requires front { front ≤ length row.items }
-    requires dealt { AreDealt (IsFresh book.now) (map (λ w. map (λ s. session_with s.pass (get_by_text s.names) s.txn s.log.items s.ended) w.sessions.items) row.items) (length scripts.now) }
+    requires dealt { AreDealt (IsFresh book.now) (map (λ w.
+        map (λ s. session_with s.pass (get_by_text s.names) s.txn s.log.items s.ended) w.sessions.items) row.items)
+        (length scripts.now) }
     requires mounts { HasMounts book.now mounts.now }
     requires passes { book.now.passes ≡ length scripts.now }
     requires short { All (λ s. length s.items < 2 ^ 62) scripts.now }
-    ensures { AreDealt (HasRun book.now mounts.now (map (λ v. v.items) scripts.now) false) (map (λ w. map (λ s. session_with s.pass (get_by_text s.names) s.txn s.log.items s.ended) w.sessions.items) result.items) (length scripts.now) }
+    ensures { AreDealt (HasRun book.now mounts.now (map (λ v. v.items) scripts.now) false) (map (λ w.
+        map (λ s. session_with s.pass (get_by_text s.names) s.txn s.log.items s.ended) w.sessions.items) result.items)
+        (length scripts.now) }
 {
     work_in_turn(
         alloc,
@@ -140,11 +146,20 @@ fn gathered<K: KvStore>(
     requires empty { back.items ≡ [] }
     requires room { length logs.items ≤ vec_capacity back }
     requires passes { book.passes ≡ length logs.items }
-    requires ran { (mounts scripts : List (List ℕ)) × AreDealt (HasRun book mounts scripts false) (map (λ w. map (λ s. session_with s.pass (get_by_text s.names) s.txn s.log.items s.ended) w.sessions.items) row.items) (length scripts) × (length scripts ≡ length logs.items) }
-    ensures agrees { let seen = seen_of K.contents K.faults K.prefixes K.names K.standing K.change_count in Agrees book.fixed (seen result.state.store) result.state.log }
-    ensures logs { (mounts scripts : List (List ℕ)) → AreDealt (HasRun book mounts scripts false) (map (λ w. map (λ s. session_with s.pass (get_by_text s.names) s.txn s.log.items s.ended) w.sessions.items) row.items) (length scripts) → length scripts ≡ length logs.items
+    requires ran { (mounts scripts : List (List ℕ))
+        × AreDealt (HasRun book mounts scripts false) (map (λ w.
+        map (λ s. session_with s.pass (get_by_text s.names) s.txn s.log.items s.ended) w.sessions.items) row.items)
+        (length scripts) × (length scripts ≡ length logs.items) }
+    ensures agrees { Agrees book.fixed (K.seen result.state.store) result.state.log }
+    ensures logs { (mounts scripts : List (List ℕ))
+        → AreDealt (HasRun book mounts scripts false) (map (λ w.
+        map (λ s. session_with s.pass (get_by_text s.names) s.txn s.log.items s.ended) w.sessions.items) row.items)
+        (length scripts) → length scripts ≡ length logs.items
         → AreSessionLogs book.fixed mounts scripts result.state.log.events result.logs.items }
-    ensures whole { (mounts scripts : List (List ℕ)) → AreDealt (HasRun book mounts scripts false) (map (λ w. map (λ s. session_with s.pass (get_by_text s.names) s.txn s.log.items s.ended) w.sessions.items) row.items) (length scripts) → length scripts ≡ length logs.items
+    ensures whole { (mounts scripts : List (List ℕ))
+        → AreDealt (HasRun book mounts scripts false) (map (λ w.
+        map (λ s. session_with s.pass (get_by_text s.names) s.txn s.log.items s.ended) w.sessions.items) row.items)
+        (length scripts) → length scripts ≡ length logs.items
         → result.whole ≡ true → AreWhole mounts scripts result.logs.items }
 {
     let whole = are_full(row.as_slice());

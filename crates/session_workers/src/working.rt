@@ -30,12 +30,18 @@ pub(crate) fn work_in_turn<K: KvStore + Send, R: Threads + Wait + Sync, G: Gate 
 )
     requires some { 0 < front }
     requires front { front ≤ length row.old }
-    requires fresh { All (λ w. AllByRecursion (IsFresh book.now) (map (λ s. session_with s.pass (get_by_text s.names) s.txn s.log.items s.ended) w.sessions.items)) row.old }
+    requires fresh { All (λ w. AllByRecursion (IsFresh book.now) (map (λ s.
+        session_with s.pass (get_by_text s.names) s.txn s.log.items s.ended) w.sessions.items)) row.old }
     requires mounts { HasMounts book.now mounts.now }
     requires passes { book.now.passes ≡ length scripts.now }
     requires short { All (λ s. length s.items < 2 ^ 62) scripts.now }
     ensures count { length row.new ≡ length row.old }
-    ensures worked { (i : ℕ) (d : _) → i < length row.old → AreWorked book.now mounts.now (map (λ v. v.items) scripts.now) (map (λ s. session_with s.pass (get_by_text s.names) s.txn s.log.items s.ended) (slice_index_or row.old i d).sessions.items) (map (λ s. session_with s.pass (get_by_text s.names) s.txn s.log.items s.ended) (slice_index_or row.new i d).sessions.items) }
+    ensures worked { (i : ℕ) (d : _) → i < length row.old
+        → AreWorked book.now mounts.now (map (λ v. v.items) scripts.now) (map (λ s.
+        session_with s.pass (get_by_text s.names) s.txn s.log.items s.ended)
+        (slice_index_or row.old i d).sessions.items) (map (λ s.
+        session_with s.pass (get_by_text s.names) s.txn s.log.items s.ended)
+        (slice_index_or row.new i d).sessions.items) }
 {
     let (first, others) = row.split_at_mut(front);
     work(alloc, rt, book, mounts, scripts, first, front, gate);
@@ -54,23 +60,33 @@ fn work<K: KvStore + Send, R: Threads + Wait + Sync, G: Gate + Sync>(
     gate: &G,
 )
     requires threads { 0 < threads }
-    requires fresh { All (λ w. AllByRecursion (IsFresh book.now) (map (λ s. session_with s.pass (get_by_text s.names) s.txn s.log.items s.ended) w.sessions.items)) row.old }
+    requires fresh { All (λ w. AllByRecursion (IsFresh book.now) (map (λ s.
+        session_with s.pass (get_by_text s.names) s.txn s.log.items s.ended) w.sessions.items)) row.old }
     requires mounts { HasMounts book.now mounts.now }
     requires passes { book.now.passes ≡ length scripts.now }
     requires short { All (λ s. length s.items < 2 ^ 62) scripts.now }
     ensures count { length row.new ≡ length row.old }
-    ensures worked { (i : ℕ) (d : _) → i < length row.old → AreWorked book.now mounts.now (map (λ v. v.items) scripts.now) (map (λ s. session_with s.pass (get_by_text s.names) s.txn s.log.items s.ended) (slice_index_or row.old i d).sessions.items) (map (λ s. session_with s.pass (get_by_text s.names) s.txn s.log.items s.ended) (slice_index_or row.new i d).sessions.items) }
+    ensures worked { (i : ℕ) (d : _) → i < length row.old
+        → AreWorked book.now mounts.now (map (λ v. v.items) scripts.now) (map (λ s.
+        session_with s.pass (get_by_text s.names) s.txn s.log.items s.ended)
+        (slice_index_or row.old i d).sessions.items) (map (λ s.
+        session_with s.pass (get_by_text s.names) s.txn s.log.items s.ended)
+        (slice_index_or row.new i d).sessions.items) }
 {
     thread::for_each_mut(
         rt,
         row,
         threads,
         &|_, worker: &mut Worker<K>|
-            requires fresh { AllByRecursion (IsFresh book.now) (map (λ s. session_with s.pass (get_by_text s.names) s.txn s.log.items s.ended) worker.old.sessions.items) }
+            requires fresh { AllByRecursion (IsFresh book.now) (map (λ s.
+                session_with s.pass (get_by_text s.names) s.txn s.log.items s.ended) worker.old.sessions.items) }
             requires mounts { HasMounts book.now mounts.now }
             requires passes { book.now.passes ≡ length scripts.now }
             requires short { All (λ s. length s.items < 2 ^ 62) scripts.now }
-            ensures { AreWorked book.entry.now mounts.entry.now (map (λ v. v.items) scripts.entry.now) (map (λ s. session_with s.pass (get_by_text s.names) s.txn s.log.items s.ended) worker.old.sessions.items) (map (λ s. session_with s.pass (get_by_text s.names) s.txn s.log.items s.ended) worker.new.sessions.items) }
+            ensures { AreWorked book.entry.now mounts.entry.now (map (λ v. v.items) scripts.entry.now) (map (λ s.
+                session_with s.pass (get_by_text s.names) s.txn s.log.items s.ended) worker.old.sessions.items)
+                (map (λ s.
+                session_with s.pass (get_by_text s.names) s.txn s.log.items s.ended) worker.new.sessions.items) }
         {
             run_worker(alloc, rt, book, mounts, scripts, worker, gate);
         },
@@ -86,11 +102,14 @@ fn run_worker<K: KvStore, R: Wait, G: Gate>(
     worker: &mut Worker<K>,
     gate: &G,
 )
-    requires fresh { AllByRecursion (IsFresh book.now) (map (λ s. session_with s.pass (get_by_text s.names) s.txn s.log.items s.ended) worker.old.sessions.items) }
+    requires fresh { AllByRecursion (IsFresh book.now) (map (λ s.
+        session_with s.pass (get_by_text s.names) s.txn s.log.items s.ended) worker.old.sessions.items) }
     requires mounts { HasMounts book.now mounts.now }
     requires passes { book.now.passes ≡ length scripts.now }
     requires short { All (λ s. length s.items < 2 ^ 62) scripts.now }
-    ensures { AreWorked book.now mounts.now (map (λ v. v.items) scripts.now) (map (λ s. session_with s.pass (get_by_text s.names) s.txn s.log.items s.ended) worker.old.sessions.items) (map (λ s. session_with s.pass (get_by_text s.names) s.txn s.log.items s.ended) worker.new.sessions.items) }
+    ensures { AreWorked book.now mounts.now (map (λ v. v.items) scripts.now) (map (λ s.
+        session_with s.pass (get_by_text s.names) s.txn s.log.items s.ended) worker.old.sessions.items) (map (λ s.
+        session_with s.pass (get_by_text s.names) s.txn s.log.items s.ended) worker.new.sessions.items) }
 {
     run_each(
         alloc,
@@ -112,11 +131,14 @@ fn run_each<K: KvStore, R: Wait, G: Gate>(
     sessions: &mut [Session<K>],
     gate: &G,
 )
-    requires fresh { AllByRecursion (IsFresh book.now) (map (λ s. session_with s.pass (get_by_text s.names) s.txn s.log.items s.ended) sessions.old) }
+    requires fresh { AllByRecursion (IsFresh book.now) (map (λ s.
+        session_with s.pass (get_by_text s.names) s.txn s.log.items s.ended) sessions.old) }
     requires mounts { HasMounts book.now mounts.now }
     requires passes { book.now.passes ≡ length scripts.now }
     requires short { All (λ s. length s.items < 2 ^ 62) scripts.now }
-    ensures { AreWorked book.now mounts.now (map (λ v. v.items) scripts.now) (map (λ s. session_with s.pass (get_by_text s.names) s.txn s.log.items s.ended) sessions.old) (map (λ s. session_with s.pass (get_by_text s.names) s.txn s.log.items s.ended) sessions.new) }
+    ensures { AreWorked book.now mounts.now (map (λ v. v.items) scripts.now) (map (λ s.
+        session_with s.pass (get_by_text s.names) s.txn s.log.items s.ended) sessions.old) (map (λ s.
+        session_with s.pass (get_by_text s.names) s.txn s.log.items s.ended) sessions.new) }
 {
     for place in 0..sessions.len() {
         run_one(alloc, rt, book, mounts, scripts, &mut sessions[place], gate);
@@ -132,11 +154,16 @@ fn run_one<K: KvStore, R: Wait, G: Gate>(
     session: &mut Session<K>,
     gate: &G,
 )
-    requires fresh { IsFresh book.now (session_with session.old.pass (get_by_text session.old.names) session.old.txn session.old.log.items session.old.ended) }
+    requires fresh { IsFresh book.now (session_with session.old.pass
+        (get_by_text session.old.names) session.old.txn session.old.log.items session.old.ended) }
     requires mounts { HasMounts book.now mounts.now }
     requires passes { book.now.passes ≡ length scripts.now }
     requires short { All (λ s. length s.items < 2 ^ 62) scripts.now }
-    ensures { IsWorked book.now mounts.now (map (λ v. v.items) scripts.now) (session_with session.old.pass (get_by_text session.old.names) session.old.txn session.old.log.items session.old.ended) (session_with session.new.pass (get_by_text session.new.names) session.new.txn session.new.log.items session.new.ended) }
+    ensures { IsWorked book.now mounts.now (map (λ v.
+        v.items) scripts.now) (session_with session.old.pass
+        (get_by_text session.old.names) session.old.txn session.old.log.items session.old.ended)
+        (session_with session.new.pass
+        (get_by_text session.new.names) session.new.txn session.new.log.items session.new.ended) }
 {
     let place = session.pass.number() as usize;
     run_script(

@@ -18,8 +18,10 @@ use transactions::Txn;
 
 /// Begins a transaction at a line, where none stands. No turn is taken.
 pub fn begin(alloc: Global, line: u64, mode: Mode, txn: &mut Option<Txn>) -> Body
-    ensures told { (names : Names) (seen : ℕ) → IsToldAlone (session_state names seen txn.old) line (beginning mode) names (transaction_in txn.new) result }
-    ensures txn { (opening : Opening) (events : History) → IsLegal finmap.empty (outline events) → HasSoundTxn opening events txn.old → HasSoundTxn opening events txn.new }
+    ensures told { (names : Names) (seen : ℕ)
+        → IsToldAlone (session_state names seen txn.old) line (beginning mode) names (transaction_in txn.new) result }
+    ensures txn { (opening : Opening) (events : History) → IsLegal finmap.empty (outline events)
+        → HasSoundTxn opening events txn.old → HasSoundTxn opening events txn.new }
 {
     if txn.is_some() {
         return Body::InTransaction;
@@ -30,8 +32,10 @@ pub fn begin(alloc: Global, line: u64, mode: Mode, txn: &mut Option<Txn>) -> Bod
 
 /// Ends the transaction that stands, and nothing of it is done. No turn is taken.
 pub fn abort(line: u64, txn: &mut Option<Txn>) -> Body
-    ensures told { (names : Names) (seen : ℕ) → IsToldAlone (session_state names seen txn.old) line aborting names (transaction_in txn.new) result }
-    ensures txn { (opening : Opening) (events : History) → HasSoundTxn opening events txn.old → HasSoundTxn opening events txn.new }
+    ensures told { (names : Names) (seen : ℕ)
+        → IsToldAlone (session_state names seen txn.old) line aborting names (transaction_in txn.new) result }
+    ensures txn { (opening : Opening) (events : History) → HasSoundTxn opening events txn.old
+        → HasSoundTxn opening events txn.new }
 {
     if txn.is_none() {
         return Body::NoTransaction;

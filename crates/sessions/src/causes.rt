@@ -18,7 +18,8 @@ use transform_composition::ComposeError;
 
 /// The answer where a view isn't seen through a transform.
 pub(crate) fn composed_body(e: ComposeError) -> Body
-    ensures { (answer : Result View ComposeError) (next : View → Asked) → (e ≢ compose.Memory → answer ≡ Err e) → IsAnswerTo (with_changes (by_view answer) next) result }
+    ensures { (answer : Result View ComposeError) (next : View → Asked) → (e ≢ compose.Memory → answer ≡ Err e)
+        → IsAnswerTo (with_changes (by_view answer) next) result }
 {
     match e {
         ComposeError::Memory => Body::Memory,
@@ -28,7 +29,8 @@ pub(crate) fn composed_body(e: ComposeError) -> Body
 
 /// The answer where steps aren't done.
 pub(crate) fn applied_body(e: ApplyError) -> Body
-    ensures { (view : View) (answer : Result DomainAndMaps ApplyError) (next : View → Asked) → (e ≢ apply.Memory → answer ≡ Err e) → IsAnswerTo (with_changes (under_steps view answer) next) result }
+    ensures { (view : View) (answer : Result DomainAndMaps ApplyError) (next : View → Asked)
+        → (e ≢ apply.Memory → answer ≡ Err e) → IsAnswerTo (with_changes (under_steps view answer) next) result }
 {
     match e {
         ApplyError::UnknownDim { step } => Body::UnknownDim { step },
@@ -40,7 +42,8 @@ pub(crate) fn applied_body(e: ApplyError) -> Body
 
 /// The answer where views aren't joined.
 pub(crate) fn joined_body(e: JoinError) -> Body
-    ensures { (answer : Result View JoinErrorOf) (next : View → Asked) → (e ≢ join.Memory → answer ≡ Err e) → IsAnswerTo (with_join (by_join answer) next) result }
+    ensures { (answer : Result View JoinErrorOf) (next : View → Asked) → (e ≢ join.Memory → answer ≡ Err e)
+        → IsAnswerTo (with_join (by_join answer) next) result }
 {
     match e {
         JoinError::Memory => Body::Memory,

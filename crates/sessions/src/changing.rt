@@ -28,7 +28,8 @@ pub(crate) fn changed(
     requires given { All IsGiven steps.now }
     ensures value { IfOk result (λ v. changed_by (Ok view) (changes_of transform.now steps.now) ≡ Ok v) }
     ensures view { IfOk result IsView }
-    ensures err { IfErr result (λ b. (next : ViewOf → Asked) → IsAnswerTo (with_changes (changed_by (Ok view) (changes_of transform.now steps.now)) next) b) }
+    ensures err { IfErr result (λ b. (next : ViewOf → Asked)
+        → IsAnswerTo (with_changes (changed_by (Ok view) (changes_of transform.now steps.now)) next) b) }
 {
     match transform {
         Some(t) => match seen_through(alloc, view, t) {
@@ -43,7 +44,8 @@ fn seen_through(alloc: Global, view: View, t: &Transform) -> Result<View, Body>
     requires { IsView view }
     ensures value { IfOk result (λ v. by_transform t.now view ≡ Ok v) }
     ensures view { IfOk result IsView }
-    ensures err { IfErr result (λ b. (next : ViewOf → Asked) → IsAnswerTo (with_changes (by_transform t.now view) next) b) }
+    ensures err { IfErr result (λ b. (next : ViewOf → Asked)
+        → IsAnswerTo (with_changes (by_transform t.now view) next) b) }
 {
     match with_transform(alloc, view, t) {
         Ok(view) => Ok(view),
@@ -56,7 +58,8 @@ fn stepped(alloc: Global, view: View, steps: &[Step]) -> Result<View, Body>
     requires given { All IsGiven steps.now }
     ensures value { IfOk result (λ v. changed_by (Ok view) (steps_of steps.now) ≡ Ok v) }
     ensures view { IfOk result IsView }
-    ensures err { IfErr result (λ b. (next : ViewOf → Asked) → IsAnswerTo (with_changes (changed_by (Ok view) (steps_of steps.now)) next) b) }
+    ensures err { IfErr result (λ b. (next : ViewOf → Asked)
+        → IsAnswerTo (with_changes (changed_by (Ok view) (steps_of steps.now)) next) b) }
 {
     if steps.is_empty() {
         return Ok(view);

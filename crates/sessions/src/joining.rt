@@ -46,9 +46,13 @@ pub fn join(
     requires given { All IsGiven steps.now }
     requires layers { AreLayers layers.now }
     requires views { AreViews (get_by_text names.old) }
-    ensures told { (seen line : ℕ) (t : Option TxnSeen) → IsToldAlone (session_state (get_by_text names.old) seen t) line (joining name.now layers.now (join_of form) (changes_of transform.now steps.now)) (get_by_text names.new) (transaction_in t) result }
+    ensures told { (seen line : ℕ) (t : Option TxnSeen)
+        → IsToldAlone (session_state (get_by_text names.old) seen t) line
+        (joining name.now layers.now (join_of form) (changes_of transform.now steps.now)) (get_by_text names.new)
+        (transaction_in t) result }
     ensures views { AreViews (get_by_text names.new) }
-    ensures known { (events : History) → AreKnownNames events (get_by_text names.old) → AreKnownNames events (get_by_text names.new) }
+    ensures known { (events : History) → AreKnownNames events (get_by_text names.old)
+        → AreKnownNames events (get_by_text names.new) }
 {
     match joined(alloc, names, form, layers, transform, steps) {
         Ok(view) => bound(alloc, names, name, view),
@@ -67,9 +71,13 @@ fn joined(
     requires given { All IsGiven steps.now }
     requires layers { AreLayers layers.now }
     requires views { AreViews (get_by_text names.now) }
-    ensures value { IfOk result (λ v. (name : Text) (t : Option Transaction) → act_of (get_by_text names.now) t (joining name layers.now (join_of form) (changes_of transform.now steps.now)) ≡ Ok (binds name v)) }
+    ensures value { IfOk result (λ v. (name : Text) (t : Option Transaction)
+        → act_of (get_by_text names.now) t (joining name layers.now (join_of form)
+        (changes_of transform.now steps.now)) ≡ Ok (binds name v)) }
     ensures view { IfOk result IsView }
-    ensures err { IfErr result (λ b. (name : Text) (t : Option Transaction) → IsAnswerTo (act_of (get_by_text names.now) t (joining name layers.now (join_of form) (changes_of transform.now steps.now))) b) }
+    ensures err { IfErr result (λ b. (name : Text) (t : Option Transaction)
+        → IsAnswerTo (act_of (get_by_text names.now) t
+        (joining name layers.now (join_of form) (changes_of transform.now steps.now))) b) }
 {
     match joined_layers(alloc, names, form, layers) {
         Ok(view) => changed(alloc, view, transform, steps),
@@ -85,9 +93,11 @@ fn joined_layers(
 ) -> Result<View, Body>
     requires layers { AreLayers layers.now }
     requires views { AreViews (get_by_text names.now) }
-    ensures value { IfOk result (λ v. (next : ViewOf → Asked) → only_named (get_by_text names.now) layers.now (λ views. with_join (join_of form views) next) ≡ next v) }
+    ensures value { IfOk result (λ v. (next : ViewOf → Asked)
+        → only_named (get_by_text names.now) layers.now (λ views. with_join (join_of form views) next) ≡ next v) }
     ensures view { IfOk result IsView }
-    ensures err { IfErr result (λ b. (next : ViewOf → Asked) → IsAnswerTo (only_named (get_by_text names.now) layers.now (λ views. with_join (join_of form views) next)) b) }
+    ensures err { IfErr result (λ b. (next : ViewOf → Asked)
+        → IsAnswerTo (only_named (get_by_text names.now) layers.now (λ views. with_join (join_of form views) next)) b) }
 {
     match all_named(alloc, names, layers) {
         Ok(views) => over(alloc, form, views),
@@ -101,7 +111,8 @@ fn over(alloc: Global, form: JoinForm, views: Vec<View>) -> Result<View, Body>
     requires views { AllByRecursion IsView views.items }
     ensures value { IfOk result (λ v. join_of form views.items ≡ Ok v) }
     ensures view { IfOk result IsView }
-    ensures err { IfErr result (λ b. (next : ViewOf → Asked) → IsAnswerTo (with_join (join_of form views.items) next) b) }
+    ensures err { IfErr result (λ b. (next : ViewOf → Asked)
+        → IsAnswerTo (with_join (join_of form views.items) next) b) }
 {
     match joined_by(alloc, form, views) {
         Ok(view) => Ok(view),
@@ -127,10 +138,12 @@ fn joined_by(alloc: Global, form: JoinForm, views: Vec<View>) -> Result<View, Jo
 // Copies of the views of all names, or the answer to the first that has none.
 fn all_named(alloc: Global, names: &Names, layers: &[Name]) -> Result<Vec<View>, Body>
     requires { AreViews (get_by_text names.now) }
-    ensures value { IfOk result (λ vs. (next : List ViewOf → Asked) → only_named (get_by_text names.now) layers.now next ≡ next vs.items) }
+    ensures value { IfOk result (λ vs. (next : List ViewOf → Asked)
+        → only_named (get_by_text names.now) layers.now next ≡ next vs.items) }
     ensures count { IfOk result (λ vs. length vs.items ≡ length layers.now) }
     ensures each { IfOk result (λ vs. AllByRecursion IsView vs.items) }
-    ensures err { IfErr result (λ b. (next : List ViewOf → Asked) → IsAnswerTo (only_named (get_by_text names.now) layers.now next) b) }
+    ensures err { IfErr result (λ b. (next : List ViewOf → Asked)
+        → IsAnswerTo (only_named (get_by_text names.now) layers.now next) b) }
 {
     let mut views = Vec::new(alloc);
     for layer in layers {
@@ -143,8 +156,10 @@ fn all_named(alloc: Global, names: &Names, layers: &[Name]) -> Result<Vec<View>,
 }
 
 fn push_named(alloc: Global, names: &Names, name: &str, views: &mut Vec<View>) -> Result<(), Body>
-    ensures pushed { OnOk result ((v : ViewOf) × (get_by_text names.now name.now ≡ Some v) × (views.new.items ≡ views.old.items ++ v ∷ [])) }
-    ensures err { IfErr result (λ b. (next : ViewOf → Asked) → IsAnswerTo (one_named name.now (get_by_text names.now name.now) next) b) }
+    ensures pushed { OnOk result ((v : ViewOf) × (get_by_text names.now name.now ≡ Some v)
+        × (views.new.items ≡ views.old.items ++ v ∷ [])) }
+    ensures err { IfErr result (λ b. (next : ViewOf → Asked)
+        → IsAnswerTo (one_named name.now (get_by_text names.now name.now) next) b) }
 {
     match named(alloc, names, name) {
         Ok(view) => pushed(views, view),

@@ -39,7 +39,8 @@ fn put(names: &mut Names, name: String, view: View) -> bool
 /// A copy of the view that a name is bound to, or the answer that there is none.
 pub fn named(alloc: Global, names: &Names, name: &str) -> Result<View, Body>
     ensures view { IfOk result (λ v. get_by_text names.now name.now ≡ Some v) }
-    ensures err { IfErr result (λ b. (next : ViewOf → Asked) → IsAnswerTo (only_named name.now (get_by_text names.now name.now) next) b) }
+    ensures err { IfErr result (λ b. (next : ViewOf → Asked)
+        → IsAnswerTo (only_named name.now (get_by_text names.now name.now) next) b) }
 {
     match names.get(name) {
         Some(view) => copied(alloc, view),

@@ -69,7 +69,8 @@ pub fn read<K: KvStore, R: Wait, G: Gate>(
     requires views { AreViews (get_by_text names.now) }
     requires known { AreKnownNames pass.old.seen (get_by_text names.now) }
     requires txn { HasSoundTxn book.now.fixed pass.old.seen txn.old }
-    ensures told { IsReadTold book.now pass.old pass.new (get_by_text names.now) txn.old txn.new line (reading name.now (changes_of None steps.now) (downsampling_of down.now)) result }
+    ensures told { IsReadTold book.now pass.old pass.new (get_by_text names.now) txn.old txn.new line
+        (reading name.now (changes_of None steps.now) (downsampling_of down.now)) result }
     ensures passed { HasPassed book.now pass.old pass.new }
     ensures txn { HasSoundTxn book.now.fixed pass.new.seen txn.new }
 {
@@ -89,12 +90,17 @@ fn asked_read(
 ) -> Result<View, Body>
     requires given { All IsGiven steps.now }
     requires views { AreViews (get_by_text names.now) }
-    ensures act { IfOk result (λ v. (t : Option Transaction) → act_of (get_by_text names.now) t (reading name.now (changes_of None steps.now) (downsampling_of down.now)) ≡ without (cell_fault v) (Ok (reads v (downsampling_of down.now)))) }
+    ensures act { IfOk result (λ v. (t : Option Transaction)
+        → act_of (get_by_text names.now) t (reading name.now (changes_of None steps.now) (downsampling_of down.now))
+        ≡ without (cell_fault v) (Ok (reads v (downsampling_of down.now)))) }
     ensures view { IfOk result IsView }
-    ensures refs { IfOk result (λ v. (events : History) → AreKnownNames events (get_by_text names.now) → HasKnownRefs events v) }
+    ensures refs { IfOk result (λ v. (events : History) → AreKnownNames events (get_by_text names.now)
+        → HasKnownRefs events v) }
     ensures count { IfOk result (λ v. count_answer (look_of v).dims ≡ Ok (length (cells_of (look_of v).dims))) }
     ensures rank { IfOk result (HasRank down.now) }
-    ensures err { IfErr result (λ b. (t : Option Transaction) → IsAnswerTo (act_of (get_by_text names.now) t (reading name.now (changes_of None steps.now) (downsampling_of down.now))) b) }
+    ensures err { IfErr result (λ b. (t : Option Transaction)
+        → IsAnswerTo (act_of (get_by_text names.now) t
+        (reading name.now (changes_of None steps.now) (downsampling_of down.now))) b) }
 {
     match seen(alloc, names, name, steps) {
         Ok(v) => readable(v, down),
@@ -105,7 +111,8 @@ fn asked_read(
 // A view, unless its factors or the count of its cells refuse the read.
 fn readable(v: View, down: &Option<DownWant>) -> Result<View, Body>
     ensures view { IfOk result (λ w. w ≡ v) }
-    ensures value { OnOk result (read_of (downsampling_of down.now) v ≡ without (cell_fault v) (Ok (reads v (downsampling_of down.now)))) }
+    ensures value { OnOk result (read_of (downsampling_of down.now) v
+        ≡ without (cell_fault v) (Ok (reads v (downsampling_of down.now)))) }
     ensures count { OnOk result (count_answer (look_of v).dims ≡ Ok (length (cells_of (look_of v).dims))) }
     ensures rank { OnOk result (HasRank down.now v) }
     ensures err { IfErr result (IsAnswerTo (read_of (downsampling_of down.now) v)) }
@@ -118,7 +125,8 @@ fn readable(v: View, down: &Option<DownWant>) -> Result<View, Body>
 
 // How many cells a view has, or the answer to what its factors or this count refuse.
 fn checked(v: &View, down: &Option<DownWant>) -> Result<u64, Body>
-    ensures value { OnOk result (read_of (downsampling_of down.now) v.now ≡ without (cell_fault v.now) (Ok (reads v.now (downsampling_of down.now)))) }
+    ensures value { OnOk result (read_of (downsampling_of down.now) v.now
+        ≡ without (cell_fault v.now) (Ok (reads v.now (downsampling_of down.now)))) }
     ensures count { OnOk result (count_answer (look_of v.now).dims ≡ Ok (length (cells_of (look_of v.now).dims))) }
     ensures rank { OnOk result (HasRank down.now v.now) }
     ensures err { IfErr result (IsAnswerTo (read_of (downsampling_of down.now) v.now)) }
@@ -133,7 +141,8 @@ fn checked(v: &View, down: &Option<DownWant>) -> Result<u64, Body>
 
 fn has_rank(v: &View, down: &Option<DownWant>) -> bool
     ensures from { result ≡ true → HasRank down.now v.now }
-    ensures not { result ≡ false → (next : Asked) → with_factors (downsampling_of down.now) v.now next ≡ Err (old_answers.refused_view compose.Rank) }
+    ensures not { result ≡ false → (next : Asked)
+        → with_factors (downsampling_of down.now) v.now next ≡ Err (old_answers.refused_view compose.Rank) }
 {
     match down {
         Some(want) => want.factors.items().len() == transform_of(v).domain().dims.items().len(),
@@ -160,7 +169,10 @@ fn answered<K: KvStore, R: Wait, G: Gate>(
     requires factors { MayHaveFactors down.now }
     requires rank { HasRank down.now v.now }
     requires txn { HasSoundTxn book.now.fixed pass.old.seen txn.old }
-    ensures told { (names : NamesOf) (asked : Line) → act_of names (transaction_in txn.old) asked ≡ without (cell_fault v.now) (Ok (reads v.now (downsampling_of down.now))) → IsReadTold book.now pass.old pass.new names txn.old txn.new line asked result }
+    ensures told { (names : NamesOf) (asked : Line)
+        → act_of names (transaction_in txn.old) asked
+        ≡ without (cell_fault v.now) (Ok (reads v.now (downsampling_of down.now)))
+        → IsReadTold book.now pass.old pass.new names txn.old txn.new line asked result }
     ensures passed { HasPassed book.now pass.old pass.new }
     ensures txn { HasSoundTxn book.now.fixed pass.new.seen txn.new }
 {
@@ -187,7 +199,9 @@ fn read_alone<K: KvStore, R: Wait, G: Gate>(
     requires count { count_answer (look_of v.now).dims ≡ Ok (length (cells_of (look_of v.now).dims)) }
     requires factors { MayHaveFactors down.now }
     requires rank { HasRank down.now v.now }
-    ensures told { (names : NamesOf) (asked : Line) → act_of names None asked ≡ without (cell_fault v.now) (Ok (reads v.now (downsampling_of down.now))) → IsReadTold book.now pass.old pass.new names None None line asked result }
+    ensures told { (names : NamesOf) (asked : Line)
+        → act_of names None asked ≡ without (cell_fault v.now) (Ok (reads v.now (downsampling_of down.now)))
+        → IsReadTold book.now pass.old pass.new names None None line asked result }
     ensures passed { HasPassed book.now pass.old pass.new }
 {
     let mode = Mode {
@@ -263,7 +277,8 @@ fn fewer(alloc: Global, v: &View, want: &DownWant, words: &[u64]) -> Body
     requires words { length words.now ≡ length (cells_of (look_of v.now).dims) }
     requires factors { HasFactors want.now }
     requires rank { HasRank (Some want.now) v.now }
-    ensures { (result ≡ body_of (values_body v.now (Some (downsampling want.now)) words.now)) ⊎ (result ≡ printed.Memory) }
+    ensures { (result ≡ body_of (values_body v.now (Some (downsampling want.now)) words.now))
+        ⊎ (result ≡ printed.Memory) }
 {
     let domain = transform_of(v).domain();
     match downsampled(

@@ -48,7 +48,9 @@ pub fn resize<K: KvStore, R: Wait>(
     requires pass { IsRested book.now pass.old }
     requires known { AreKnownNames pass.old.seen (get_by_text names.now) }
     requires sizes { IsShape shape.now }
-    ensures told { (line : ℕ) → IsToldBy book.now pass.old pass.new (session_state (get_by_text names.now) (length pass.old.seen) txn.now) line (resizing name.now shape.now) (get_by_text names.now) (transaction_in txn.now) result }
+    ensures told { (line : ℕ) → IsToldBy book.now pass.old pass.new
+        (session_state (get_by_text names.now) (length pass.old.seen) txn.now) line (resizing name.now shape.now)
+        (get_by_text names.now) (transaction_in txn.now) result }
     ensures passed { HasPassed book.now pass.old pass.new }
 {
     match array_asked(alloc, names, txn, name, shape) {
@@ -66,9 +68,13 @@ fn array_asked(
     shape: &[u64],
 ) -> Result<u64, Body>
     requires sizes { IsShape shape.now }
-    ensures array { IfOk result (λ n. (r : Reference) × (r.number ≡ n) × (act_of (get_by_text names.now) (transaction_in txn.now) (resizing name.now shape.now) ≡ Ok (resizes r shape.now))) }
-    ensures asked { IfOk result (λ n. (early events : History) → AreKnownNames early (get_by_text names.now) → IsPrefix early events → IsLegal finmap.empty (outline events) → IsAsked events n shape.now) }
-    ensures err { IfErr result (λ b. IsAnswerTo (act_of (get_by_text names.now) (transaction_in txn.now) (resizing name.now shape.now)) b) }
+    ensures array { IfOk result (λ n. (r : Reference) × (r.number ≡ n)
+        × (act_of (get_by_text names.now) (transaction_in txn.now) (resizing name.now shape.now)
+        ≡ Ok (resizes r shape.now))) }
+    ensures asked { IfOk result (λ n. (early events : History) → AreKnownNames early (get_by_text names.now)
+        → IsPrefix early events → IsLegal finmap.empty (outline events) → IsAsked events n shape.now) }
+    ensures err { IfErr result (λ b. IsAnswerTo
+        (act_of (get_by_text names.now) (transaction_in txn.now) (resizing name.now shape.now)) b) }
 {
     if txn.is_some() {
         return Err(Body::InTransaction);
@@ -80,7 +86,8 @@ fn array_asked(
 }
 
 fn stored_array(view: &View, shape: &[u64]) -> Result<u64, Body>
-    ensures array { IfOk result (λ n. (r : Reference) × (array_of view.now ≡ Some r) × (r.number ≡ n) × (r.local ≡ false) × (length shape.now ≡ length r.shape)) }
+    ensures array { IfOk result (λ n. (r : Reference) × (array_of view.now ≡ Some r) × (r.number ≡ n)
+        × (r.local ≡ false) × (length shape.now ≡ length r.shape)) }
     ensures err { IfErr result (λ b. IsAnswerTo (on_leaf (array_of view.now) (λ r. on_stored r shape.now)) b) }
 {
     let Some(array) = array_of(view) else {

@@ -57,7 +57,10 @@ pub fn write<K: KvStore, R: Wait, G: Gate>(
     requires views { AreViews (get_by_text names.now) }
     requires known { AreKnownNames pass.old.seen (get_by_text names.now) }
     requires txn { HasSoundTxn book.now.fixed pass.old.seen txn.old }
-    ensures told { IsToldBy book.now pass.old pass.new (session_state (get_by_text names.now) (length pass.old.seen) txn.old) line (writing name.now (changes_of None steps.now) (values_of (data_in values))) (get_by_text names.now) (transaction_in txn.new) result }
+    ensures told { IsToldBy book.now pass.old pass.new
+        (session_state (get_by_text names.now) (length pass.old.seen) txn.old) line
+        (writing name.now (changes_of None steps.now) (values_of (data_in values))) (get_by_text names.now)
+        (transaction_in txn.new) result }
     ensures passed { HasPassed book.now pass.old pass.new }
     ensures txn { result ≢ printed.Memory → HasSoundTxn book.now.fixed pass.new.seen txn.new }
 {
@@ -80,9 +83,13 @@ fn stage(
 ) -> Body
     requires given { All IsGiven steps.now }
     requires views { AreViews (get_by_text names.now) }
-    requires txn { (opening : Opening) × (events : History) × IsTxnIn opening events t.old × AreKnownNames events (get_by_text names.now) }
-    ensures told { (seen line : ℕ) → IsToldAlone (session_state (get_by_text names.now) seen (Some t.old)) line (writing name.now (changes_of None steps.now) (values_of (data_in values))) (get_by_text names.now) (Some (transaction_of t.new)) result }
-    ensures txn { (opening : Opening) (events : History) → AreKnownNames events (get_by_text names.now) → HasSoundTxn opening events (Some t.old) → result ≢ printed.Memory → HasSoundTxn opening events (Some t.new) }
+    requires txn { (opening : Opening) × (events : History) × IsTxnIn opening events t.old
+        × AreKnownNames events (get_by_text names.now) }
+    ensures told { (seen line : ℕ) → IsToldAlone (session_state (get_by_text names.now) seen (Some t.old)) line
+        (writing name.now (changes_of None steps.now) (values_of (data_in values))) (get_by_text names.now)
+        (Some (transaction_of t.new)) result }
+    ensures txn { (opening : Opening) (events : History) → AreKnownNames events (get_by_text names.now)
+        → HasSoundTxn opening events (Some t.old) → result ≢ printed.Memory → HasSoundTxn opening events (Some t.new) }
 {
     match taken_write(alloc, names, name, steps, values) {
         Ok(w) => staged(alloc, t, &w),
@@ -95,8 +102,12 @@ fn staged(alloc: Global, t: &mut Txn, w: &Worded) -> Body
     requires may { MayUse w.now.view t.old }
     requires count { count_answer (look_of w.now.view).dims ≡ Ok (length w.now.words) }
     requires typed { AllByRecursion (IsWord (look_of w.now.view).dtype) w.now.words }
-    ensures told { (names : NamesOf) (seen line : ℕ) (asked : Line) → act_of names (Some (transaction_of t.old)) asked ≡ without (cell_fault w.now.view) (Ok (stages (transaction_of t.old) w.now.view w.now.words)) → IsToldAlone (session_state names seen (Some t.old)) line asked names (Some (transaction_of t.new)) result }
-    ensures txn { (opening : Opening) (events : History) → HasKnownRefs events w.now.view → HasSoundTxn opening events (Some t.old) → result ≢ printed.Memory → HasSoundTxn opening events (Some t.new) }
+    ensures told { (names : NamesOf) (seen line : ℕ) (asked : Line)
+        → act_of names (Some (transaction_of t.old)) asked
+        ≡ without (cell_fault w.now.view) (Ok (stages (transaction_of t.old) w.now.view w.now.words))
+        → IsToldAlone (session_state names seen (Some t.old)) line asked names (Some (transaction_of t.new)) result }
+    ensures txn { (opening : Opening) (events : History) → HasKnownRefs events w.now.view
+        → HasSoundTxn opening events (Some t.old) → result ≢ printed.Memory → HasSoundTxn opening events (Some t.new) }
 {
     match t.write(alloc, &w.view, w.words.items()) {
         Ok(()) => Body::Staged {

@@ -36,9 +36,13 @@ pub fn view(
 ) -> Body
     requires given { All IsGiven steps.now }
     requires views { AreViews (get_by_text names.old) }
-    ensures told { (seen line : ℕ) (t : Option TxnSeen) → IsToldAlone (session_state (get_by_text names.old) seen t) line (viewing name.now of.now (changes_of transform.now steps.now)) (get_by_text names.new) (transaction_in t) result }
+    ensures told { (seen line : ℕ) (t : Option TxnSeen)
+        → IsToldAlone (session_state (get_by_text names.old) seen t) line
+        (viewing name.now of.now (changes_of transform.now steps.now)) (get_by_text names.new)
+        (transaction_in t) result }
     ensures views { AreViews (get_by_text names.new) }
-    ensures known { (events : History) → AreKnownNames events (get_by_text names.old) → AreKnownNames events (get_by_text names.new) }
+    ensures known { (events : History) → AreKnownNames events (get_by_text names.old)
+        → AreKnownNames events (get_by_text names.new) }
 {
     match viewed(alloc, names, of, transform, steps) {
         Ok(view) => bound(alloc, names, name, view),
@@ -55,9 +59,12 @@ fn viewed(
 ) -> Result<View, Body>
     requires given { All IsGiven steps.now }
     requires views { AreViews (get_by_text names.now) }
-    ensures value { IfOk result (λ v. (name : Text) (t : Option Transaction) → act_of (get_by_text names.now) t (viewing name of.now (changes_of transform.now steps.now)) ≡ Ok (binds name v)) }
+    ensures value { IfOk result (λ v. (name : Text) (t : Option Transaction)
+        → act_of (get_by_text names.now) t (viewing name of.now (changes_of transform.now steps.now))
+        ≡ Ok (binds name v)) }
     ensures view { IfOk result IsView }
-    ensures err { IfErr result (λ b. (name : Text) (t : Option Transaction) → IsAnswerTo (act_of (get_by_text names.now) t (viewing name of.now (changes_of transform.now steps.now))) b) }
+    ensures err { IfErr result (λ b. (name : Text) (t : Option Transaction)
+        → IsAnswerTo (act_of (get_by_text names.now) t (viewing name of.now (changes_of transform.now steps.now))) b) }
 {
     match named(alloc, names, of) {
         Ok(view) => changed(alloc, view, transform, steps),
@@ -67,7 +74,8 @@ fn viewed(
 
 /// Binds a name to a view, and answers that it is.
 pub(crate) fn bound(alloc: Global, names: &mut Names, name: &str, view: View) -> Body
-    ensures { IsBoundAs (Viewed name.now (look_of view).dtype (own_transform view)) (get_by_text names.old) name.now view (get_by_text names.new) result }
+    ensures { IsBoundAs (Viewed name.now (look_of view).dtype (own_transform view))
+        (get_by_text names.old) name.now view (get_by_text names.new) result }
 {
     match viewed_body(alloc, name, &view) {
         Ok(body) => bound_with(alloc, names, name, view, body),

@@ -80,7 +80,10 @@ pub(crate) fn write_alone<K: KvStore, R: Wait, G: Gate>(
     requires given { All IsGiven steps.now }
     requires views { AreViews (get_by_text names.now) }
     requires known { AreKnownNames pass.old.seen (get_by_text names.now) }
-    ensures told { IsToldBy book.now pass.old pass.new (session_state (get_by_text names.now) (length pass.old.seen) None) line (writing name.now (changes_of None steps.now) (values_of (data_in values))) (get_by_text names.now) None result }
+    ensures told { IsToldBy book.now pass.old pass.new
+        (session_state (get_by_text names.now) (length pass.old.seen) None) line
+        (writing name.now (changes_of None steps.now) (values_of (data_in values)))
+        (get_by_text names.now) None result }
     ensures passed { HasPassed book.now pass.old pass.new }
 {
     match taken_write(alloc, names, name, steps, values) {
@@ -100,12 +103,17 @@ pub(crate) fn taken_write(
 ) -> Result<Worded, Body>
     requires given { All IsGiven steps.now }
     requires views { AreViews (get_by_text names.now) }
-    ensures act { IfOk result (λ w. (t : Option Transaction) → act_of (get_by_text names.now) t (writing name.now (changes_of None steps.now) (values_of (data_in values))) ≡ without (cell_fault w.view) (Ok (write_act t w.view w.words))) }
+    ensures act { IfOk result (λ w. (t : Option Transaction)
+        → act_of (get_by_text names.now) t (writing name.now (changes_of None steps.now) (values_of (data_in values)))
+        ≡ without (cell_fault w.view) (Ok (write_act t w.view w.words))) }
     ensures view { IfOk result (λ w. IsView w.view) }
-    ensures refs { IfOk result (λ w. (events : History) → AreKnownNames events (get_by_text names.now) → HasKnownRefs events w.view) }
+    ensures refs { IfOk result (λ w. (events : History) → AreKnownNames events (get_by_text names.now)
+        → HasKnownRefs events w.view) }
     ensures count { IfOk result (λ w. count_answer (look_of w.view).dims ≡ Ok (length w.words)) }
     ensures typed { IfOk result (λ w. AllByRecursion (IsWord (look_of w.view).dtype) w.words) }
-    ensures err { IfErr result (λ b. (t : Option Transaction) → IsAnswerTo (act_of (get_by_text names.now) t (writing name.now (changes_of None steps.now) (values_of (data_in values)))) b) }
+    ensures err { IfErr result (λ b. (t : Option Transaction)
+        → IsAnswerTo (act_of (get_by_text names.now) t
+        (writing name.now (changes_of None steps.now) (values_of (data_in values)))) b) }
 {
     asked_write(alloc, names, name, steps, &values)
 }
@@ -120,12 +128,17 @@ fn asked_write(
 ) -> Result<Worded, Body>
     requires given { All IsGiven steps.now }
     requires views { AreViews (get_by_text names.now) }
-    ensures act { IfOk result (λ w. (t : Option Transaction) → act_of (get_by_text names.now) t (writing name.now (changes_of None steps.now) (values_of (data_in values.now))) ≡ without (cell_fault w.view) (Ok (write_act t w.view w.words))) }
+    ensures act { IfOk result (λ w. (t : Option Transaction)
+        → act_of (get_by_text names.now) t (writing name.now (changes_of None steps.now)
+        (values_of (data_in values.now))) ≡ without (cell_fault w.view) (Ok (write_act t w.view w.words))) }
     ensures view { IfOk result (λ w. IsView w.view) }
-    ensures refs { IfOk result (λ w. (events : History) → AreKnownNames events (get_by_text names.now) → HasKnownRefs events w.view) }
+    ensures refs { IfOk result (λ w. (events : History) → AreKnownNames events (get_by_text names.now)
+        → HasKnownRefs events w.view) }
     ensures count { IfOk result (λ w. count_answer (look_of w.view).dims ≡ Ok (length w.words)) }
     ensures typed { IfOk result (λ w. AllByRecursion (IsWord (look_of w.view).dtype) w.words) }
-    ensures err { IfErr result (λ b. (t : Option Transaction) → IsAnswerTo (act_of (get_by_text names.now) t (writing name.now (changes_of None steps.now) (values_of (data_in values.now)))) b) }
+    ensures err { IfErr result (λ b. (t : Option Transaction)
+        → IsAnswerTo (act_of (get_by_text names.now) t
+        (writing name.now (changes_of None steps.now) (values_of (data_in values.now)))) b) }
 {
     match seen(alloc, names, name, steps) {
         Ok(view) => with_words(alloc, view, values),
@@ -137,10 +150,15 @@ fn asked_write(
 pub(crate) fn seen(alloc: Global, names: &Names, name: &str, steps: &[Step]) -> Result<View, Body>
     requires given { All IsGiven steps.now }
     requires views { AreViews (get_by_text names.now) }
-    ensures value { IfOk result (λ v. (next : ViewOf → Asked) → only_named name.now (get_by_text names.now name.now) (λ w. with_changes (changed_by (Ok w) (changes_of None steps.now)) next) ≡ next v) }
+    ensures value { IfOk result (λ v. (next : ViewOf → Asked)
+        → only_named name.now (get_by_text names.now name.now) (λ w.
+        with_changes (changed_by (Ok w) (changes_of None steps.now)) next) ≡ next v) }
     ensures view { IfOk result IsView }
-    ensures refs { IfOk result (λ v. (events : History) → AreKnownNames events (get_by_text names.now) → HasKnownRefs events v) }
-    ensures err { IfErr result (λ b. (next : ViewOf → Asked) → IsAnswerTo (only_named name.now (get_by_text names.now name.now) (λ w. with_changes (changed_by (Ok w) (changes_of None steps.now)) next)) b) }
+    ensures refs { IfOk result (λ v. (events : History) → AreKnownNames events (get_by_text names.now)
+        → HasKnownRefs events v) }
+    ensures err { IfErr result (λ b. (next : ViewOf → Asked)
+        → IsAnswerTo (only_named name.now (get_by_text names.now name.now) (λ w.
+        with_changes (changed_by (Ok w) (changes_of None steps.now)) next)) b) }
 {
     match named(alloc, names, name) {
         Ok(view) => changed(alloc, view, &None, steps),
@@ -152,8 +170,12 @@ fn with_words(alloc: Global, view: View, values: &Value) -> Result<Worded, Body>
     ensures view { IfOk result (λ w. w.view ≡ view) }
     ensures count { IfOk result (λ w. count_answer (look_of view).dims ≡ Ok (length w.words)) }
     ensures typed { IfOk result (λ w. AllByRecursion (IsWord (look_of view).dtype) w.words) }
-    ensures value { IfOk result (λ w. (next : List ℕ → Asked) → without (view_fault view) (with_values (words_of (look_of view).dtype (sizes_of view) (data_in values.now)) next) ≡ next w.words) }
-    ensures err { IfErr result (λ b. (next : List ℕ → Asked) → IsAnswerTo (without (view_fault view) (with_values (words_of (look_of view).dtype (sizes_of view) (data_in values.now)) next)) b) }
+    ensures value { IfOk result (λ w. (next : List ℕ → Asked)
+        → without (view_fault view) (with_values
+        (words_of (look_of view).dtype (sizes_of view) (data_in values.now)) next) ≡ next w.words) }
+    ensures err { IfErr result (λ b. (next : List ℕ → Asked)
+        → IsAnswerTo (without (view_fault view)
+        (with_values (words_of (look_of view).dtype (sizes_of view) (data_in values.now)) next)) b) }
 {
     match words_for(alloc, &view, values) {
         Ok(words) => Ok(Worded {
@@ -168,8 +190,12 @@ fn with_words(alloc: Global, view: View, values: &Value) -> Result<Worded, Body>
 fn words_for(alloc: Global, v: &View, values: &Value) -> Result<Vec<u64>, Body>
     ensures count { IfOk result (λ words. count_answer (look_of v.now).dims ≡ Ok (length words.items)) }
     ensures typed { IfOk result (λ words. AllByRecursion (IsWord (look_of v.now).dtype) words.items) }
-    ensures value { IfOk result (λ words. (next : List ℕ → Asked) → without (view_fault v.now) (with_values (words_of (look_of v.now).dtype (sizes_of v.now) (data_in values.now)) next) ≡ next words.items) }
-    ensures err { IfErr result (λ b. (next : List ℕ → Asked) → IsAnswerTo (without (view_fault v.now) (with_values (words_of (look_of v.now).dtype (sizes_of v.now) (data_in values.now)) next)) b) }
+    ensures value { IfOk result (λ words. (next : List ℕ → Asked)
+        → without (view_fault v.now) (with_values
+        (words_of (look_of v.now).dtype (sizes_of v.now) (data_in values.now)) next) ≡ next words.items) }
+    ensures err { IfErr result (λ b. (next : List ℕ → Asked)
+        → IsAnswerTo (without (view_fault v.now)
+        (with_values (words_of (look_of v.now).dtype (sizes_of v.now) (data_in values.now)) next)) b) }
 {
     match counted(v) {
         Ok(_) => fitted(alloc, v, values),
@@ -181,8 +207,10 @@ fn fitted(alloc: Global, v: &View, values: &Value) -> Result<Vec<u64>, Body>
     requires { count_answer (look_of v.now).dims ≡ Ok (length (cells_of (look_of v.now).dims)) }
     ensures count { IfOk result (λ words. count_answer (look_of v.now).dims ≡ Ok (length words.items)) }
     ensures typed { IfOk result (λ words. AllByRecursion (IsWord (look_of v.now).dtype) words.items) }
-    ensures value { IfOk result (λ words. words_of (look_of v.now).dtype (sizes_of v.now) (data_in values.now) ≡ Ok words.items) }
-    ensures err { IfErr result (λ b. (next : List ℕ → Asked) → IsAnswerTo (with_values (words_of (look_of v.now).dtype (sizes_of v.now) (data_in values.now)) next) b) }
+    ensures value { IfOk result (λ words. words_of (look_of v.now).dtype (sizes_of v.now) (data_in values.now)
+        ≡ Ok words.items) }
+    ensures err { IfErr result (λ b. (next : List ℕ → Asked)
+        → IsAnswerTo (with_values (words_of (look_of v.now).dtype (sizes_of v.now) (data_in values.now)) next) b) }
 {
     match shape_of(alloc, v) {
         Ok(shape) => words_in(alloc, dtype(v), &shape, values),
@@ -207,7 +235,8 @@ fn words_in(alloc: Global, dtype: Dtype, shape: &[u64], values: &Value) -> Resul
     ensures value { IfOk result (λ words. words_of dtype shape.now (data_in values.now) ≡ Ok words.items) }
     ensures full { IfOk result (λ words. length words.items ≡ cell_count shape.now) }
     ensures of_dtype { IfOk result (λ words. All (IsWord dtype) words.items) }
-    ensures err { IfErr result (λ b. (next : List ℕ → Asked) → IsAnswerTo (with_values (words_of dtype shape.now (data_in values.now)) next) b) }
+    ensures err { IfErr result (λ b. (next : List ℕ → Asked)
+        → IsAnswerTo (with_values (words_of dtype shape.now (data_in values.now)) next) b) }
 {
     match words_of_values(alloc, dtype, shape, values) {
         Ok(words) => Ok(words),
@@ -231,7 +260,10 @@ fn written<K: KvStore, R: Wait, G: Gate>(
     requires refs { HasKnownRefs pass.old.seen w.now.view }
     requires count { count_answer (look_of w.now.view).dims ≡ Ok (length w.now.words) }
     requires typed { AllByRecursion (IsWord (look_of w.now.view).dtype) w.now.words }
-    ensures told { (names : NamesOf) (asked : Line) → act_of names None asked ≡ without (cell_fault w.now.view) (Ok (write_act None w.now.view w.now.words)) → IsToldBy book.now pass.old pass.new (session_state names (length pass.old.seen) None) line asked names None result }
+    ensures told { (names : NamesOf) (asked : Line)
+        → act_of names None asked ≡ without (cell_fault w.now.view) (Ok (write_act None w.now.view w.now.words))
+        → IsToldBy book.now pass.old pass.new (session_state names
+        (length pass.old.seen) None) line asked names None result }
     ensures passed { HasPassed book.now pass.old pass.new }
 {
     match begun(alloc, line, w) {
@@ -243,11 +275,13 @@ fn written<K: KvStore, R: Wait, G: Gate>(
 // A transaction of one write, or the answer to what refuses it.
 fn begun(alloc: Global, line: u64, w: &Worded) -> Result<Txn, Body>
     requires view { IsView w.now.view }
-    requires refs { (opening : Opening) × (events : History) × IsLegal finmap.empty (outline events) × HasKnownRefs events w.now.view }
+    requires refs { (opening : Opening) × (events : History) × IsLegal finmap.empty (outline events)
+        × HasKnownRefs events w.now.view }
     requires count { count_answer (look_of w.now.view).dims ≡ Ok (length w.now.words) }
     requires typed { AllByRecursion (IsWord (look_of w.now.view).dtype) w.now.words }
     ensures alone { IfOk result (λ t. transaction_of t ≡ alone line w.now.view w.now.words) }
-    ensures sound { IfOk result (λ t. (opening : Opening) (events : History) → IsLegal finmap.empty (outline events) → HasKnownRefs events w.now.view → HasSoundTxn opening events (Some t)) }
+    ensures sound { IfOk result (λ t. (opening : Opening) (events : History) → IsLegal finmap.empty (outline events)
+        → HasKnownRefs events w.now.view → HasSoundTxn opening events (Some t)) }
     ensures found { OnOk result (cell_fault w.now.view ≡ None) }
     ensures err { IfErr result (λ b. (next : Asked) → IsAnswerTo (without (cell_fault w.now.view) next) b) }
 {

@@ -3,7 +3,6 @@ ghost use Rattle.std.specs.Prelude.{◌≡◌, ◌↔◌, IsTrue, IsSome};
 ghost use Rattle.kv_face.specs.Store.{keys_of, are_together};
 ghost use Rattle.history.specs.Arrays.{known_after};
 ghost use Rattle.history.specs.Commit.{are_together as are_keys_together};
-ghost use Rattle.state_laws.specs.Seen.{seen_of};
 ghost use Rattle.state_laws.specs.Agreement.{IsState};
 ghost use Rattle.state_laws.specs.Fetches.{IsChunkOf};
 
@@ -14,7 +13,7 @@ use state_parts::{is_index_of, together};
 impl<K: KvStore> State<K> {
     /// Whether the run has an array of this number.
     pub fn has_array(&self, array: u64) -> bool
-        requires agrees { let seen = seen_of K.contents K.faults K.prefixes K.names K.standing K.change_count in IsState (seen self.now.store) self.now.log }
+        requires agrees { IsState (K.seen self.now.store) self.now.log }
         ensures { IsTrue result ↔ IsSome (known_after self.now.log.events array) }
     {
         array < self.records.array_count()
@@ -22,7 +21,7 @@ impl<K: KvStore> State<K> {
 
     /// Whether this is the index of a chunk of an array of the run, also past its shape.
     pub fn is_chunk(&self, array: u64, chunk: &[u64]) -> bool
-        requires agrees { let seen = seen_of K.contents K.faults K.prefixes K.names K.standing K.change_count in IsState (seen self.now.store) self.now.log }
+        requires agrees { IsState (K.seen self.now.store) self.now.log }
         ensures { IsTrue result ↔ IsChunkOf self.now.log.events (record { array = array; index = chunk.now }) }
     {
         self.has_array(array) && is_index_of(self.records.info(array), chunk)
@@ -30,8 +29,8 @@ impl<K: KvStore> State<K> {
 
     /// Whether the store makes these changes in one call. Takes no memory.
     pub fn together(&self, changes: &[Change]) -> bool
-        ensures changes { result ≡ are_together (K.prefixes self.now.store) changes.now 0 }
-        ensures keys { result ≡ are_keys_together (K.prefixes self.now.store) (keys_of changes.now) }
+        ensures changes { result ≡ are_together ((K.seen self.now.store).prefixes) changes.now 0 }
+        ensures keys { result ≡ are_keys_together ((K.seen self.now.store).prefixes) (keys_of changes.now) }
     {
         together(&self.store, changes)
     }

@@ -1,7 +1,6 @@
 // A state behind a turn.
 ghost use Rattle.std.specs.Prelude.{◌≡◌, ◌<◌, ◌≤◌, ◌^◌, IfOk, IfErr, vec_len};
 ghost use Rattle.turn_book.specs.Passes.{AreNew};
-ghost use Rattle.state_laws.specs.Seen.{seen_of};
 
 use crate::state::{State, StateRefused};
 use history::Event;
@@ -11,7 +10,6 @@ use std::alloc::Global;
 use turn_book::{Book, Pass, TurnBook};
 
 impl<K: KvStore> Book for State<K> {
-    ghost use Rattle.state_laws.specs.Seen.{seen_of};
     ghost use Rattle.state_laws.specs.Agreement.{Agrees};
 
     type Entry = Event;
@@ -23,11 +21,11 @@ impl<K: KvStore> Book for State<K> {
     ghost history = { λ s. s.log.events };
 
     ghost opening = { λ s. record {
-      store = seen_of K.contents K.faults K.prefixes K.names K.standing K.change_count s.store;
+      store = K.seen s.store;
       limit = s.log.cache.limit;
     } };
 
-    ghost agrees = { λ s fixed. Agrees fixed (seen_of K.contents K.faults K.prefixes K.names K.standing K.change_count s.store) s.log };
+    ghost agrees = { λ s fixed. Agrees fixed (K.seen s.store) s.log };
 }
 
 impl<K: KvStore> State<K> {
@@ -44,8 +42,8 @@ impl<K: KvStore> State<K> {
     ) -> Result<(TurnBook<State<K>>, Vec<Pass<State<K>>>), StateRefused<K>>
         requires limit { limit ≤ 2 ^ 27 }
         requires some_pass { 0 < passes }
-        ensures book { let seen = seen_of K.contents K.faults K.prefixes K.names K.standing K.change_count in
-            IfOk result (λ r. (r.0.fixed ≡ record { store = seen store; limit = limit }) × (r.0.passes ≡ passes)) }
+        ensures book { IfOk result (λ r. (r.0.fixed ≡ record { store = K.seen store; limit = limit })
+            × (r.0.passes ≡ passes)) }
         ensures count { IfOk result (λ r. vec_len r.1 ≡ passes) }
         ensures passes { IfOk result (λ r. AreNew r.0 r.1.items) }
         ensures handed_back { IfErr result (λ refused. refused.store ≡ store) }

@@ -6,7 +6,7 @@ ghost use Rattle.chunk_forms.specs.declared.form.Damage.{Damage as DamageOf};
 ghost use Rattle.kv_face.specs.Store.{Contents};
 ghost use Rattle.history.specs.Arrays.{Known, known_after, is_local};
 ghost use Rattle.history.specs.Chunks.{chunk_key};
-ghost use Rattle.state_laws.specs.Seen.{IsRead, seen_of};
+ghost use Rattle.state_laws.specs.Seen.{IsRead};
 ghost use Rattle.state_laws.specs.Agreement.{IsState, KeepsAgreement};
 ghost use Rattle.state_laws.specs.Fetches.{IsAnswered, IsChunkOf, IsDamagedThere, IsNamed, kept_of, looked_at, settled};
 ghost use Rattle.state_laws.specs.Looks.{HasBounds, IsFailedLook};
@@ -27,22 +27,27 @@ impl<K: KvStore> State<K> {
     /// `StoreFailed` where the store failed, which one event more tells; `Damaged` where what the store has is no chunk of the
     /// array.
     pub fn fetch(&mut self, owner: u32, array: u64, chunk: &[u64]) -> Result<Fetched, FetchError>
-        requires agrees { let seen = seen_of K.contents K.faults K.prefixes K.names K.standing K.change_count in IsState (seen self.old.store) self.old.log }
+        requires agrees { IsState (K.seen self.old.store) self.old.log }
         requires chunk { IsChunkOf self.old.log.events (record { array = array; index = chunk.now }) }
-        ensures answered { let seen = seen_of K.contents K.faults K.prefixes K.names K.standing K.change_count in
-            IfOk result (λ f. IsAnswered (seen self.old.store) self.old.log (record { array = array; index = chunk.now }) f.snapshot) }
+        ensures answered { IfOk result (λ f. IsAnswered (K.seen self.old.store) self.old.log
+            (record { array = array; index = chunk.now }) f.snapshot) }
         ensures bounds { IfOk result (λ f. HasBounds self.old.log array f.bounds) }
-        ensures read { let seen = seen_of K.contents K.faults K.prefixes K.names K.standing K.change_count in IsRead (seen self.old.store) (seen self.new.store) }
-        ensures hit { (k : Known) → known_after self.old.log.events array ≡ Some k → IsSome (kept_of self.old.log array k (chunk_key k chunk.now))
-            → (self.new.store ≡ self.old.store) × OnOk result (self.new.log ≡ looked_at self.old.log k (chunk_key k chunk.now)) }
-        ensures miss { IfOk result (λ f. (k : Known) → known_after self.old.log.events array ≡ Some k → kept_of self.old.log array k (chunk_key k chunk.now) ≡ None
+        ensures read { IsRead (K.seen self.old.store) (K.seen self.new.store) }
+        ensures hit { (k : Known) → known_after self.old.log.events array ≡ Some k
+            → IsSome (kept_of self.old.log array k (chunk_key k chunk.now))
+            → (self.new.store ≡ self.old.store) × OnOk result (self.new.log
+            ≡ looked_at self.old.log k (chunk_key k chunk.now)) }
+        ensures miss { IfOk result (λ f. (k : Known) → known_after self.old.log.events array ≡ Some k
+            → kept_of self.old.log array k (chunk_key k chunk.now) ≡ None
             → self.new.log ≡ settled self.old.log k (chunk_key k chunk.now) f.snapshot) }
-        ensures failed { (event : ℕ) → result ≡ Err (FetchError.StoreFailed event) → let seen = seen_of K.contents K.faults K.prefixes K.names K.standing K.change_count in
-            IsFailedLook owner (record { array = array; index = chunk.now }) (seen self.old.store) (seen self.new.store) self.old.log self.new.log event }
-        ensures damaged { (name : List ℕ) (cause : DamageOf) → result ≡ Err (FetchError.Damaged name cause) → let seen = seen_of K.contents K.faults K.prefixes K.names K.standing K.change_count in
-            (self.new.log ≡ self.old.log) × IsDamagedThere (seen self.old.store) self.old.log (record { array = array; index = chunk.now }) name cause }
+        ensures failed { (event : ℕ) → result ≡ Err (FetchError.StoreFailed event)
+            → IsFailedLook owner (record { array = array; index = chunk.now }) (K.seen self.old.store)
+            (K.seen self.new.store) self.old.log self.new.log event }
+        ensures damaged { (name : List ℕ) (cause : DamageOf) → result ≡ Err (FetchError.Damaged name cause)
+            → (self.new.log ≡ self.old.log) × IsDamagedThere (K.seen self.old.store) self.old.log
+            (record { array = array; index = chunk.now }) name cause }
         ensures memory { result ≡ Err FetchError.Memory → self.new.log ≡ self.old.log }
-        ensures kept { let seen = seen_of K.contents K.faults K.prefixes K.names K.standing K.change_count in KeepsAgreement (seen self.old.store) self.old.log (seen self.new.store) self.new.log }
+        ensures kept { KeepsAgreement (K.seen self.old.store) self.old.log (K.seen self.new.store) self.new.log }
     {
         let key = self.key_text(array, chunk)?;
         self.fetch_at(owner, array, chunk, key)
@@ -55,22 +60,27 @@ impl<K: KvStore> State<K> {
         chunk: &[u64],
         key: String,
     ) -> Result<Fetched, FetchError>
-        requires agrees { let seen = seen_of K.contents K.faults K.prefixes K.names K.standing K.change_count in IsState (seen self.old.store) self.old.log }
+        requires agrees { IsState (K.seen self.old.store) self.old.log }
         requires named { IsNamed self.old.log.events (record { array = array; index = chunk.now }) (string_bytes key) }
-        ensures answered { let seen = seen_of K.contents K.faults K.prefixes K.names K.standing K.change_count in
-            IfOk result (λ f. IsAnswered (seen self.old.store) self.old.log (record { array = array; index = chunk.now }) f.snapshot) }
+        ensures answered { IfOk result (λ f. IsAnswered (K.seen self.old.store) self.old.log
+            (record { array = array; index = chunk.now }) f.snapshot) }
         ensures bounds { IfOk result (λ f. HasBounds self.old.log array f.bounds) }
-        ensures read { let seen = seen_of K.contents K.faults K.prefixes K.names K.standing K.change_count in IsRead (seen self.old.store) (seen self.new.store) }
-        ensures hit { (k : Known) → known_after self.old.log.events array ≡ Some k → IsSome (kept_of self.old.log array k (string_bytes key))
-            → (self.new.store ≡ self.old.store) × OnOk result (self.new.log ≡ looked_at self.old.log k (string_bytes key)) }
-        ensures miss { IfOk result (λ f. (k : Known) → known_after self.old.log.events array ≡ Some k → kept_of self.old.log array k (string_bytes key) ≡ None
+        ensures read { IsRead (K.seen self.old.store) (K.seen self.new.store) }
+        ensures hit { (k : Known) → known_after self.old.log.events array ≡ Some k
+            → IsSome (kept_of self.old.log array k (string_bytes key))
+            → (self.new.store ≡ self.old.store) × OnOk result (self.new.log
+            ≡ looked_at self.old.log k (string_bytes key)) }
+        ensures miss { IfOk result (λ f. (k : Known) → known_after self.old.log.events array ≡ Some k
+            → kept_of self.old.log array k (string_bytes key) ≡ None
             → self.new.log ≡ settled self.old.log k (string_bytes key) f.snapshot) }
-        ensures failed { (event : ℕ) → result ≡ Err (FetchError.StoreFailed event) → let seen = seen_of K.contents K.faults K.prefixes K.names K.standing K.change_count in
-            IsFailedLook owner (record { array = array; index = chunk.now }) (seen self.old.store) (seen self.new.store) self.old.log self.new.log event }
-        ensures damaged { (name : List ℕ) (cause : DamageOf) → result ≡ Err (FetchError.Damaged name cause) → let seen = seen_of K.contents K.faults K.prefixes K.names K.standing K.change_count in
-            (self.new.log ≡ self.old.log) × IsDamagedThere (seen self.old.store) self.old.log (record { array = array; index = chunk.now }) name cause }
+        ensures failed { (event : ℕ) → result ≡ Err (FetchError.StoreFailed event)
+            → IsFailedLook owner (record { array = array; index = chunk.now }) (K.seen self.old.store)
+            (K.seen self.new.store) self.old.log self.new.log event }
+        ensures damaged { (name : List ℕ) (cause : DamageOf) → result ≡ Err (FetchError.Damaged name cause)
+            → (self.new.log ≡ self.old.log) × IsDamagedThere (K.seen self.old.store) self.old.log
+            (record { array = array; index = chunk.now }) name cause }
         ensures memory { result ≡ Err FetchError.Memory → self.new.log ≡ self.old.log }
-        ensures kept { let seen = seen_of K.contents K.faults K.prefixes K.names K.standing K.change_count in KeepsAgreement (seen self.old.store) self.old.log (seen self.new.store) self.new.log }
+        ensures kept { KeepsAgreement (K.seen self.old.store) self.old.log (K.seen self.new.store) self.new.log }
     {
         let bounds = self.bounds(array)?;
         match self.kept_at(array, chunk, key.as_str()) {
@@ -89,21 +99,25 @@ impl<K: KvStore> State<K> {
         key: String,
         bounds: Bounds,
     ) -> Result<Fetched, FetchError>
-        requires agrees { let seen = seen_of K.contents K.faults K.prefixes K.names K.standing K.change_count in IsState (seen self.old.store) self.old.log }
+        requires agrees { IsState (K.seen self.old.store) self.old.log }
         requires named { IsNamed self.old.log.events (record { array = array; index = chunk.now }) (string_bytes key) }
-        requires unkept { (k : Known) → known_after self.old.log.events array ≡ Some k → (is_local k.info.home ≡ false) × (kept (string_bytes key) self.old.log.cache.entries ≡ None) }
+        requires unkept { (k : Known) → known_after self.old.log.events array ≡ Some k → (is_local k.info.home ≡ false)
+            × (kept (string_bytes key) self.old.log.cache.entries ≡ None) }
         requires bounds { HasBounds self.old.log array bounds }
-        ensures answered { let seen = seen_of K.contents K.faults K.prefixes K.names K.standing K.change_count in
-            IfOk result (λ f. IsAnswered (seen self.old.store) self.old.log (record { array = array; index = chunk.now }) f.snapshot) }
+        ensures answered { IfOk result (λ f. IsAnswered (K.seen self.old.store) self.old.log
+            (record { array = array; index = chunk.now }) f.snapshot) }
         ensures bounds { IfOk result (λ f. HasBounds self.old.log array f.bounds) }
-        ensures read { let seen = seen_of K.contents K.faults K.prefixes K.names K.standing K.change_count in IsRead (seen self.old.store) (seen self.new.store) }
-        ensures after { IfOk result (λ f. (k : Known) → known_after self.old.log.events array ≡ Some k → self.new.log ≡ settled self.old.log k (string_bytes key) f.snapshot) }
-        ensures failed { (event : ℕ) → result ≡ Err (FetchError.StoreFailed event) → let seen = seen_of K.contents K.faults K.prefixes K.names K.standing K.change_count in
-            IsFailedLook owner (record { array = array; index = chunk.now }) (seen self.old.store) (seen self.new.store) self.old.log self.new.log event }
-        ensures damaged { (name : List ℕ) (cause : DamageOf) → result ≡ Err (FetchError.Damaged name cause) → let seen = seen_of K.contents K.faults K.prefixes K.names K.standing K.change_count in
-            (self.new.log ≡ self.old.log) × IsDamagedThere (seen self.old.store) self.old.log (record { array = array; index = chunk.now }) name cause }
+        ensures read { IsRead (K.seen self.old.store) (K.seen self.new.store) }
+        ensures after { IfOk result (λ f. (k : Known) → known_after self.old.log.events array ≡ Some k
+            → self.new.log ≡ settled self.old.log k (string_bytes key) f.snapshot) }
+        ensures failed { (event : ℕ) → result ≡ Err (FetchError.StoreFailed event)
+            → IsFailedLook owner (record { array = array; index = chunk.now }) (K.seen self.old.store)
+            (K.seen self.new.store) self.old.log self.new.log event }
+        ensures damaged { (name : List ℕ) (cause : DamageOf) → result ≡ Err (FetchError.Damaged name cause)
+            → (self.new.log ≡ self.old.log) × IsDamagedThere (K.seen self.old.store) self.old.log
+            (record { array = array; index = chunk.now }) name cause }
         ensures memory { result ≡ Err FetchError.Memory → self.new.log ≡ self.old.log }
-        ensures kept { let seen = seen_of K.contents K.faults K.prefixes K.names K.standing K.change_count in KeepsAgreement (seen self.old.store) self.old.log (seen self.new.store) self.new.log }
+        ensures kept { KeepsAgreement (K.seen self.old.store) self.old.log (K.seen self.new.store) self.new.log }
     {
         match self.bytes_at(owner, array, chunk, key.as_str()) {
             Ok(bytes) => self.decoded(array, chunk, key, bytes, bounds),
@@ -121,21 +135,25 @@ impl<K: KvStore> State<K> {
         bytes: Option<Vec<u8>>,
         bounds: Bounds,
     ) -> Result<Fetched, FetchError>
-        requires agrees { let seen = seen_of K.contents K.faults K.prefixes K.names K.standing K.change_count in IsState (seen self.old.store) self.old.log }
+        requires agrees { IsState (K.seen self.old.store) self.old.log }
         requires named { IsNamed self.old.log.events (record { array = array; index = chunk.now }) (string_bytes key) }
-        requires unkept { (k : Known) → known_after self.old.log.events array ≡ Some k → (is_local k.info.home ≡ false) × (kept (string_bytes key) self.old.log.cache.entries ≡ None) }
+        requires unkept { (k : Known) → known_after self.old.log.events array ≡ Some k → (is_local k.info.home ≡ false)
+            × (kept (string_bytes key) self.old.log.cache.entries ≡ None) }
         requires bounds { HasBounds self.old.log array bounds }
-        requires bytes { (m : Contents) → K.contents self.old.store ≡ Some m → option_map (λ b. b.items) bytes ≡ finmap.get m (string_bytes key) }
-        ensures answered { let seen = seen_of K.contents K.faults K.prefixes K.names K.standing K.change_count in
-            IfOk result (λ f. IsAnswered (seen self.old.store) self.old.log (record { array = array; index = chunk.now }) f.snapshot) }
+        requires bytes { (m : Contents) → (K.seen self.old.store).contents ≡ Some m
+            → option_map (λ b. b.items) bytes ≡ finmap.get m (string_bytes key) }
+        ensures answered { IfOk result (λ f. IsAnswered (K.seen self.old.store) self.old.log
+            (record { array = array; index = chunk.now }) f.snapshot) }
         ensures bounds { IfOk result (λ f. HasBounds self.old.log array f.bounds) }
-        ensures after { IfOk result (λ f. (k : Known) → known_after self.old.log.events array ≡ Some k → self.new.log ≡ settled self.old.log k (string_bytes key) f.snapshot) }
+        ensures after { IfOk result (λ f. (k : Known) → known_after self.old.log.events array ≡ Some k
+            → self.new.log ≡ settled self.old.log k (string_bytes key) f.snapshot) }
         ensures failed { (event : ℕ) → result ≢ Err (FetchError.StoreFailed event) }
-        ensures damaged { (name : List ℕ) (cause : DamageOf) → result ≡ Err (FetchError.Damaged name cause) → let seen = seen_of K.contents K.faults K.prefixes K.names K.standing K.change_count in
-            (self.new.log ≡ self.old.log) × IsDamagedThere (seen self.old.store) self.old.log (record { array = array; index = chunk.now }) name cause }
+        ensures damaged { (name : List ℕ) (cause : DamageOf) → result ≡ Err (FetchError.Damaged name cause)
+            → (self.new.log ≡ self.old.log) × IsDamagedThere (K.seen self.old.store) self.old.log
+            (record { array = array; index = chunk.now }) name cause }
         ensures memory { result ≡ Err FetchError.Memory → self.new.log ≡ self.old.log }
         ensures store { self.new.store ≡ self.old.store }
-        ensures kept { let seen = seen_of K.contents K.faults K.prefixes K.names K.standing K.change_count in KeepsAgreement (seen self.old.store) self.old.log (seen self.new.store) self.new.log }
+        ensures kept { KeepsAgreement (K.seen self.old.store) self.old.log (K.seen self.new.store) self.new.log }
     {
         let generation = self.generation_at(array, key.as_str());
         let form = self.info(array)?;
@@ -158,17 +176,19 @@ impl<K: KvStore> State<K> {
         cells: Dense,
         bounds: Bounds,
     ) -> Result<Fetched, FetchError>
-        requires agrees { let seen = seen_of K.contents K.faults K.prefixes K.names K.standing K.change_count in IsState (seen self.old.store) self.old.log }
+        requires agrees { IsState (K.seen self.old.store) self.old.log }
         requires named { IsNamed self.old.log.events (record { array = array; index = chunk.now }) (string_bytes key) }
         requires bounds { HasBounds self.old.log array bounds }
-        requires answered { let seen = seen_of K.contents K.faults K.prefixes K.names K.standing K.change_count in IsAnswered (seen self.old.store) self.old.log (record { array = array; index = chunk.now }) (record { generation = generation; cells = cells }) }
-        ensures answered { let seen = seen_of K.contents K.faults K.prefixes K.names K.standing K.change_count in
-            IfOk result (λ f. IsAnswered (seen self.old.store) self.old.log (record { array = array; index = chunk.now }) f.snapshot) }
+        requires answered { IsAnswered (K.seen self.old.store) self.old.log
+            (record { array = array; index = chunk.now }) (record { generation = generation; cells = cells }) }
+        ensures answered { IfOk result (λ f. IsAnswered (K.seen self.old.store) self.old.log
+            (record { array = array; index = chunk.now }) f.snapshot) }
         ensures bounds { IfOk result (λ f. HasBounds self.old.log array f.bounds) }
-        ensures after { IfOk result (λ f. (k : Known) → known_after self.old.log.events array ≡ Some k → self.new.log ≡ settled self.old.log k (string_bytes key) f.snapshot) }
+        ensures after { IfOk result (λ f. (k : Known) → known_after self.old.log.events array ≡ Some k
+            → self.new.log ≡ settled self.old.log k (string_bytes key) f.snapshot) }
         ensures err { OnErr result ((result ≡ Err FetchError.Memory) × (self.new.log ≡ self.old.log)) }
         ensures store { self.new.store ≡ self.old.store }
-        ensures kept { let seen = seen_of K.contents K.faults K.prefixes K.names K.standing K.change_count in KeepsAgreement (seen self.old.store) self.old.log (seen self.new.store) self.new.log }
+        ensures kept { KeepsAgreement (K.seen self.old.store) self.old.log (K.seen self.new.store) self.new.log }
     {
         let Ok(cells) = Arc::new(self.alloc, cells) else {
             return Err(FetchError::Memory);

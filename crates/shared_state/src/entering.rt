@@ -5,7 +5,7 @@ ghost use Rattle.std.specs.Str.{bytes_eq};
 ghost use Rattle.kv_face.specs.declared.change.Change.{Change as ChangeOf};
 ghost use Rattle.kv_face.specs.Store.{Contents, OneMore, after, takes, keys_of, are_together};
 ghost use Rattle.history.specs.Places.{IsFree};
-ghost use Rattle.state_laws.specs.Seen.{IsFrame, seen_of};
+ghost use Rattle.state_laws.specs.Seen.{IsFrame};
 ghost use Rattle.state_laws.specs.Fetches.{HasFailed};
 ghost use Rattle.state_laws.specs.Openings.{IsStoreError};
 ghost use Rattle.state_laws.specs.Placed.{IsNext, entered};
@@ -46,18 +46,20 @@ impl<K: KvStore> State<K> {
     ) -> Result<Opened, OpenError>
         requires next { IsNext self.old.log.events new location.now }
         requires free { IsFree self.old.log.events location.now }
-        requires keys { All (λ (c : ChangeOf). takes (K.names self.old.store) c.key ≡ true) changes.now }
+        requires keys { All (λ (c : ChangeOf). takes ((K.seen self.old.store).names) c.key ≡ true) changes.now }
         requires distinct { IsDistinct bytes_eq (keys_of changes.now) }
-        requires together { are_together (K.prefixes self.old.store) changes.now 0 ≡ true }
+        requires together { are_together ((K.seen self.old.store).prefixes) changes.now 0 ≡ true }
         ensures entered { IfOk result (λ o. (o.array ≡ new.array) × (o.event ≡ Some (length self.old.log.events + 1))) }
         ensures after { OnOk result (self.new.log ≡ entered self.old.log owner new.info None) }
-        ensures done { OnOk result ((m : Contents) → K.contents self.old.store ≡ Some m → K.contents self.new.store ≡ Some (after m changes.now)) }
-        ensures one_more { OnOk result (0 < length changes.now → OneMore (K.change_count self.old.store) (K.change_count self.new.store)) }
-        ensures contents { OnErr result (K.contents self.new.store ≡ K.contents self.old.store) }
-        ensures count { OnErr result (K.change_count self.new.store ≡ K.change_count self.old.store) }
-        ensures frame { let seen = seen_of K.contents K.faults K.prefixes K.names K.standing K.change_count in IsFrame (seen self.old.store) (seen self.new.store) }
-        ensures failed { (event : ℕ) → result ≡ Err (OpenError.StoreFailed event) → let seen = seen_of K.contents K.faults K.prefixes K.names K.standing K.change_count in
-            HasFailed owner mount (seen self.old.store) (seen self.new.store) self.old.log self.new.log event }
+        ensures done { OnOk result ((m : Contents) → (K.seen self.old.store).contents ≡ Some m
+            → (K.seen self.new.store).contents ≡ Some (after m changes.now)) }
+        ensures one_more { OnOk result (0 < length changes.now
+            → OneMore ((K.seen self.old.store).changes) ((K.seen self.new.store).changes)) }
+        ensures contents { OnErr result ((K.seen self.new.store).contents ≡ (K.seen self.old.store).contents) }
+        ensures count { OnErr result ((K.seen self.new.store).changes ≡ (K.seen self.old.store).changes) }
+        ensures frame { IsFrame (K.seen self.old.store) (K.seen self.new.store) }
+        ensures failed { (event : ℕ) → result ≡ Err (OpenError.StoreFailed event)
+            → HasFailed owner mount (K.seen self.old.store) (K.seen self.new.store) self.old.log self.new.log event }
         ensures memory { result ≡ Err OpenError.Memory → self.new.log ≡ self.old.log }
         ensures errors { OnErr result (IsStoreError result) }
     {

@@ -6,7 +6,7 @@ ghost use Rattle.kv_face.specs.Store.{Contents};
 ghost use Rattle.history.specs.Arrays.{Known, known_after, is_local};
 ghost use Rattle.history.specs.Chunks.{chunk_key};
 ghost use Rattle.history.specs.ReadRows.{mount_of};
-ghost use Rattle.state_laws.specs.Seen.{IsRead, seen_of};
+ghost use Rattle.state_laws.specs.Seen.{IsRead};
 ghost use Rattle.state_laws.specs.Agreement.{IsState, KeepsAgreement};
 ghost use Rattle.state_laws.specs.Fetches.{IsChunkOf, IsNamed, HasFailed, kept_of, looked_at};
 ghost use Rattle.state_laws.specs.Looks.{HasBounds, IsLook, IsFailedLook};
@@ -27,7 +27,8 @@ impl<K: KvStore> State<K> {
     /// Want of memory alone.
     pub fn mount_name(&self, array: u64) -> Result<Name, AllocError>
         requires { (k : Known) × (known_after self.now.log.events array ≡ Some k) × (is_local k.info.home ≡ false) }
-        ensures { IfOk result (λ name. (k : Known) → known_after self.now.log.events array ≡ Some k → mount_of k.info.home ≡ Some name) }
+        ensures { IfOk result (λ name. (k : Known) → known_after self.now.log.events array ≡ Some k
+            → mount_of k.info.home ≡ Some name) }
     {
         let Some(mount) = mount_of(&self.records.info(array).home) else {
             unreachable!();
@@ -43,16 +44,18 @@ impl<K: KvStore> State<K> {
         chunk: &[u64],
         key: &str,
     ) -> Result<Option<Vec<u8>>, GetError>
-        requires agrees { let seen = seen_of K.contents K.faults K.prefixes K.names K.standing K.change_count in IsState (seen self.old.store) self.old.log }
+        requires agrees { IsState (K.seen self.old.store) self.old.log }
         requires named { IsNamed self.old.log.events (record { array = array; index = chunk.now }) key.now }
         requires stored { (k : Known) → known_after self.old.log.events array ≡ Some k → is_local k.info.home ≡ false }
-        ensures read { let seen = seen_of K.contents K.faults K.prefixes K.names K.standing K.change_count in IsRead (seen self.old.store) (seen self.new.store) }
-        ensures value { IfOk result (λ v. (m : Contents) → K.contents self.old.store ≡ Some m → option_map (λ b. b.items) v ≡ finmap.get m key.now) }
+        ensures read { IsRead (K.seen self.old.store) (K.seen self.new.store) }
+        ensures value { IfOk result (λ v. (m : Contents) → (K.seen self.old.store).contents ≡ Some m
+            → option_map (λ b. b.items) v ≡ finmap.get m key.now) }
         ensures ok { OnOk result (self.new.log ≡ self.old.log) }
-        ensures failed { (event : ℕ) (k : Known) (mount : List ℕ) → result ≡ Err (GetError.Failed event) → known_after self.old.log.events array ≡ Some k → mount_of k.info.home ≡ Some mount
-            → let seen = seen_of K.contents K.faults K.prefixes K.names K.standing K.change_count in HasFailed owner mount (seen self.old.store) (seen self.new.store) self.old.log self.new.log event }
+        ensures failed { (event : ℕ) (k : Known) (mount : List ℕ) → result ≡ Err (GetError.Failed event)
+            → known_after self.old.log.events array ≡ Some k → mount_of k.info.home ≡ Some mount
+            → HasFailed owner mount (K.seen self.old.store) (K.seen self.new.store) self.old.log self.new.log event }
         ensures memory { result ≡ Err GetError.Memory → self.new.log ≡ self.old.log }
-        ensures kept { let seen = seen_of K.contents K.faults K.prefixes K.names K.standing K.change_count in KeepsAgreement (seen self.old.store) self.old.log (seen self.new.store) self.new.log }
+        ensures kept { KeepsAgreement (K.seen self.old.store) self.old.log (K.seen self.new.store) self.new.log }
     {
         let mount = self.mount_name(array)?;
         self.get(owner, mount, key)
@@ -63,18 +66,21 @@ impl<K: KvStore> State<K> {
     /// # Errors
     /// `StoreFailed` where the store failed, which one event more tells. `Damaged` never.
     pub fn look(&mut self, owner: u32, array: u64, chunk: &[u64]) -> Result<Look, FetchError>
-        requires agrees { let seen = seen_of K.contents K.faults K.prefixes K.names K.standing K.change_count in IsState (seen self.old.store) self.old.log }
+        requires agrees { IsState (K.seen self.old.store) self.old.log }
         requires chunk { IsChunkOf self.old.log.events (record { array = array; index = chunk.now }) }
-        ensures looked { let seen = seen_of K.contents K.faults K.prefixes K.names K.standing K.change_count in
-            IfOk result (λ l. IsLook (seen self.old.store) self.old.log (record { array = array; index = chunk.now }) l) }
-        ensures read { let seen = seen_of K.contents K.faults K.prefixes K.names K.standing K.change_count in IsRead (seen self.old.store) (seen self.new.store) }
-        ensures hit { (k : Known) → known_after self.old.log.events array ≡ Some k → IsSome (kept_of self.old.log array k (chunk_key k chunk.now)) → self.new.store ≡ self.old.store }
-        ensures after { OnOk result ((k : Known) → known_after self.old.log.events array ≡ Some k → self.new.log ≡ looked_at self.old.log k (chunk_key k chunk.now)) }
-        ensures failed { (event : ℕ) → result ≡ Err (FetchError.StoreFailed event) → let seen = seen_of K.contents K.faults K.prefixes K.names K.standing K.change_count in
-            IsFailedLook owner (record { array = array; index = chunk.now }) (seen self.old.store) (seen self.new.store) self.old.log self.new.log event }
+        ensures looked { IfOk result (λ l. IsLook (K.seen self.old.store) self.old.log
+            (record { array = array; index = chunk.now }) l) }
+        ensures read { IsRead (K.seen self.old.store) (K.seen self.new.store) }
+        ensures hit { (k : Known) → known_after self.old.log.events array ≡ Some k
+            → IsSome (kept_of self.old.log array k (chunk_key k chunk.now)) → self.new.store ≡ self.old.store }
+        ensures after { OnOk result ((k : Known) → known_after self.old.log.events array ≡ Some k
+            → self.new.log ≡ looked_at self.old.log k (chunk_key k chunk.now)) }
+        ensures failed { (event : ℕ) → result ≡ Err (FetchError.StoreFailed event)
+            → IsFailedLook owner (record { array = array; index = chunk.now }) (K.seen self.old.store)
+            (K.seen self.new.store) self.old.log self.new.log event }
         ensures damaged { (key : List ℕ) (cause : DamageOf) → result ≢ Err (FetchError.Damaged key cause) }
         ensures memory { result ≡ Err FetchError.Memory → self.new.log ≡ self.old.log }
-        ensures kept { let seen = seen_of K.contents K.faults K.prefixes K.names K.standing K.change_count in KeepsAgreement (seen self.old.store) self.old.log (seen self.new.store) self.new.log }
+        ensures kept { KeepsAgreement (K.seen self.old.store) self.old.log (K.seen self.new.store) self.new.log }
     {
         let key = self.key_text(array, chunk)?;
         self.look_at(owner, array, chunk, key.as_str())
@@ -87,18 +93,21 @@ impl<K: KvStore> State<K> {
         chunk: &[u64],
         key: &str,
     ) -> Result<Look, FetchError>
-        requires agrees { let seen = seen_of K.contents K.faults K.prefixes K.names K.standing K.change_count in IsState (seen self.old.store) self.old.log }
+        requires agrees { IsState (K.seen self.old.store) self.old.log }
         requires named { IsNamed self.old.log.events (record { array = array; index = chunk.now }) key.now }
-        ensures looked { let seen = seen_of K.contents K.faults K.prefixes K.names K.standing K.change_count in
-            IfOk result (λ l. IsLook (seen self.old.store) self.old.log (record { array = array; index = chunk.now }) l) }
-        ensures read { let seen = seen_of K.contents K.faults K.prefixes K.names K.standing K.change_count in IsRead (seen self.old.store) (seen self.new.store) }
-        ensures hit { (k : Known) → known_after self.old.log.events array ≡ Some k → IsSome (kept_of self.old.log array k key.now) → self.new.store ≡ self.old.store }
-        ensures after { OnOk result ((k : Known) → known_after self.old.log.events array ≡ Some k → self.new.log ≡ looked_at self.old.log k key.now) }
-        ensures failed { (event : ℕ) → result ≡ Err (FetchError.StoreFailed event) → let seen = seen_of K.contents K.faults K.prefixes K.names K.standing K.change_count in
-            IsFailedLook owner (record { array = array; index = chunk.now }) (seen self.old.store) (seen self.new.store) self.old.log self.new.log event }
+        ensures looked { IfOk result (λ l. IsLook (K.seen self.old.store) self.old.log
+            (record { array = array; index = chunk.now }) l) }
+        ensures read { IsRead (K.seen self.old.store) (K.seen self.new.store) }
+        ensures hit { (k : Known) → known_after self.old.log.events array ≡ Some k
+            → IsSome (kept_of self.old.log array k key.now) → self.new.store ≡ self.old.store }
+        ensures after { OnOk result ((k : Known) → known_after self.old.log.events array ≡ Some k
+            → self.new.log ≡ looked_at self.old.log k key.now) }
+        ensures failed { (event : ℕ) → result ≡ Err (FetchError.StoreFailed event)
+            → IsFailedLook owner (record { array = array; index = chunk.now }) (K.seen self.old.store)
+            (K.seen self.new.store) self.old.log self.new.log event }
         ensures damaged { (key : List ℕ) (cause : DamageOf) → result ≢ Err (FetchError.Damaged key cause) }
         ensures memory { result ≡ Err FetchError.Memory → self.new.log ≡ self.old.log }
-        ensures kept { let seen = seen_of K.contents K.faults K.prefixes K.names K.standing K.change_count in KeepsAgreement (seen self.old.store) self.old.log (seen self.new.store) self.new.log }
+        ensures kept { KeepsAgreement (K.seen self.old.store) self.old.log (K.seen self.new.store) self.new.log }
     {
         let bounds = self.bounds(array)?;
         match self.kept_at(array, chunk, key) {
@@ -116,19 +125,21 @@ impl<K: KvStore> State<K> {
         key: &str,
         bounds: Bounds,
     ) -> Result<Look, FetchError>
-        requires agrees { let seen = seen_of K.contents K.faults K.prefixes K.names K.standing K.change_count in IsState (seen self.old.store) self.old.log }
+        requires agrees { IsState (K.seen self.old.store) self.old.log }
         requires named { IsNamed self.old.log.events (record { array = array; index = chunk.now }) key.now }
-        requires unkept { (k : Known) → known_after self.old.log.events array ≡ Some k → (is_local k.info.home ≡ false) × (kept key.now self.old.log.cache.entries ≡ None) }
+        requires unkept { (k : Known) → known_after self.old.log.events array ≡ Some k → (is_local k.info.home ≡ false)
+            × (kept key.now self.old.log.cache.entries ≡ None) }
         requires bounds { HasBounds self.old.log array bounds }
-        ensures looked { let seen = seen_of K.contents K.faults K.prefixes K.names K.standing K.change_count in
-            IfOk result (λ l. IsLook (seen self.old.store) self.old.log (record { array = array; index = chunk.now }) l) }
-        ensures read { let seen = seen_of K.contents K.faults K.prefixes K.names K.standing K.change_count in IsRead (seen self.old.store) (seen self.new.store) }
+        ensures looked { IfOk result (λ l. IsLook (K.seen self.old.store) self.old.log
+            (record { array = array; index = chunk.now }) l) }
+        ensures read { IsRead (K.seen self.old.store) (K.seen self.new.store) }
         ensures ok { OnOk result (self.new.log ≡ self.old.log) }
-        ensures failed { (event : ℕ) → result ≡ Err (FetchError.StoreFailed event) → let seen = seen_of K.contents K.faults K.prefixes K.names K.standing K.change_count in
-            IsFailedLook owner (record { array = array; index = chunk.now }) (seen self.old.store) (seen self.new.store) self.old.log self.new.log event }
+        ensures failed { (event : ℕ) → result ≡ Err (FetchError.StoreFailed event)
+            → IsFailedLook owner (record { array = array; index = chunk.now }) (K.seen self.old.store)
+            (K.seen self.new.store) self.old.log self.new.log event }
         ensures damaged { (key : List ℕ) (cause : DamageOf) → result ≢ Err (FetchError.Damaged key cause) }
         ensures memory { result ≡ Err FetchError.Memory → self.new.log ≡ self.old.log }
-        ensures kept { let seen = seen_of K.contents K.faults K.prefixes K.names K.standing K.change_count in KeepsAgreement (seen self.old.store) self.old.log (seen self.new.store) self.new.log }
+        ensures kept { KeepsAgreement (K.seen self.old.store) self.old.log (K.seen self.new.store) self.new.log }
     {
         match self.bytes_at(owner, array, chunk, key) {
             Ok(bytes) => self.described(array, chunk, key, bytes, bounds),
@@ -147,10 +158,13 @@ impl<K: KvStore> State<K> {
         bounds: Bounds,
     ) -> Result<Look, FetchError>
         requires named { IsNamed self.now.log.events (record { array = array; index = chunk.now }) key.now }
-        requires unkept { (k : Known) → known_after self.now.log.events array ≡ Some k → (is_local k.info.home ≡ false) × (kept key.now self.now.log.cache.entries ≡ None) }
+        requires unkept { (k : Known) → known_after self.now.log.events array ≡ Some k → (is_local k.info.home ≡ false)
+            × (kept key.now self.now.log.cache.entries ≡ None) }
         requires bounds { HasBounds self.now.log array bounds }
-        requires bytes { (m : Contents) → K.contents self.now.store ≡ Some m → option_map (λ b. b.items) bytes ≡ finmap.get m key.now }
-        ensures looked { let seen = seen_of K.contents K.faults K.prefixes K.names K.standing K.change_count in IfOk result (λ l. IsLook (seen self.now.store) self.now.log (record { array = array; index = chunk.now }) l) }
+        requires bytes { (m : Contents) → (K.seen self.now.store).contents ≡ Some m
+            → option_map (λ b. b.items) bytes ≡ finmap.get m key.now }
+        ensures looked { IfOk result (λ l. IsLook (K.seen self.now.store) self.now.log
+            (record { array = array; index = chunk.now }) l) }
         ensures err { OnErr result (result ≡ Err FetchError.Memory) }
     {
         let generation = self.generation_at(array, key);

@@ -5,7 +5,6 @@ ghost use Rattle.kv_face.specs.Store.{Contents};
 ghost use Rattle.history.specs.Arrays.{Known, known_after};
 ghost use Rattle.history.specs.Chunks.{Chunk};
 ghost use Rattle.history.specs.Generations.{HasKey, IsGenerationOf};
-ghost use Rattle.state_laws.specs.Seen.{seen_of};
 ghost use Rattle.state_laws.specs.Agreement.{Opening, Agrees, IsState};
 ghost use Rattle.state_laws.specs.Fetches.{generation_in};
 ghost use Rattle.state_laws.specs.Keyed.{IsKeyIn, IsNobodys};
@@ -18,7 +17,7 @@ use state_parts::{local_at, name_in};
 impl<K: KvStore> State<K> {
     /// The stored array one of whose chunks has the key.
     fn stored_of(&self, key: &[u8]) -> Option<u64>
-        requires agrees { let seen = seen_of K.contents K.faults K.prefixes K.names K.standing K.change_count in IsState (seen self.now.store) self.now.log }
+        requires agrees { IsState (K.seen self.now.store) self.now.log }
         requires stored { (n : ℕ) → n < 2 ^ 64 → local_key n ≢ key.now }
         requires few { length self.now.log.events < 2 ^ 64 }
         ensures some { IfSome result (λ a. IsKeyIn self.now.log.events key.now a) }
@@ -36,7 +35,7 @@ impl<K: KvStore> State<K> {
 
     /// The array one of whose chunks has the key.
     fn array_of(&self, key: &[u8]) -> Option<u64>
-        requires agrees { let seen = seen_of K.contents K.faults K.prefixes K.names K.standing K.change_count in IsState (seen self.now.store) self.now.log }
+        requires agrees { IsState (K.seen self.now.store) self.now.log }
         requires few { length self.now.log.events < 2 ^ 64 }
         ensures some { IfSome result (λ a. IsKeyIn self.now.log.events key.now a) }
         ensures none { result ≡ None → IsNobodys self.now.log.events key.now }
@@ -50,11 +49,13 @@ impl<K: KvStore> State<K> {
     /// The generation of the chunk that has a key: the number of the last event that touched it. The chunk may lie past its array's
     /// shape. 0 where no chunk of an array of the run has the key. Takes no memory.
     pub fn generation(&self, key: &str) -> u64
-        requires agrees { let seen = seen_of K.contents K.faults K.prefixes K.names K.standing K.change_count in IsState (seen self.now.store) self.now.log }
-        ensures by_table { (c : Chunk) (has : HasKey self.now.log.events c key.now) → result ≡ generation_in self.now.log has.array key.now }
+        requires agrees { IsState (K.seen self.now.store) self.now.log }
+        ensures by_table { (c : Chunk) (has : HasKey self.now.log.events c key.now)
+            → result ≡ generation_in self.now.log has.array key.now }
         ensures none { IsNobodys self.now.log.events key.now → result ≡ 0 }
-        ensures told { let seen = seen_of K.contents K.faults K.prefixes K.names K.standing K.change_count in (opening : Opening) (start : Contents)
-            → Agrees opening (seen self.now.store) self.now.log → opening.store.contents ≡ Some start → IsGenerationOf self.now.log.events key.now result }
+        ensures told { (opening : Opening) (start : Contents)
+            → Agrees opening (K.seen self.now.store) self.now.log → opening.store.contents ≡ Some start
+            → IsGenerationOf self.now.log.events key.now result }
     {
         // A look at the length, by which the contract knows that numbers of events have 64 bits.
         let _ = self.events().len();
@@ -67,7 +68,8 @@ impl<K: KvStore> State<K> {
     /// The generation that the table tells of a chunk of an array.
     pub(crate) fn generation_at(&self, array: u64, key: &str) -> u64
         requires { IsSome (known_after self.now.log.events array) }
-        ensures { (k : Known) → known_after self.now.log.events array ≡ Some k → result ≡ generation_in self.now.log k key.now }
+        ensures { (k : Known) → known_after self.now.log.events array ≡ Some k
+            → result ≡ generation_in self.now.log k key.now }
     {
         match self.records.number_at(key.as_bytes()) {
             Some(number) => number,

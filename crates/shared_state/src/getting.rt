@@ -2,7 +2,7 @@
 ghost use Rattle.std.specs.Prelude.{◌≡◌, ℕ, Some, Err, IfOk, OnOk, option_map, true};
 ghost use Rattle.std.specs.FinMap as finmap;
 ghost use Rattle.kv_face.specs.Store.{Contents, takes};
-ghost use Rattle.state_laws.specs.Seen.{IsRead, seen_of};
+ghost use Rattle.state_laws.specs.Seen.{IsRead};
 ghost use Rattle.state_laws.specs.Fetches.{HasFailed};
 
 use crate::state::State;
@@ -18,12 +18,13 @@ impl<K: KvStore> State<K> {
         mount: Name,
         key: &str,
     ) -> Result<Option<Vec<u8>>, GetError>
-        requires { takes (K.names self.old.store) key.now ≡ true }
-        ensures read { let seen = seen_of K.contents K.faults K.prefixes K.names K.standing K.change_count in IsRead (seen self.old.store) (seen self.new.store) }
-        ensures value { IfOk result (λ v. (m : Contents) → K.contents self.old.store ≡ Some m → option_map (λ b. b.items) v ≡ finmap.get m key.now) }
+        requires { takes ((K.seen self.old.store).names) key.now ≡ true }
+        ensures read { IsRead (K.seen self.old.store) (K.seen self.new.store) }
+        ensures value { IfOk result (λ v. (m : Contents) → (K.seen self.old.store).contents ≡ Some m
+            → option_map (λ b. b.items) v ≡ finmap.get m key.now) }
         ensures ok { OnOk result (self.new.log ≡ self.old.log) }
-        ensures failed { (event : ℕ) → result ≡ Err (GetError.Failed event) → let seen = seen_of K.contents K.faults K.prefixes K.names K.standing K.change_count in
-            HasFailed owner mount (seen self.old.store) (seen self.new.store) self.old.log self.new.log event }
+        ensures failed { (event : ℕ) → result ≡ Err (GetError.Failed event)
+            → HasFailed owner mount (K.seen self.old.store) (K.seen self.new.store) self.old.log self.new.log event }
         ensures memory { result ≡ Err GetError.Memory → self.new.log ≡ self.old.log }
     {
         self.records.reserve()?;

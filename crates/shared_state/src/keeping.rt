@@ -2,7 +2,6 @@
 ghost use Rattle.std.specs.Prelude.{◌≡◌, Some, None, Ok, IsSome, IfOk, IfSome, OnOk, OnErr, true, string_bytes};
 ghost use Rattle.history.specs.Arrays.{Known, known_after, is_local};
 ghost use Rattle.history.specs.Chunks.{chunk_key};
-ghost use Rattle.state_laws.specs.Seen.{seen_of};
 ghost use Rattle.state_laws.specs.Log.{cells_held};
 ghost use Rattle.state_laws.specs.Agreement.{IsState, KeepsAgreement};
 ghost use Rattle.state_laws.specs.Fetches.{IsAnswered, IsChunkOf, IsNamed, KeepsSettled, kept_of, looked_at, settled};
@@ -24,8 +23,9 @@ impl<K: KvStore> State<K> {
 
     /// The cells that the run holds of a local array.
     fn share_held(&self, array: u64) -> Result<Option<Snapshot>, AllocError>
-        requires agrees { let seen = seen_of K.contents K.faults K.prefixes K.names K.standing K.change_count in IsState (seen self.now.store) self.now.log }
-        requires local { (k : Known) × (known_after self.now.log.events array ≡ Some k) × (is_local k.info.home ≡ true) }
+        requires agrees { IsState (K.seen self.now.store) self.now.log }
+        requires local { (k : Known) × (known_after self.now.log.events array ≡ Some k)
+            × (is_local k.info.home ≡ true) }
         ensures { IfOk result (λ o. o ≡ cells_held self.now.log array) }
     {
         let Some(cells) = self.records.held(array) else {
@@ -41,16 +41,18 @@ impl<K: KvStore> State<K> {
         chunk: &[u64],
         key: &str,
     ) -> Result<Option<Snapshot>, AllocError>
-        requires agrees { let seen = seen_of K.contents K.faults K.prefixes K.names K.standing K.change_count in IsState (seen self.old.store) self.old.log }
+        requires agrees { IsState (K.seen self.old.store) self.old.log }
         requires named { IsNamed self.old.log.events (record { array = array; index = chunk.now }) key.now }
-        ensures value { IfOk result (λ o. (k : Known) → known_after self.old.log.events array ≡ Some k → o ≡ kept_of self.old.log array k key.now) }
+        ensures value { IfOk result (λ o. (k : Known) → known_after self.old.log.events array ≡ Some k
+            → o ≡ kept_of self.old.log array k key.now) }
         ensures missed { result ≡ Ok None → self.new ≡ self.old }
-        ensures answered { let seen = seen_of K.contents K.faults K.prefixes K.names K.standing K.change_count in
-            IfOk result (λ o. IfSome o (λ s. IsAnswered (seen self.old.store) self.old.log (record { array = array; index = chunk.now }) s)) }
-        ensures after { OnOk result ((k : Known) → known_after self.old.log.events array ≡ Some k → self.new.log ≡ looked_at self.old.log k key.now) }
+        ensures answered { IfOk result (λ o. IfSome o (λ s.
+            IsAnswered (K.seen self.old.store) self.old.log (record { array = array; index = chunk.now }) s)) }
+        ensures after { OnOk result ((k : Known) → known_after self.old.log.events array ≡ Some k
+            → self.new.log ≡ looked_at self.old.log k key.now) }
         ensures err { OnErr result (self.new.log ≡ self.old.log) }
         ensures store { self.new.store ≡ self.old.store }
-        ensures kept { let seen = seen_of K.contents K.faults K.prefixes K.names K.standing K.change_count in KeepsAgreement (seen self.old.store) self.old.log (seen self.new.store) self.new.log }
+        ensures kept { KeepsAgreement (K.seen self.old.store) self.old.log (K.seen self.new.store) self.new.log }
     {
         if self.is_local(array) {
             return self.share_held(array);
@@ -66,13 +68,14 @@ impl<K: KvStore> State<K> {
         key: String,
         snapshot: Snapshot,
     ) -> Result<(), AllocError>
-        requires agrees { let seen = seen_of K.contents K.faults K.prefixes K.names K.standing K.change_count in IsState (seen self.old.store) self.old.log }
+        requires agrees { IsState (K.seen self.old.store) self.old.log }
         requires named { IsNamed self.old.log.events (record { array = array; index = chunk.now }) (string_bytes key) }
-        ensures after { OnOk result ((k : Known) → known_after self.old.log.events array ≡ Some k → self.new.log ≡ settled self.old.log k (string_bytes key) snapshot) }
+        ensures after { OnOk result ((k : Known) → known_after self.old.log.events array ≡ Some k
+            → self.new.log ≡ settled self.old.log k (string_bytes key) snapshot) }
         ensures err { OnErr result (self.new.log ≡ self.old.log) }
         ensures store { self.new.store ≡ self.old.store }
-        ensures kept { let seen = seen_of K.contents K.faults K.prefixes K.names K.standing K.change_count in
-            KeepsSettled (seen self.old.store) self.old.log (record { array = array; index = chunk.now }) snapshot (seen self.new.store) self.new.log }
+        ensures kept { KeepsSettled (K.seen self.old.store) self.old.log
+            (record { array = array; index = chunk.now }) snapshot (K.seen self.new.store) self.new.log }
     {
         if self.is_local(array) {
             return Ok(());
@@ -92,14 +95,17 @@ impl<K: KvStore> State<K> {
     /// # Errors
     /// Want of memory alone.
     pub fn kept(&mut self, array: u64, chunk: &[u64]) -> Result<Option<Snapshot>, AllocError>
-        requires agrees { let seen = seen_of K.contents K.faults K.prefixes K.names K.standing K.change_count in IsState (seen self.old.store) self.old.log }
+        requires agrees { IsState (K.seen self.old.store) self.old.log }
         requires chunk { IsChunkOf self.old.log.events (record { array = array; index = chunk.now }) }
-        ensures value { IfOk result (λ o. (k : Known) → known_after self.old.log.events array ≡ Some k → o ≡ kept_of self.old.log array k (chunk_key k chunk.now)) }
-        ensures answered { let seen = seen_of K.contents K.faults K.prefixes K.names K.standing K.change_count in IfOk result (λ o. IfSome o (λ s. IsAnswered (seen self.old.store) self.old.log (record { array = array; index = chunk.now }) s)) }
-        ensures after { OnOk result ((k : Known) → known_after self.old.log.events array ≡ Some k → self.new.log ≡ looked_at self.old.log k (chunk_key k chunk.now)) }
+        ensures value { IfOk result (λ o. (k : Known) → known_after self.old.log.events array ≡ Some k
+            → o ≡ kept_of self.old.log array k (chunk_key k chunk.now)) }
+        ensures answered { IfOk result (λ o. IfSome o (λ s.
+            IsAnswered (K.seen self.old.store) self.old.log (record { array = array; index = chunk.now }) s)) }
+        ensures after { OnOk result ((k : Known) → known_after self.old.log.events array ≡ Some k
+            → self.new.log ≡ looked_at self.old.log k (chunk_key k chunk.now)) }
         ensures err { OnErr result (self.new.log ≡ self.old.log) }
         ensures store { self.new.store ≡ self.old.store }
-        ensures kept { let seen = seen_of K.contents K.faults K.prefixes K.names K.standing K.change_count in KeepsAgreement (seen self.old.store) self.old.log (seen self.new.store) self.new.log }
+        ensures kept { KeepsAgreement (K.seen self.old.store) self.old.log (K.seen self.new.store) self.new.log }
     {
         let key = self.key_text(array, chunk)?;
         self.kept_at(array, chunk, key.as_str())
@@ -116,13 +122,14 @@ impl<K: KvStore> State<K> {
         chunk: &[u64],
         snapshot: Snapshot,
     ) -> Result<(), AllocError>
-        requires agrees { let seen = seen_of K.contents K.faults K.prefixes K.names K.standing K.change_count in IsState (seen self.old.store) self.old.log }
+        requires agrees { IsState (K.seen self.old.store) self.old.log }
         requires chunk { IsChunkOf self.old.log.events (record { array = array; index = chunk.now }) }
-        ensures after { OnOk result ((k : Known) → known_after self.old.log.events array ≡ Some k → self.new.log ≡ settled self.old.log k (chunk_key k chunk.now) snapshot) }
+        ensures after { OnOk result ((k : Known) → known_after self.old.log.events array ≡ Some k
+            → self.new.log ≡ settled self.old.log k (chunk_key k chunk.now) snapshot) }
         ensures err { OnErr result (self.new.log ≡ self.old.log) }
         ensures store { self.new.store ≡ self.old.store }
-        ensures kept { let seen = seen_of K.contents K.faults K.prefixes K.names K.standing K.change_count in
-            KeepsSettled (seen self.old.store) self.old.log (record { array = array; index = chunk.now }) snapshot (seen self.new.store) self.new.log }
+        ensures kept { KeepsSettled (K.seen self.old.store) self.old.log
+            (record { array = array; index = chunk.now }) snapshot (K.seen self.new.store) self.new.log }
     {
         let key = self.key_text(array, chunk)?;
         self.settle_at(array, chunk, key, snapshot)

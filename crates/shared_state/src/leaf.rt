@@ -9,7 +9,7 @@ ghost use Rattle.history.specs.Leaves.{Leaf, Stored};
 ghost use Rattle.history.specs.Legal.{IsMount};
 ghost use Rattle.history.specs.Outcomes.{outcome_at};
 ghost use Rattle.history.specs.Places.{IsFree};
-ghost use Rattle.state_laws.specs.Seen.{IsFrame, IsQuiet, seen_of};
+ghost use Rattle.state_laws.specs.Seen.{IsFrame, IsQuiet};
 ghost use Rattle.state_laws.specs.Agreement.{Opening, Agrees, IsState, KeepsAgreement, TakesMount};
 ghost use Rattle.state_laws.specs.Openings.{IsOpening, AnswersKnown, IsBeside};
 ghost use Rattle.state_laws.specs.Placed.{place_at};
@@ -38,16 +38,19 @@ impl<K: KvStore> State<K> {
         may_open: bool,
         may_create: bool,
     ) -> Result<Opened, OpenError>
-        requires agrees { let seen = seen_of K.contents K.faults K.prefixes K.names K.standing K.change_count in IsState (seen self.old.store) self.old.log }
+        requires agrees { IsState (K.seen self.old.store) self.old.log }
         requires mount { IsMount mount.now }
-        requires taken { TakesMount (K.names self.old.store) mount.now }
-        ensures answer { let seen = seen_of K.contents K.faults K.prefixes K.names K.standing K.change_count in (opening : Opening) → Agrees opening (seen self.old.store) self.old.log → IsOpening opening.store.contents self.old.log.events owner (leaf_at mount.now path.now want.now may_open may_create) result self.new.log.events }
-        ensures kept { let seen = seen_of K.contents K.faults K.prefixes K.names K.standing K.change_count in KeepsAgreement (seen self.old.store) self.old.log (seen self.new.store) self.new.log }
-        ensures frame { let seen = seen_of K.contents K.faults K.prefixes K.names K.standing K.change_count in IsFrame (seen self.old.store) (seen self.new.store) }
-        ensures failed { (event : ℕ) → result ≡ Err (OpenError.StoreFailed event) → K.faults self.old.store < K.faults self.new.store }
+        requires taken { TakesMount ((K.seen self.old.store).names) mount.now }
+        ensures answer { (opening : Opening) → Agrees opening (K.seen self.old.store) self.old.log
+            → IsOpening opening.store.contents self.old.log.events owner
+            (leaf_at mount.now path.now want.now may_open may_create) result self.new.log.events }
+        ensures kept { KeepsAgreement (K.seen self.old.store) self.old.log (K.seen self.new.store) self.new.log }
+        ensures frame { IsFrame (K.seen self.old.store) (K.seen self.new.store) }
+        ensures failed { (event : ℕ) → result ≡ Err (OpenError.StoreFailed event)
+            → (K.seen self.old.store).faults < (K.seen self.new.store).faults }
         ensures there { IfOk result (λ o. o.event ≡ None → self.new ≡ self.old) }
         ensures beside { IsBeside self.old.log self.new.log }
-        ensures quiet { let seen = seen_of K.contents K.faults K.prefixes K.names K.standing K.change_count in OnErr result (IsQuiet (seen self.old.store) (seen self.new.store)) }
+        ensures quiet { OnErr result (IsQuiet (K.seen self.old.store) (K.seen self.new.store)) }
     {
         let place = place_of(self.alloc, mount, path, want)?;
         self.open_at(owner, &place, want, may_open, may_create)
@@ -61,17 +64,20 @@ impl<K: KvStore> State<K> {
         may_open: bool,
         may_create: bool,
     ) -> Result<Opened, OpenError>
-        requires agrees { let seen = seen_of K.contents K.faults K.prefixes K.names K.standing K.change_count in IsState (seen self.old.store) self.old.log }
+        requires agrees { IsState (K.seen self.old.store) self.old.log }
         requires mount { IsMount place.now.names.mount }
-        requires taken { TakesMount (K.names self.old.store) place.now.names.mount }
+        requires taken { TakesMount ((K.seen self.old.store).names) place.now.names.mount }
         requires place { place.now ≡ place_at place.now.names.mount place.now.names.path want.now }
-        ensures answer { let seen = seen_of K.contents K.faults K.prefixes K.names K.standing K.change_count in (opening : Opening) → Agrees opening (seen self.old.store) self.old.log → IsOpening opening.store.contents self.old.log.events owner (leaf_at place.now.names.mount place.now.names.path want.now may_open may_create) result self.new.log.events }
-        ensures kept { let seen = seen_of K.contents K.faults K.prefixes K.names K.standing K.change_count in KeepsAgreement (seen self.old.store) self.old.log (seen self.new.store) self.new.log }
-        ensures frame { let seen = seen_of K.contents K.faults K.prefixes K.names K.standing K.change_count in IsFrame (seen self.old.store) (seen self.new.store) }
-        ensures failed { (event : ℕ) → result ≡ Err (OpenError.StoreFailed event) → K.faults self.old.store < K.faults self.new.store }
+        ensures answer { (opening : Opening) → Agrees opening (K.seen self.old.store) self.old.log
+            → IsOpening opening.store.contents self.old.log.events owner
+            (leaf_at place.now.names.mount place.now.names.path want.now may_open may_create) result self.new.log.events }
+        ensures kept { KeepsAgreement (K.seen self.old.store) self.old.log (K.seen self.new.store) self.new.log }
+        ensures frame { IsFrame (K.seen self.old.store) (K.seen self.new.store) }
+        ensures failed { (event : ℕ) → result ≡ Err (OpenError.StoreFailed event)
+            → (K.seen self.old.store).faults < (K.seen self.new.store).faults }
         ensures there { IfOk result (λ o. o.event ≡ None → self.new ≡ self.old) }
         ensures beside { IsBeside self.old.log self.new.log }
-        ensures quiet { let seen = seen_of K.contents K.faults K.prefixes K.names K.standing K.change_count in OnErr result (IsQuiet (seen self.old.store) (seen self.new.store)) }
+        ensures quiet { OnErr result (IsQuiet (K.seen self.old.store) (K.seen self.new.store)) }
     {
         let at = self.events().len() as u64;
         match self.places.find(self.alloc, place.location.items()) {
@@ -86,7 +92,8 @@ impl<K: KvStore> State<K> {
     fn opened_there(&self, number: u64, want: &Want, may_open: bool) -> Result<Opened, OpenError>
         requires known { IsSome (known_after self.now.log.events number) }
         requires reference { (k : Known) → known_after self.now.log.events number ≡ Some k → IsReference (ref_of k) }
-        ensures { (k : Known) (leaf : Leaf) (stored : Stored) → known_after self.now.log.events number ≡ Some k → leaf.want ≡ want.now → leaf.may_open ≡ may_open
+        ensures { (k : Known) (leaf : Leaf) (stored : Stored) → known_after self.now.log.events number ≡ Some k
+            → leaf.want ≡ want.now → leaf.may_open ≡ may_open
             → AnswersKnown k (length self.now.log.events) result (outcome_at leaf stored (Some k)) }
     {
         let at = self.events().len() as u64;
@@ -117,18 +124,21 @@ impl<K: KvStore> State<K> {
         may_open: bool,
         may_create: bool,
     ) -> Result<Opened, OpenError>
-        requires agrees { let seen = seen_of K.contents K.faults K.prefixes K.names K.standing K.change_count in IsState (seen self.old.store) self.old.log }
+        requires agrees { IsState (K.seen self.old.store) self.old.log }
         requires mount { IsMount place.now.names.mount }
-        requires taken { TakesMount (K.names self.old.store) place.now.names.mount }
+        requires taken { TakesMount ((K.seen self.old.store).names) place.now.names.mount }
         requires place { place.now ≡ place_at place.now.names.mount place.now.names.path want.now }
         requires free { IsFree self.old.log.events place.now.location }
-        ensures answer { let seen = seen_of K.contents K.faults K.prefixes K.names K.standing K.change_count in (opening : Opening) → Agrees opening (seen self.old.store) self.old.log → IsOpening opening.store.contents self.old.log.events owner (leaf_at place.now.names.mount place.now.names.path want.now may_open may_create) result self.new.log.events }
-        ensures kept { let seen = seen_of K.contents K.faults K.prefixes K.names K.standing K.change_count in KeepsAgreement (seen self.old.store) self.old.log (seen self.new.store) self.new.log }
-        ensures frame { let seen = seen_of K.contents K.faults K.prefixes K.names K.standing K.change_count in IsFrame (seen self.old.store) (seen self.new.store) }
-        ensures failed { (event : ℕ) → result ≡ Err (OpenError.StoreFailed event) → K.faults self.old.store < K.faults self.new.store }
+        ensures answer { (opening : Opening) → Agrees opening (K.seen self.old.store) self.old.log
+            → IsOpening opening.store.contents self.old.log.events owner
+            (leaf_at place.now.names.mount place.now.names.path want.now may_open may_create) result self.new.log.events }
+        ensures kept { KeepsAgreement (K.seen self.old.store) self.old.log (K.seen self.new.store) self.new.log }
+        ensures frame { IsFrame (K.seen self.old.store) (K.seen self.new.store) }
+        ensures failed { (event : ℕ) → result ≡ Err (OpenError.StoreFailed event)
+            → (K.seen self.old.store).faults < (K.seen self.new.store).faults }
         ensures new { IfOk result (λ o. IsSome o.event) }
         ensures beside { IsBeside self.old.log self.new.log }
-        ensures quiet { let seen = seen_of K.contents K.faults K.prefixes K.names K.standing K.change_count in OnErr result (IsQuiet (seen self.old.store) (seen self.new.store)) }
+        ensures quiet { OnErr result (IsQuiet (K.seen self.old.store) (K.seen self.new.store)) }
     {
         let mount = copy_name(self.alloc, place.names.mount.items())?;
         match self.get(owner, mount, place.key.items()) {
@@ -148,19 +158,23 @@ impl<K: KvStore> State<K> {
         may_create: bool,
         bytes: Option<Vec<u8>>,
     ) -> Result<Opened, OpenError>
-        requires agrees { let seen = seen_of K.contents K.faults K.prefixes K.names K.standing K.change_count in IsState (seen self.old.store) self.old.log }
+        requires agrees { IsState (K.seen self.old.store) self.old.log }
         requires mount { IsMount place.now.names.mount }
-        requires taken { TakesMount (K.names self.old.store) place.now.names.mount }
+        requires taken { TakesMount ((K.seen self.old.store).names) place.now.names.mount }
         requires place { place.now ≡ place_at place.now.names.mount place.now.names.path want.now }
         requires free { IsFree self.old.log.events place.now.location }
-        requires bytes { (m : Contents) → K.contents self.old.store ≡ Some m → option_map (λ b. b.items) bytes ≡ finmap.get m place.now.key }
-        ensures answer { let seen = seen_of K.contents K.faults K.prefixes K.names K.standing K.change_count in (opening : Opening) → Agrees opening (seen self.old.store) self.old.log → IsOpening opening.store.contents self.old.log.events owner (leaf_at place.now.names.mount place.now.names.path want.now may_open may_create) result self.new.log.events }
-        ensures kept { let seen = seen_of K.contents K.faults K.prefixes K.names K.standing K.change_count in KeepsAgreement (seen self.old.store) self.old.log (seen self.new.store) self.new.log }
-        ensures frame { let seen = seen_of K.contents K.faults K.prefixes K.names K.standing K.change_count in IsFrame (seen self.old.store) (seen self.new.store) }
-        ensures failed { (event : ℕ) → result ≡ Err (OpenError.StoreFailed event) → K.faults self.old.store < K.faults self.new.store }
+        requires bytes { (m : Contents) → (K.seen self.old.store).contents ≡ Some m
+            → option_map (λ b. b.items) bytes ≡ finmap.get m place.now.key }
+        ensures answer { (opening : Opening) → Agrees opening (K.seen self.old.store) self.old.log
+            → IsOpening opening.store.contents self.old.log.events owner
+            (leaf_at place.now.names.mount place.now.names.path want.now may_open may_create) result self.new.log.events }
+        ensures kept { KeepsAgreement (K.seen self.old.store) self.old.log (K.seen self.new.store) self.new.log }
+        ensures frame { IsFrame (K.seen self.old.store) (K.seen self.new.store) }
+        ensures failed { (event : ℕ) → result ≡ Err (OpenError.StoreFailed event)
+            → (K.seen self.old.store).faults < (K.seen self.new.store).faults }
         ensures new { IfOk result (λ o. IsSome o.event) }
         ensures beside { IsBeside self.old.log self.new.log }
-        ensures quiet { let seen = seen_of K.contents K.faults K.prefixes K.names K.standing K.change_count in OnErr result (IsQuiet (seen self.old.store) (seen self.new.store)) }
+        ensures quiet { OnErr result (IsQuiet (K.seen self.old.store) (K.seen self.new.store)) }
     {
         match decided(self.alloc, want, may_open, may_create, bytes) {
             Ok(Decided::Found { form }) => self.enter_found(owner, place, want, form),

@@ -21,14 +21,16 @@ impl<K: KvStore> State<K> {
     /// Want of memory alone.
     pub fn key(&self, array: u64, chunk: &[u64]) -> Result<Name, AllocError>
         requires { IsChunkOf self.now.log.events (record { array = array; index = chunk.now }) }
-        ensures { IfOk result (λ name. (k : Known) → known_after self.now.log.events array ≡ Some k → name ≡ chunk_key k chunk.now) }
+        ensures { IfOk result (λ name. (k : Known) → known_after self.now.log.events array ≡ Some k
+            → name ≡ chunk_key k chunk.now) }
     {
         Ok(Name::wrap(self.key_text(array, chunk)?))
     }
 
     pub(crate) fn key_text(&self, array: u64, chunk: &[u64]) -> Result<String, AllocError>
         requires { IsChunkOf self.now.log.events (record { array = array; index = chunk.now }) }
-        ensures { IfOk result (λ name. (k : Known) → known_after self.now.log.events array ≡ Some k → string_bytes name ≡ chunk_key k chunk.now) }
+        ensures { IfOk result (λ name. (k : Known) → known_after self.now.log.events array ≡ Some k
+            → string_bytes name ≡ chunk_key k chunk.now) }
     {
         let info = self.records.info(array);
         let opened = self.records.opened(array);
@@ -41,7 +43,8 @@ impl<K: KvStore> State<K> {
     /// Want of memory alone.
     pub fn metadata_key(&self, array: u64) -> Result<Name, AllocError>
         requires { (k : Known) × (known_after self.now.log.events array ≡ Some k) × (is_local k.info.home ≡ false) }
-        ensures { IfOk result (λ name. (k : Known) → known_after self.now.log.events array ≡ Some k → metadata_key k ≡ Some name) }
+        ensures { IfOk result (λ name. (k : Known) → known_after self.now.log.events array ≡ Some k
+            → metadata_key k ≡ Some name) }
     {
         let Some(key) = metadata_key(self.alloc, &self.records.info(array).home)? else {
             unreachable!();
@@ -55,7 +58,8 @@ impl<K: KvStore> State<K> {
     /// Want of memory alone.
     pub fn bounds(&self, array: u64) -> Result<Bounds, AllocError>
         requires { IsSome (known_after self.now.log.events array) }
-        ensures { IfOk result (λ b. (k : Known) → known_after self.now.log.events array ≡ Some k → b ≡ bounds_in self.now.log.events array k) }
+        ensures { IfOk result (λ b. (k : Known) → known_after self.now.log.events array ≡ Some k
+            → b ≡ bounds_in self.now.log.events array k) }
     {
         let shape = copy_sizes(self.alloc, self.records.shape(array))?;
         Ok(Bounds {
@@ -70,7 +74,8 @@ impl<K: KvStore> State<K> {
     /// Want of memory alone.
     pub fn info(&self, array: u64) -> Result<Form, AllocError>
         requires { IsSome (known_after self.now.log.events array) }
-        ensures { IfOk result (λ form. (k : Known) → known_after self.now.log.events array ≡ Some k → form ≡ with_shape (form_of k.info.home) k.shape) }
+        ensures { IfOk result (λ form. (k : Known) → known_after self.now.log.events array ≡ Some k
+            → form ≡ with_shape (form_of k.info.home) k.shape) }
     {
         self.records.form(array).copy(self.alloc)
     }

@@ -7,7 +7,7 @@ ghost use Rattle.chunk_forms.specs.Wants.{is_asked_form};
 ghost use Rattle.kv_face.specs.Store.{Contents};
 ghost use Rattle.history.specs.Legal.{IsMount, is_opening};
 ghost use Rattle.history.specs.Places.{IsFree};
-ghost use Rattle.state_laws.specs.Seen.{IsFrame, IsQuiet, seen_of};
+ghost use Rattle.state_laws.specs.Seen.{IsFrame, IsQuiet};
 ghost use Rattle.state_laws.specs.Agreement.{IsState, KeepsAgreement, TakesMount};
 ghost use Rattle.state_laws.specs.Fetches.{HasFailed};
 ghost use Rattle.state_laws.specs.Openings.{IsStoreError};
@@ -28,19 +28,25 @@ impl<K: KvStore> State<K> {
         want: &Want,
         form: Form,
     ) -> Result<Opened, OpenError>
-        requires agrees { let seen = seen_of K.contents K.faults K.prefixes K.names K.standing K.change_count in IsState (seen self.old.store) self.old.log }
+        requires agrees { IsState (K.seen self.old.store) self.old.log }
         requires mount { IsMount place.now.names.mount }
-        requires taken { TakesMount (K.names self.old.store) place.now.names.mount }
+        requires taken { TakesMount ((K.seen self.old.store).names) place.now.names.mount }
         requires place { place.now ≡ place_at place.now.names.mount place.now.names.path want.now }
         requires free { IsFree self.old.log.events place.now.location }
         requires asked { is_asked_form want.now form ≡ true }
         requires valid { IsMetadata form }
-        requires there { (m : Contents) → K.contents self.old.store ≡ Some m → (bytes : List ℕ) × (finmap.get m place.now.key ≡ Some bytes) }
-        ensures entered { IfOk result (λ o. (o.array ≡ reference_of (info_at (count_by is_opening self.old.log.events) place.now.names.mount place.now.names.path form) (shape_of form)) × (o.event ≡ Some (length self.old.log.events + 1))) }
-        ensures after { OnOk result (self.new.log ≡ entered self.old.log owner (info_at (count_by is_opening self.old.log.events) place.now.names.mount place.now.names.path form) None) }
+        requires there { (m : Contents) → (K.seen self.old.store).contents ≡ Some m → (bytes : List ℕ)
+            × (finmap.get m place.now.key ≡ Some bytes) }
+        ensures entered { IfOk result (λ o. (o.array
+            ≡ reference_of
+            (info_at (count_by is_opening self.old.log.events) place.now.names.mount place.now.names.path form)
+            (shape_of form)) × (o.event ≡ Some (length self.old.log.events + 1))) }
+        ensures after { OnOk result (self.new.log
+            ≡ entered self.old.log owner (info_at
+            (count_by is_opening self.old.log.events) place.now.names.mount place.now.names.path form) None) }
         ensures err { OnErr result ((result ≡ Err OpenError.Memory) × (self.new.log ≡ self.old.log)) }
         ensures store { self.new.store ≡ self.old.store }
-        ensures kept { let seen = seen_of K.contents K.faults K.prefixes K.names K.standing K.change_count in KeepsAgreement (seen self.old.store) self.old.log (seen self.new.store) self.new.log }
+        ensures kept { KeepsAgreement (K.seen self.old.store) self.old.log (K.seen self.new.store) self.new.log }
     {
         let number = self.records.array_count();
         let new = new_array(
@@ -61,23 +67,30 @@ impl<K: KvStore> State<K> {
         want: &Want,
         form: Form,
     ) -> Result<Opened, OpenError>
-        requires agrees { let seen = seen_of K.contents K.faults K.prefixes K.names K.standing K.change_count in IsState (seen self.old.store) self.old.log }
+        requires agrees { IsState (K.seen self.old.store) self.old.log }
         requires mount { IsMount place.now.names.mount }
-        requires taken { TakesMount (K.names self.old.store) place.now.names.mount }
+        requires taken { TakesMount ((K.seen self.old.store).names) place.now.names.mount }
         requires place { place.now ≡ place_at place.now.names.mount place.now.names.path want.now }
         requires free { IsFree self.old.log.events place.now.location }
         requires asked { is_asked_form want.now form ≡ true }
         requires valid { IsMetadata form }
-        requires missing { (m : Contents) → K.contents self.old.store ≡ Some m → finmap.get m place.now.key ≡ None }
-        ensures entered { IfOk result (λ o. (o.array ≡ reference_of (info_at (count_by is_opening self.old.log.events) place.now.names.mount place.now.names.path form) (shape_of form)) × (o.event ≡ Some (length self.old.log.events + 1))) }
-        ensures after { OnOk result (self.new.log ≡ entered self.old.log owner (info_at (count_by is_opening self.old.log.events) place.now.names.mount place.now.names.path form) None) }
-        ensures failed { (event : ℕ) → result ≡ Err (OpenError.StoreFailed event) → let seen = seen_of K.contents K.faults K.prefixes K.names K.standing K.change_count in
-            HasFailed owner place.now.names.mount (seen self.old.store) (seen self.new.store) self.old.log self.new.log event }
+        requires missing { (m : Contents) → (K.seen self.old.store).contents ≡ Some m
+            → finmap.get m place.now.key ≡ None }
+        ensures entered { IfOk result (λ o. (o.array
+            ≡ reference_of
+            (info_at (count_by is_opening self.old.log.events) place.now.names.mount place.now.names.path form)
+            (shape_of form)) × (o.event ≡ Some (length self.old.log.events + 1))) }
+        ensures after { OnOk result (self.new.log
+            ≡ entered self.old.log owner (info_at
+            (count_by is_opening self.old.log.events) place.now.names.mount place.now.names.path form) None) }
+        ensures failed { (event : ℕ) → result ≡ Err (OpenError.StoreFailed event)
+            → HasFailed owner place.now.names.mount (K.seen self.old.store)
+            (K.seen self.new.store) self.old.log self.new.log event }
         ensures memory { result ≡ Err OpenError.Memory → self.new.log ≡ self.old.log }
         ensures errors { OnErr result (IsStoreError result) }
-        ensures quiet { let seen = seen_of K.contents K.faults K.prefixes K.names K.standing K.change_count in OnErr result (IsQuiet (seen self.old.store) (seen self.new.store)) }
-        ensures frame { let seen = seen_of K.contents K.faults K.prefixes K.names K.standing K.change_count in IsFrame (seen self.old.store) (seen self.new.store) }
-        ensures kept { let seen = seen_of K.contents K.faults K.prefixes K.names K.standing K.change_count in KeepsAgreement (seen self.old.store) self.old.log (seen self.new.store) self.new.log }
+        ensures quiet { OnErr result (IsQuiet (K.seen self.old.store) (K.seen self.new.store)) }
+        ensures frame { IsFrame (K.seen self.old.store) (K.seen self.new.store) }
+        ensures kept { KeepsAgreement (K.seen self.old.store) self.old.log (K.seen self.new.store) self.new.log }
     {
         let changes = metadata_change(self.alloc, place.key.items(), &form)?;
         let number = self.records.array_count();

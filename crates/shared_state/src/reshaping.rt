@@ -5,7 +5,7 @@ ghost use Rattle.chunk_forms.specs.Metadata.{with_shape};
 ghost use Rattle.kv_face.specs.Store.{Contents, OneMore, after};
 ghost use Rattle.history.specs.Arrays.{Known, known_after, form_of, is_local};
 ghost use Rattle.run_records.specs.Numbers.{IsPrepared, KeepsPrepared};
-ghost use Rattle.state_laws.specs.Seen.{IsFrame, IsQuiet, seen_of};
+ghost use Rattle.state_laws.specs.Seen.{IsFrame, IsQuiet};
 ghost use Rattle.state_laws.specs.Agreement.{IsState};
 ghost use Rattle.state_laws.specs.Changing.{AreMade, IsNewShape, KeepsByShape, resized};
 ghost use Rattle.state_laws.specs.Fetches.{HasFailed};
@@ -28,19 +28,23 @@ impl<K: KvStore> State<K> {
         new: NewShape,
         changes: &[Change],
     ) -> Result<u64, ChangeError>
-        requires agrees { let seen = seen_of K.contents K.faults K.prefixes K.names K.standing K.change_count in IsState (seen self.old.store) self.old.log }
+        requires agrees { IsState (K.seen self.old.store) self.old.log }
         requires shape { IsNewShape self.old.log owner new changes.now }
-        requires made { let seen = seen_of K.contents K.faults K.prefixes K.names K.standing K.change_count in AreMade (seen self.old.store) changes.now }
+        requires made { AreMade (K.seen self.old.store) changes.now }
         requires room { 0 < self.old.spare.events }
         requires prepared { AllByRecursion (IsPrepared self.old.spare.prepared) new.keys.items }
         ensures number { IfOk result (λ n. n ≡ length self.old.log.events + 1) }
         ensures after { OnOk result (self.new.log ≡ resized self.old.log owner new) }
-        ensures done { OnOk result ((m : Contents) → K.contents self.old.store ≡ Some m → K.contents self.new.store ≡ Some (after m changes.now)) }
-        ensures failed { (event : ℕ) → result ≡ Err (ChangeError.StoreFailed event) → let seen = seen_of K.contents K.faults K.prefixes K.names K.standing K.change_count in HasFailed owner new.mount (seen self.old.store) (seen self.new.store) self.old.log self.new.log event }
+        ensures done { OnOk result ((m : Contents) → (K.seen self.old.store).contents ≡ Some m
+            → (K.seen self.new.store).contents ≡ Some (after m changes.now)) }
+        ensures failed { (event : ℕ) → result ≡ Err (ChangeError.StoreFailed event)
+            → HasFailed owner new.mount (K.seen self.old.store)
+            (K.seen self.new.store) self.old.log self.new.log event }
         ensures memory { result ≡ Err ChangeError.Memory → self.new.log ≡ self.old.log }
-        ensures quiet { let seen = seen_of K.contents K.faults K.prefixes K.names K.standing K.change_count in OnErr result (IsQuiet (seen self.old.store) (seen self.new.store)) }
-        ensures frame { let seen = seen_of K.contents K.faults K.prefixes K.names K.standing K.change_count in IsFrame (seen self.old.store) (seen self.new.store) }
-        ensures kept { let seen = seen_of K.contents K.faults K.prefixes K.names K.standing K.change_count in KeepsByShape (seen self.old.store) self.old.log owner new changes.now (seen self.new.store) self.new.log }
+        ensures quiet { OnErr result (IsQuiet (K.seen self.old.store) (K.seen self.new.store)) }
+        ensures frame { IsFrame (K.seen self.old.store) (K.seen self.new.store) }
+        ensures kept { KeepsByShape (K.seen self.old.store) self.old.log owner new changes.now
+            (K.seen self.new.store) self.new.log }
         ensures room { self.old.spare.events ≤ self.new.spare.events + 1 }
         ensures prepared { KeepsPrepared self.old.spare.prepared self.new.spare.prepared }
     {
@@ -53,19 +57,25 @@ impl<K: KvStore> State<K> {
         new: NewShape,
         changes: &[Change],
     ) -> Result<u64, ChangeError>
-        requires array { (k : Known) × (known_after self.old.log.events new.array ≡ Some k) × (is_local k.info.home ≡ false) × (new.form ≡ with_shape (form_of k.info.home) new.shape) }
-        requires made { let seen = seen_of K.contents K.faults K.prefixes K.names K.standing K.change_count in AreMade (seen self.old.store) changes.now }
+        requires array { (k : Known) × (known_after self.old.log.events new.array ≡ Some k)
+            × (is_local k.info.home ≡ false) × (new.form ≡ with_shape (form_of k.info.home) new.shape) }
+        requires made { AreMade (K.seen self.old.store) changes.now }
         requires room { 0 < self.old.spare.events }
         requires prepared { AllByRecursion (IsPrepared self.old.spare.prepared) new.keys.items }
         ensures number { IfOk result (λ n. n ≡ length self.old.log.events + 1) }
         ensures after { OnOk result (self.new.log ≡ resized self.old.log owner new) }
-        ensures done { OnOk result ((m : Contents) → K.contents self.old.store ≡ Some m → K.contents self.new.store ≡ Some (after m changes.now)) }
-        ensures one_more { OnOk result (0 < length changes.now → OneMore (K.change_count self.old.store) (K.change_count self.new.store)) }
-        ensures none { OnOk result (length changes.now ≡ 0 → K.change_count self.new.store ≡ K.change_count self.old.store) }
-        ensures failed { (event : ℕ) → result ≡ Err (ChangeError.StoreFailed event) → let seen = seen_of K.contents K.faults K.prefixes K.names K.standing K.change_count in HasFailed owner new.mount (seen self.old.store) (seen self.new.store) self.old.log self.new.log event }
+        ensures done { OnOk result ((m : Contents) → (K.seen self.old.store).contents ≡ Some m
+            → (K.seen self.new.store).contents ≡ Some (after m changes.now)) }
+        ensures one_more { OnOk result (0 < length changes.now
+            → OneMore ((K.seen self.old.store).changes) ((K.seen self.new.store).changes)) }
+        ensures none { OnOk result (length changes.now ≡ 0
+            → (K.seen self.new.store).changes ≡ (K.seen self.old.store).changes) }
+        ensures failed { (event : ℕ) → result ≡ Err (ChangeError.StoreFailed event)
+            → HasFailed owner new.mount (K.seen self.old.store)
+            (K.seen self.new.store) self.old.log self.new.log event }
         ensures memory { result ≡ Err ChangeError.Memory → self.new.log ≡ self.old.log }
-        ensures quiet { let seen = seen_of K.contents K.faults K.prefixes K.names K.standing K.change_count in OnErr result (IsQuiet (seen self.old.store) (seen self.new.store)) }
-        ensures frame { let seen = seen_of K.contents K.faults K.prefixes K.names K.standing K.change_count in IsFrame (seen self.old.store) (seen self.new.store) }
+        ensures quiet { OnErr result (IsQuiet (K.seen self.old.store) (K.seen self.new.store)) }
+        ensures frame { IsFrame (K.seen self.old.store) (K.seen self.new.store) }
         ensures room { self.old.spare.events ≤ self.new.spare.events + 1 }
         ensures prepared { KeepsPrepared self.old.spare.prepared self.new.spare.prepared }
     {

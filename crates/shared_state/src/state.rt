@@ -1,6 +1,5 @@
 ghost use Rattle.std.specs.Prelude.{◌≡◌, ◌≤◌, ◌^◌, [], IfOk, IfErr};
 ghost use Rattle.std.specs.FinMap as finmap;
-ghost use Rattle.state_laws.specs.Seen.{seen_of};
 ghost use Rattle.state_laws.specs.Agreement.{Agrees};
 
 use history::Event;
@@ -49,8 +48,8 @@ impl<K: KvStore> State<K> {
     pub fn new(alloc: Global, store: K, limit: u64) -> Result<Self, StateRefused<K>>
         requires { limit ≤ 2 ^ 27 }
         ensures store { IfOk result (λ s. s.store ≡ store) }
-        ensures agrees { let seen = seen_of K.contents K.faults K.prefixes K.names K.standing K.change_count in
-            IfOk result (λ s. Agrees (record { store = seen store; limit = limit }) (seen s.store) s.log) }
+        ensures agrees { IfOk result (λ s. Agrees (record { store = K.seen store; limit = limit })
+            (K.seen s.store) s.log) }
         ensures events { IfOk result (λ s. s.log.events ≡ []) }
         ensures generations { IfOk result (λ s. s.log.generations ≡ finmap.empty) }
         ensures cache { IfOk result (λ s. s.log.cache ≡ record { limit = limit; entries = [] }) }

@@ -26,7 +26,8 @@ pub fn given_at(
     unknown: Option<&str>,
     value: &Value,
 ) -> Result<SpecLeaf, SpecError>
-    ensures value { IfOk result (λ leaf. given_at path.now (option_map (λ s. s.now) unknown.entry) (view value.now) ≡ Ok leaf) }
+    ensures value { IfOk result (λ leaf. given_at path.now (option_map (λ s.
+        s.now) unknown.entry) (view value.now) ≡ Ok leaf) }
     ensures causes { IfErr result (λ e. e ≢ SpecError.Memory
         → given_at path.now (option_map (λ s. s.now) unknown.entry) (view value.now) ≡ Err e) }
 {
@@ -41,7 +42,7 @@ pub fn given_at(
     false_at(alloc, "delete_existing", path, unknown, value)?;
     let dtype = required(judged_dtype(value));
     let dtype = judged_in_turn(alloc, path, unknown, "dtype", dtype)?;
-    Ok(given_leaf(numbers, dtype))
+    Ok(given_leaf(alloc, numbers, dtype)?)
 }
 
 fn right_dtype(judged: Result<Option<Dtype>, Fault>) -> Option<Dtype>
@@ -61,7 +62,8 @@ fn numbers_in_turn(
     dtype: Option<Dtype>,
     value: &Value,
 ) -> Result<Nested, SpecError>
-    ensures value { IfOk result (λ numbers. judged_in_turn path.now (option_map (λ s. s.now) unknown.entry) (codes "array")
+    ensures value { IfOk result (λ numbers. judged_in_turn path.now (option_map (λ s.
+        s.now) unknown.entry) (codes "array")
         (right (option_and_then (numbers_in dtype) (get (codes "array") (view value.now)))) ≡ Ok numbers) }
     ensures right { IfOk result (λ numbers.
         option_and_then (numbers_in dtype) (get (codes "array") (view value.now)) ≡ Some numbers) }
@@ -79,12 +81,11 @@ fn numbers_in_turn(
     }
 }
 
-fn given_leaf(numbers: Nested, dtype: Dtype) -> SpecLeaf
+fn given_leaf(alloc: Global, numbers: Nested, dtype: Dtype) -> Result<SpecLeaf, AllocError>
     requires { IsDense (record { dtype = dtype; shape = numbers.sizes; words = numbers.words }) }
-    ensures { result ≡ given_leaf numbers dtype }
+    ensures { IfOk result (λ leaf. leaf ≡ given_leaf numbers dtype) }
 {
     let Nested { sizes, words } = numbers;
-    SpecLeaf::Given {
-        start: Dense::new(dtype, sizes, words),
-    }
+    let start = Dense::of_words(alloc, dtype, sizes, words.items())?;
+    Ok(SpecLeaf::Given { start })
 }

@@ -52,7 +52,8 @@ fn location_at(
     path: &str,
     value: Option<&Value>,
 ) -> Result<Location, SpecError>
-    ensures value { IfOk result (λ l. location_at names.now path.now (option_map (λ v. view v.now) value.entry) ≡ Ok l) }
+    ensures value { IfOk result (λ l. location_at names.now path.now (option_map (λ v.
+        view v.now) value.entry) ≡ Ok l) }
     ensures causes { IfErr result (λ e. e ≢ SpecError.Memory
         → location_at names.now path.now (option_map (λ v. view v.now) value.entry) ≡ Err e) }
 {
@@ -77,7 +78,8 @@ fn location_in(
     value: &Value,
 ) -> Result<Location, SpecError>
     ensures value { IfOk result (λ l. location_in names.now path.now (view value.now) ≡ Ok l) }
-    ensures causes { IfErr result (λ e. e ≢ SpecError.Memory → location_in names.now path.now (view value.now) ≡ Err e) }
+    ensures causes { IfErr result (λ e. e ≢ SpecError.Memory
+        → location_in names.now path.now (view value.now) ≡ Err e) }
 {
     let mount = mount_at(alloc, names, path, value)?;
     let path = below_in(alloc, path, unknown_member(value), value)?;
@@ -108,7 +110,8 @@ fn below_in(
     unknown: Option<&str>,
     value: &Value,
 ) -> Result<Name, SpecError>
-    ensures value { IfOk result (λ name. below_in path.now (option_map (λ s. s.now) unknown.entry) (view value.now) ≡ Ok name) }
+    ensures value { IfOk result (λ name. below_in path.now (option_map (λ s.
+        s.now) unknown.entry) (view value.now) ≡ Ok name) }
     ensures causes { IfErr result (λ e. e ≢ SpecError.Memory
         → below_in path.now (option_map (λ s. s.now) unknown.entry) (view value.now) ≡ Err e) }
 {

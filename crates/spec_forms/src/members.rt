@@ -127,7 +127,8 @@ pub fn false_at(
     unknown: Option<&str>,
     value: &Value,
 ) -> Result<(), SpecError>
-    ensures value { OnOk result (false_at name.now path.now (option_map (λ s. s.now) unknown.entry) (view value.now) ≡ Ok tt) }
+    ensures value { OnOk result (false_at name.now path.now (option_map (λ s.
+        s.now) unknown.entry) (view value.now) ≡ Ok tt) }
     ensures causes { IfErr result (λ e. e ≢ SpecError.Memory
         → false_at name.now path.now (option_map (λ s. s.now) unknown.entry) (view value.now) ≡ Err e) }
 {

@@ -120,7 +120,8 @@ pub fn judged_in_turn<T: Drop>(
     name: &str,
     judged: Result<T, Fault>,
 ) -> Result<T, SpecError>
-    ensures value { IfOk result (λ x. judged_in_turn path.now (option_map (λ s. s.now) unknown.entry) name.now judged ≡ Ok x) }
+    ensures value { IfOk result (λ x. judged_in_turn path.now (option_map (λ s.
+        s.now) unknown.entry) name.now judged ≡ Ok x) }
     ensures right { IfOk result (λ x. judged ≡ Ok x) }
     ensures causes { IfErr result (λ e. e ≢ SpecError.Memory
         → judged_in_turn path.now (option_map (λ s. s.now) unknown.entry) name.now judged ≡ Err e) }

@@ -63,7 +63,8 @@ fn asked_in(
     create: Option<bool>,
     own: Option<Dtype>,
 ) -> Result<Asked, SpecError>
-    ensures value { IfOk result (λ asked. asked_in format path.now (option_map (λ s. s.now) unknown.entry) (view value.now)
+    ensures value { IfOk result (λ asked. asked_in format path.now (option_map (λ s.
+        s.now) unknown.entry) (view value.now)
         create own ≡ Ok asked) }
     ensures causes { IfErr result (λ e. e ≢ SpecError.Memory
         → asked_in format path.now (option_map (λ s. s.now) unknown.entry) (view value.now) create own ≡ Err e) }
@@ -114,10 +115,12 @@ fn want_in_turn(
     value: &Value,
 ) -> Result<Want, SpecError>
     ensures value { IfOk result (λ w. in_turn path.now (option_map (λ s. s.now) unknown.entry) (codes "metadata")
-        (asked_at (joined path.now (codes "metadata")) (want_of format own (get (codes "metadata") (view value.now)))) ≡ Ok w) }
+        (asked_at (joined path.now (codes "metadata")) (want_of format own (get (codes "metadata") (view value.now))))
+        ≡ Ok w) }
     ensures causes { IfErr result (λ e. e ≢ SpecError.Memory
         → in_turn path.now (option_map (λ s. s.now) unknown.entry) (codes "metadata")
-        (asked_at (joined path.now (codes "metadata")) (want_of format own (get (codes "metadata") (view value.now)))) ≡ Err e) }
+        (asked_at (joined path.now (codes "metadata")) (want_of format own (get (codes "metadata") (view value.now))))
+        ≡ Err e) }
 {
     none_before(alloc, path, unknown, "metadata")?;
     let at = joined(alloc, path, "metadata")?;
@@ -132,7 +135,8 @@ fn want_at(
     own: Option<Dtype>,
     metadata: Option<&Value>,
 ) -> Result<Want, SpecError>
-    ensures value { IfOk result (λ w. asked_at path.now (want_of format own (option_map (λ v. view v.now) metadata.entry)) ≡ Ok w) }
+    ensures value { IfOk result (λ w. asked_at path.now (want_of format own (option_map (λ v.
+        view v.now) metadata.entry)) ≡ Ok w) }
     ensures causes { IfErr result (λ e. e ≢ SpecError.Memory
         → asked_at path.now (want_of format own (option_map (λ v. view v.now) metadata.entry)) ≡ Err e) }
 {

@@ -90,7 +90,8 @@ fn leaf_view(
 ) -> Result<View, BuildError>
     ensures value { IfOk result (λ v. through at.now transform.now (whole_view array.now) ≡ Ok v) }
     ensures view { IfOk result IsView }
-    ensures causes { IfErr result (λ e. e ≢ BuildError.Memory → through at.now transform.now (whole_view array.now) ≡ Err e) }
+    ensures causes { IfErr result (λ e. e ≢ BuildError.Memory
+        → through at.now transform.now (whole_view array.now) ≡ Err e) }
 {
     let view = whole(alloc, copied(alloc, array)?)?;
     through(alloc, at, transform, view)
@@ -119,7 +120,8 @@ fn cast_view(
     requires { IsView base }
     ensures value { IfOk result (λ v. through at.now transform.now (shown.Cast to base) ≡ Ok v) }
     ensures view { IfOk result IsView }
-    ensures causes { IfErr result (λ e. e ≢ BuildError.Memory → through at.now transform.now (shown.Cast to base) ≡ Err e) }
+    ensures causes { IfErr result (λ e. e ≢ BuildError.Memory
+        → through at.now transform.now (shown.Cast to base) ≡ Err e) }
 {
     let view = View::Cast {
         to,
@@ -138,7 +140,8 @@ fn stack_view(
     requires some { 0 < length layers.items }
     requires few { length layers.items ≤ 256 }
     requires views { AllByRecursion IsView layers.items }
-    ensures value { IfOk result (λ v. through_if at.now transform.now (stacked_at at.now named (stack_answer layers.items)) ≡ Ok v) }
+    ensures value { IfOk result (λ v. through_if at.now transform.now
+        (stacked_at at.now named (stack_answer layers.items)) ≡ Ok v) }
     ensures view { IfOk result IsView }
     ensures causes { IfErr result (λ e. e ≢ BuildError.Memory
         → through_if at.now transform.now (stacked_at at.now named (stack_answer layers.items)) ≡ Err e) }

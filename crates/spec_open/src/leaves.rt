@@ -33,7 +33,8 @@ pub(crate) fn stored_node(
     leaves: &mut Vec<SpecLeaf>,
     value: &Value,
 ) -> Result<Tree, SpecError>
-    ensures value { IfOk result (λ tree. leaf_node path.now (option_map (λ s. s.now) unknown.entry) leaves.old.items (view value.now)
+    ensures value { IfOk result (λ tree. leaf_node path.now (option_map (λ s.
+        s.now) unknown.entry) leaves.old.items (view value.now)
         (stored_at names.now format path.now (option_map (λ s. s.now) unknown.entry) (view value.now))
         ≡ Ok (record { tree = tree; leaves = leaves.new.items })) }
     ensures causes { IfErr result (λ e. e ≢ SpecError.Memory
@@ -55,7 +56,8 @@ pub(crate) fn given_node(
     leaves: &mut Vec<SpecLeaf>,
     value: &Value,
 ) -> Result<Tree, SpecError>
-    ensures value { IfOk result (λ tree. leaf_node path.now (option_map (λ s. s.now) unknown.entry) leaves.old.items (view value.now)
+    ensures value { IfOk result (λ tree. leaf_node path.now (option_map (λ s.
+        s.now) unknown.entry) leaves.old.items (view value.now)
         (given_at path.now (option_map (λ s. s.now) unknown.entry) (view value.now))
         ≡ Ok (record { tree = tree; leaves = leaves.new.items })) }
     ensures causes { IfErr result (λ e. e ≢ SpecError.Memory

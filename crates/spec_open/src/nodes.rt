@@ -37,7 +37,8 @@ pub(crate) fn read_node(
     leaves: &mut Vec<SpecLeaf>,
     value: &Value,
 ) -> Result<Tree, SpecError>
-    ensures value { IfOk result (λ tree. node_of names.now (inner_of names.now room) path.now leaves.old.items (view value.now)
+    ensures value { IfOk result (λ tree. node_of names.now (inner_of names.now room) path.now leaves.old.items
+        (view value.now)
         ≡ Ok (record { tree = tree; leaves = leaves.new.items })) }
     ensures causes { IfErr result (λ e. e ≢ SpecError.Memory
         → node_of names.now (inner_of names.now room) path.now leaves.old.items (view value.now) ≡ Err e) }
@@ -57,7 +58,8 @@ fn node_by(
     value: &Value,
     driver: Driver,
 ) -> Result<Tree, SpecError>
-    ensures value { IfOk result (λ tree. node_by names.now (inner_of names.now room) path.now leaves.old.items (view value.now) driver
+    ensures value { IfOk result (λ tree. node_by names.now (inner_of names.now room) path.now leaves.old.items
+        (view value.now) driver
         ≡ Ok (record { tree = tree; leaves = leaves.new.items })) }
     ensures causes { IfErr result (λ e. e ≢ SpecError.Memory
         → node_by names.now (inner_of names.now room) path.now leaves.old.items (view value.now) driver ≡ Err e) }
@@ -96,7 +98,8 @@ fn cast_in(
     leaves: &mut Vec<SpecLeaf>,
     value: &Value,
 ) -> Result<Tree, SpecError>
-    ensures value { IfOk result (λ tree. cast_in (spec_at names.now room) path.now (option_map (λ s. s.now) unknown.entry)
+    ensures value { IfOk result (λ tree. cast_in (spec_at names.now room) path.now (option_map (λ s.
+        s.now) unknown.entry)
         leaves.old.items (view value.now) ≡ Ok (record { tree = tree; leaves = leaves.new.items })) }
     ensures causes { IfErr result (λ e. e ≢ SpecError.Memory → cast_in (spec_at names.now room) path.now
         (option_map (λ s. s.now) unknown.entry) leaves.old.items (view value.now) ≡ Err e) }
@@ -127,11 +130,13 @@ fn base_in_turn(
     value: &Value,
 ) -> Result<Boxed<Tree>, SpecError>
     ensures value { IfOk result (λ tree. in_turn path.now (option_map (λ s. s.now) unknown.entry) (codes "base")
-        (base_at (spec_at names.now room) (joined path.now (codes "base")) leaves.old.items (get (codes "base") (view value.now)))
+        (base_at (spec_at names.now room) (joined path.now (codes "base")) leaves.old.items
+        (get (codes "base") (view value.now)))
         ≡ Ok (record { tree = tree; leaves = leaves.new.items })) }
     ensures causes { IfErr result (λ e. e ≢ SpecError.Memory
         → in_turn path.now (option_map (λ s. s.now) unknown.entry) (codes "base")
-        (base_at (spec_at names.now room) (joined path.now (codes "base")) leaves.old.items (get (codes "base") (view value.now)))
+        (base_at (spec_at names.now room) (joined path.now (codes "base")) leaves.old.items
+        (get (codes "base") (view value.now)))
         ≡ Err e) }
 {
     none_before(alloc, path, unknown, "base")?;
@@ -154,7 +159,8 @@ fn stack_in(
     leaves: &mut Vec<SpecLeaf>,
     value: &Value,
 ) -> Result<Tree, SpecError>
-    ensures value { IfOk result (λ tree. stack_in (spec_at names.now room) path.now (option_map (λ s. s.now) unknown.entry)
+    ensures value { IfOk result (λ tree. stack_in (spec_at names.now room) path.now (option_map (λ s.
+        s.now) unknown.entry)
         leaves.old.items (view value.now) ≡ Ok (record { tree = tree; leaves = leaves.new.items })) }
     ensures causes { IfErr result (λ e. e ≢ SpecError.Memory → stack_in (spec_at names.now room) path.now
         (option_map (λ s. s.now) unknown.entry) leaves.old.items (view value.now) ≡ Err e) }
@@ -185,11 +191,13 @@ fn layers_in_turn(
     value: &Value,
 ) -> Result<Vec<Tree>, SpecError>
     ensures value { IfOk result (λ trees. in_turn path.now (option_map (λ s. s.now) unknown.entry) (codes "layers")
-        (layers_at (spec_at names.now room) (joined path.now (codes "layers")) leaves.old.items (get (codes "layers") (view value.now)))
+        (layers_at (spec_at names.now room) (joined path.now (codes "layers")) leaves.old.items
+        (get (codes "layers") (view value.now)))
         ≡ Ok (record { trees = trees.items; leaves = leaves.new.items })) }
     ensures causes { IfErr result (λ e. e ≢ SpecError.Memory
         → in_turn path.now (option_map (λ s. s.now) unknown.entry) (codes "layers")
-        (layers_at (spec_at names.now room) (joined path.now (codes "layers")) leaves.old.items (get (codes "layers") (view value.now)))
+        (layers_at (spec_at names.now room) (joined path.now (codes "layers")) leaves.old.items
+        (get (codes "layers") (view value.now)))
         ≡ Err e) }
 {
     none_before(alloc, path, unknown, "layers")?;
@@ -209,7 +217,8 @@ fn layers_of(
     leaves: &mut Vec<SpecLeaf>,
     items: &[Value],
 ) -> Result<Vec<Tree>, SpecError>
-    ensures value { IfOk result (λ trees. layers_behind (spec_at names.now room) path.now [] leaves.old.items (map view items.now)
+    ensures value { IfOk result (λ trees. layers_behind (spec_at names.now room) path.now [] leaves.old.items
+        (map view items.now)
         ≡ Ok (record { trees = trees.items; leaves = leaves.new.items })) }
     ensures causes { IfErr result (λ e. e ≢ SpecError.Memory
         → layers_behind (spec_at names.now room) path.now [] leaves.old.items (map view items.now) ≡ Err e) }
@@ -233,7 +242,8 @@ fn layer_at(
     leaves: &mut Vec<SpecLeaf>,
     value: &Value,
 ) -> Result<Tree, SpecError>
-    ensures value { IfOk result (λ tree. spec_at names.now room (joined path.now (decimal number)) leaves.old.items (view value.now)
+    ensures value { IfOk result (λ tree. spec_at names.now room (joined path.now (decimal number)) leaves.old.items
+        (view value.now)
         ≡ Ok (record { tree = tree; leaves = leaves.new.items })) }
     ensures causes { IfErr result (λ e. e ≢ SpecError.Memory
         → spec_at names.now room (joined path.now (decimal number)) leaves.old.items (view value.now) ≡ Err e) }

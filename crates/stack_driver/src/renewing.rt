@@ -90,8 +90,10 @@ fn tighten_over(
     transform: &mut Transform,
     array: &ArrayRef,
 ) -> Result<(), RenewError>
-    ensures ok { OnOk result (leaf_of array.now (tighten_answer transform.old (array_domain array.now)) ≡ Ok (view.Leaf array.now transform.new)) }
-    ensures err { IfErr result (λ e. e ≢ RenewError.Memory → leaf_of array.now (tighten_answer transform.old (array_domain array.now)) ≡ Err e) }
+    ensures ok { OnOk result (leaf_of array.now (tighten_answer transform.old (array_domain array.now))
+        ≡ Ok (view.Leaf array.now transform.new)) }
+    ensures err { IfErr result (λ e. e ≢ RenewError.Memory
+        → leaf_of array.now (tighten_answer transform.old (array_domain array.now)) ≡ Err e) }
 {
     let domain = array_domain(alloc, array)?;
     match tighten(alloc, transform, &domain) {

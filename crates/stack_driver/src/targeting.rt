@@ -57,8 +57,10 @@ fn covering(
     index: &[i64],
 ) -> Result<(usize, Vec<i64>), TargetError>
     requires inside { IsTrue (has_index transform.now.domain.dims index.now) }
-    ensures ok { IfOk result (λ p. (p.1.items ≡ value_at transform.now index.now) × IsLast layers.now p.1.items (Some p.0)) }
-    ensures err { IfErr result (λ e. e ≢ TargetError.Memory → (e ≡ TargetError.Uncovered) × IsLast layers.now (value_at transform.now index.now) None) }
+    ensures ok { IfOk result (λ p. (p.1.items ≡ value_at transform.now index.now)
+        × IsLast layers.now p.1.items (Some p.0)) }
+    ensures err { IfErr result (λ e. e ≢ TargetError.Memory → (e ≡ TargetError.Uncovered)
+        × IsLast layers.now (value_at transform.now index.now) None) }
 {
     let Some(inner) = finite_values(alloc, transform, index)? else {
         return Err(TargetError::Uncovered);
@@ -77,7 +79,8 @@ fn finite_values(
 ) -> Result<Option<Vec<i64>>, AllocError>
     requires inside { IsTrue (has_index transform.now.domain.dims index.now) }
     ensures some { IfOk result (λ o. IfSome o (λ numbers. numbers.items ≡ value_at transform.now index.now)) }
-    ensures none { IfOk result (λ o. IfNone o ((dims : List Bounds) → has_index dims (value_at transform.now index.now) ≡ false)) }
+    ensures none { IfOk result (λ o. IfNone o ((dims : List Bounds)
+        → has_index dims (value_at transform.now index.now) ≡ false)) }
 {
     match transform.at(alloc, index) {
         Ok(numbers) => Ok(Some(numbers)),
@@ -142,8 +145,10 @@ fn leaf_target(
 ) -> Result<Target, TargetError>
     requires node { length transform.now.maps ≡ length array.now.shape }
     requires inside { IsTrue (has_index transform.now.domain.dims index.now) }
-    ensures ok { IfOk result (λ t. leaf_target array.now (in_shape 0 (value_at transform.now index.now) array.now.shape) ≡ Ok t) }
-    ensures err { IfErr result (λ e. e ≢ TargetError.Memory → leaf_target array.now (in_shape 0 (value_at transform.now index.now) array.now.shape) ≡ Err e) }
+    ensures ok { IfOk result (λ t. leaf_target array.now
+        (in_shape 0 (value_at transform.now index.now) array.now.shape) ≡ Ok t) }
+    ensures err { IfErr result (λ e. e ≢ TargetError.Memory
+        → leaf_target array.now (in_shape 0 (value_at transform.now index.now) array.now.shape) ≡ Err e) }
     ensures casts { IfOk result (λ t. LeadTo t.casts array.now.dtype) }
 {
     let inner = index_in(alloc, transform, index, array.shape.items())?;
@@ -164,9 +169,11 @@ fn index_in(
     requires ranks { length transform.now.maps ≡ length shape.now }
     requires inside { IsTrue (has_index transform.now.domain.dims index.now) }
     requires sizes { IsShape shape.now }
-    ensures ok { IfOk result (λ numbers. in_shape 0 (value_at transform.now index.now) shape.now ≡ Ok (map unsigned_abs numbers.items)) }
+    ensures ok { IfOk result (λ numbers. in_shape 0 (value_at transform.now index.now) shape.now
+        ≡ Ok (map unsigned_abs numbers.items)) }
     ensures from_zero { IfOk result (λ numbers. All (λ x. pos 0 ≤ℤ x) numbers.items) }
-    ensures err { IfErr result (λ e. e ≢ TargetError.Memory → IsOutside (in_shape 0 (value_at transform.now index.now) shape.now) e) }
+    ensures err { IfErr result (λ e. e ≢ TargetError.Memory
+        → IsOutside (in_shape 0 (value_at transform.now index.now) shape.now) e) }
 {
     let mut numbers = Vec::with_capacity(alloc, shape.len())?;
     for (dim, size) in shape.iter().enumerate() {

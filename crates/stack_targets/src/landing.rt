@@ -64,7 +64,8 @@ fn finite_values(transform: &Transform, index: &[i64], out: &mut [i64]) -> bool
     requires room { length out.old ≡ length transform.now.maps }
     requires inside { IsTrue (has_index transform.now.domain.dims index.now) }
     ensures finite { result ≡ true → out.new ≡ value_at transform.now index.now }
-    ensures infinite { result ≡ false → (dims : List Bounds) → has_index dims (value_at transform.now index.now) ≡ false }
+    ensures infinite { result ≡ false → (dims : List Bounds)
+        → has_index dims (value_at transform.now index.now) ≡ false }
 {
     for output in 0..out.len() {
         let number = transform.number(output, index);
@@ -128,8 +129,10 @@ fn land_in_array(
 ) -> Result<u32, TargetError>
     requires node { length transform.now.maps ≡ length array.now.shape }
     requires inside { IsTrue (has_index transform.now.domain.dims index.now) }
-    ensures ok { IfOk result (λ leaf. IsPut (first_landing (in_shape 0 (value_at transform.now index.now) array.now.shape)) leaf numbers.old.items numbers.new.items) }
-    ensures err { IfErr result (λ e. e ≢ TargetError.Memory → first_landing (in_shape 0 (value_at transform.now index.now) array.now.shape) ≡ Err e) }
+    ensures ok { IfOk result (λ leaf. IsPut (first_landing
+        (in_shape 0 (value_at transform.now index.now) array.now.shape)) leaf numbers.old.items numbers.new.items) }
+    ensures err { IfErr result (λ e. e ≢ TargetError.Memory
+        → first_landing (in_shape 0 (value_at transform.now index.now) array.now.shape) ≡ Err e) }
 {
     index_in(transform, index, array.shape.items(), numbers)?;
     Ok(0)
@@ -145,8 +148,10 @@ fn index_in(
     requires ranks { length transform.now.maps ≡ length shape.now }
     requires inside { IsTrue (has_index transform.now.domain.dims index.now) }
     requires sizes { IsShape shape.now }
-    ensures ok { OnOk result (IsInside (in_shape 0 (value_at transform.now index.now) shape.now) numbers.old.items numbers.new.items) }
-    ensures err { IfErr result (λ e. e ≢ TargetError.Memory → IsOutside (in_shape 0 (value_at transform.now index.now) shape.now) e) }
+    ensures ok { OnOk result (IsInside (in_shape 0
+        (value_at transform.now index.now) shape.now) numbers.old.items numbers.new.items) }
+    ensures err { IfErr result (λ e. e ≢ TargetError.Memory
+        → IsOutside (in_shape 0 (value_at transform.now index.now) shape.now) e) }
 {
     for (dim, size) in shape.iter().enumerate() {
         let number = transform.number(dim, index);

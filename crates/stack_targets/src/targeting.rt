@@ -126,7 +126,8 @@ fn gather(
     requires room { length index.old ≡ length (look_of v.now).dims }
     requires no_leaves { buffers.old.leaves.items ≡ [] }
     requires no_numbers { buffers.old.numbers.items ≡ [] }
-    ensures ok { OnOk result (all_landings v.now ≡ Ok (told_landings (leaves_of v.now) buffers.new.leaves.items buffers.new.numbers.items)) }
+    ensures ok { OnOk result (all_landings v.now
+        ≡ Ok (told_landings (leaves_of v.now) buffers.new.leaves.items buffers.new.numbers.items)) }
     ensures err { IfErr result (λ e. e ≢ TargetsError.Memory → all_landings v.now ≡ Err e) }
 {
     while walk.advance(index) {

@@ -1,5 +1,4 @@
 // One call on a state: `{"call":NAME, arguments}`.
-ghost use Rattle.state_laws.specs.Seen.{seen_of};
 ghost use Rattle.state_cases.specs.Ready.{IsReady};
 
 use crate::chunks::chunk;
@@ -17,8 +16,8 @@ pub(crate) fn answer<K: KvStore>(
     v: &Value,
     state: &mut State<K>,
 ) -> Result<String, Fault>
-    requires { IsReady (seen_of K.contents K.faults K.prefixes K.names K.standing K.change_count state.old.store) state.old.log }
-    ensures { IsReady (seen_of K.contents K.faults K.prefixes K.names K.standing K.change_count state.new.store) state.new.log }
+    requires { IsReady (K.seen state.old.store) state.old.log }
+    ensures { IsReady (K.seen state.new.store) state.new.log }
 {
     match text(v, "call")? {
         "open" => open(alloc, v, state),
@@ -32,14 +31,14 @@ pub(crate) fn answer<K: KvStore>(
 }
 
 fn generation<K: KvStore>(alloc: Global, state: &State<K>, key: &str) -> Result<String, Fault>
-    requires { IsReady (seen_of K.contents K.faults K.prefixes K.names K.standing K.change_count state.now.store) state.now.log }
+    requires { IsReady (K.seen state.now.store) state.now.log }
 {
     told(alloc, &state.generation(key))
 }
 
 // An array's present bounds and form, or that there is none of this number.
 fn array<K: KvStore>(alloc: Global, state: &State<K>, array: u64) -> Result<String, Fault>
-    requires { IsReady (seen_of K.contents K.faults K.prefixes K.names K.standing K.change_count state.now.store) state.now.log }
+    requires { IsReady (K.seen state.now.store) state.now.log }
 {
     if !state.has_array(array) {
         return told(alloc, &"no array");

@@ -1,6 +1,5 @@
 // Calls for a chunk: `{"call":NAME,"array":N,"chunk":[..]}`.
 ghost use Rattle.std.specs.Prelude.{◌≡◌};
-ghost use Rattle.state_laws.specs.Seen.{seen_of};
 ghost use Rattle.state_laws.specs.Fetches.{IsChunkOf};
 ghost use Rattle.state_cases.specs.Ready.{IsReady};
 
@@ -19,8 +18,8 @@ pub(crate) fn chunk<K: KvStore>(
     v: &Value,
     state: &mut State<K>,
 ) -> Result<String, Fault>
-    requires { IsReady (seen_of K.contents K.faults K.prefixes K.names K.standing K.change_count state.old.store) state.old.log }
-    ensures { IsReady (seen_of K.contents K.faults K.prefixes K.names K.standing K.change_count state.new.store) state.new.log }
+    requires { IsReady (K.seen state.old.store) state.old.log }
+    ensures { IsReady (K.seen state.new.store) state.new.log }
 {
     let chunk = sizes(alloc, v, "chunk")?;
     of_chunk(
@@ -43,8 +42,8 @@ fn of_chunk<K: KvStore>(
     chunk: &[u64],
     state: &mut State<K>,
 ) -> Result<String, Fault>
-    requires { IsReady (seen_of K.contents K.faults K.prefixes K.names K.standing K.change_count state.old.store) state.old.log }
-    ensures { IsReady (seen_of K.contents K.faults K.prefixes K.names K.standing K.change_count state.new.store) state.new.log }
+    requires { IsReady (K.seen state.old.store) state.old.log }
+    ensures { IsReady (K.seen state.new.store) state.new.log }
 {
     if !state.is_chunk(array, chunk) {
         return told(alloc, &"no chunk");
@@ -67,9 +66,9 @@ fn fetch<K: KvStore>(
     chunk: &[u64],
     state: &mut State<K>,
 ) -> Result<String, Fault>
-    requires ready { IsReady (seen_of K.contents K.faults K.prefixes K.names K.standing K.change_count state.old.store) state.old.log }
+    requires ready { IsReady (K.seen state.old.store) state.old.log }
     requires chunk { IsChunkOf state.old.log.events (record { array = array; index = chunk.now }) }
-    ensures { IsReady (seen_of K.contents K.faults K.prefixes K.names K.standing K.change_count state.new.store) state.new.log }
+    ensures { IsReady (K.seen state.new.store) state.new.log }
 {
     let answer = state.fetch(owner, array, chunk);
     told(alloc, &answer)
@@ -82,9 +81,9 @@ fn look<K: KvStore>(
     chunk: &[u64],
     state: &mut State<K>,
 ) -> Result<String, Fault>
-    requires ready { IsReady (seen_of K.contents K.faults K.prefixes K.names K.standing K.change_count state.old.store) state.old.log }
+    requires ready { IsReady (K.seen state.old.store) state.old.log }
     requires chunk { IsChunkOf state.old.log.events (record { array = array; index = chunk.now }) }
-    ensures { IsReady (seen_of K.contents K.faults K.prefixes K.names K.standing K.change_count state.new.store) state.new.log }
+    ensures { IsReady (K.seen state.new.store) state.new.log }
 {
     let answer = state.look(owner, array, chunk);
     told(alloc, &answer)
@@ -96,9 +95,9 @@ fn kept<K: KvStore>(
     chunk: &[u64],
     state: &mut State<K>,
 ) -> Result<String, Fault>
-    requires ready { IsReady (seen_of K.contents K.faults K.prefixes K.names K.standing K.change_count state.old.store) state.old.log }
+    requires ready { IsReady (K.seen state.old.store) state.old.log }
     requires chunk { IsChunkOf state.old.log.events (record { array = array; index = chunk.now }) }
-    ensures { IsReady (seen_of K.contents K.faults K.prefixes K.names K.standing K.change_count state.new.store) state.new.log }
+    ensures { IsReady (K.seen state.new.store) state.new.log }
 {
     let answer = state.kept(array, chunk);
     told(alloc, &answer)

@@ -2,7 +2,6 @@
 // `{"call":"local","dtype":D,"shape":[..],"numbers":[..]}`.
 ghost use Rattle.std.specs.Prelude.{◌≡◌, ◌≤◌, ◌^◌, IfOk, IsTrue, length, map, max};
 ghost use Rattle.cells.specs.Places.{cell_count};
-ghost use Rattle.state_laws.specs.Seen.{seen_of};
 ghost use Rattle.state_cases.specs.Ready.{IsReady};
 ghost use Rattle.state_cases.specs.Shapes.{IsLocalShape};
 
@@ -25,8 +24,8 @@ pub(crate) fn open<K: KvStore>(
     v: &Value,
     state: &mut State<K>,
 ) -> Result<String, Fault>
-    requires { IsReady (seen_of K.contents K.faults K.prefixes K.names K.standing K.change_count state.old.store) state.old.log }
-    ensures { IsReady (seen_of K.contents K.faults K.prefixes K.names K.standing K.change_count state.new.store) state.new.log }
+    requires { IsReady (K.seen state.old.store) state.old.log }
+    ensures { IsReady (K.seen state.new.store) state.new.log }
 {
     let want = want(alloc, v)?;
     opened(alloc, owner(v)?, text(v, "path")?, &want, v, state)
@@ -40,8 +39,8 @@ fn opened<K: KvStore>(
     v: &Value,
     state: &mut State<K>,
 ) -> Result<String, Fault>
-    requires { IsReady (seen_of K.contents K.faults K.prefixes K.names K.standing K.change_count state.old.store) state.old.log }
-    ensures { IsReady (seen_of K.contents K.faults K.prefixes K.names K.standing K.change_count state.new.store) state.new.log }
+    requires { IsReady (K.seen state.old.store) state.old.log }
+    ensures { IsReady (K.seen state.new.store) state.new.log }
 {
     let may_open = is_true(v, "open");
     let may_create = is_true(v, "create");
@@ -93,8 +92,8 @@ pub(crate) fn open_local<K: KvStore>(
     v: &Value,
     state: &mut State<K>,
 ) -> Result<String, Fault>
-    requires { IsReady (seen_of K.contents K.faults K.prefixes K.names K.standing K.change_count state.old.store) state.old.log }
-    ensures { IsReady (seen_of K.contents K.faults K.prefixes K.names K.standing K.change_count state.new.store) state.new.log }
+    requires { IsReady (K.seen state.old.store) state.old.log }
+    ensures { IsReady (K.seen state.new.store) state.new.log }
 {
     let dtype = Dtype::named(text(v, "dtype")?).ok_or(Fault::Line)?;
     let shape = sizes(alloc, v, "shape")?;
@@ -108,8 +107,8 @@ fn of_shape<K: KvStore>(
     v: &Value,
     state: &mut State<K>,
 ) -> Result<String, Fault>
-    requires { IsReady (seen_of K.contents K.faults K.prefixes K.names K.standing K.change_count state.old.store) state.old.log }
-    ensures { IsReady (seen_of K.contents K.faults K.prefixes K.names K.standing K.change_count state.new.store) state.new.log }
+    requires { IsReady (K.seen state.old.store) state.old.log }
+    ensures { IsReady (K.seen state.new.store) state.new.log }
 {
     let owner = owner(v)?;
     let numbers = items(member(v, "numbers")?)?;
@@ -153,7 +152,7 @@ fn dense(alloc: Global, dtype: Dtype, shape: &[u64], numbers: &[Value]) -> Resul
     ensures { IfOk result (λ d. d.shape ≡ shape.now) }
 {
     let mut dense = Dense::filled(alloc, dtype, shape, zero(dtype)?)?;
-    if numbers.len() != dense.words().len() {
+    if numbers.len() != dense.count() {
         return Err(Fault::Line);
     }
     for place in 0..numbers.len() {

@@ -7,7 +7,6 @@ ghost use Rattle.chunk_forms.specs.Metadata as meta;
 ghost use Rattle.history.specs.Arrays.{Known, known_after, form_of};
 ghost use Rattle.history.specs.Resizes.{reaches_into};
 ghost use Rattle.rebase_writes.specs.Staged.{AreWords};
-ghost use Rattle.state_laws.specs.Seen.{seen_of};
 ghost use Rattle.state_laws.specs.Fetches.{IsChunkOf};
 ghost use Rattle.state_cases.specs.Ready.{IsReady};
 
@@ -33,9 +32,9 @@ pub(crate) fn plan<K: KvStore>(
     v: &Value,
     state: &mut State<K>,
 ) -> Result<String, Fault>
-    requires ready { IsReady (seen_of K.contents K.faults K.prefixes K.names K.standing K.change_count state.old.store) state.old.log }
+    requires ready { IsReady (K.seen state.old.store) state.old.log }
     requires chunk { IsChunkOf state.old.log.events (record { array = array; index = chunk.now }) }
-    ensures { IsReady (seen_of K.contents K.faults K.prefixes K.names K.standing K.change_count state.new.store) state.new.log }
+    ensures { IsReady (K.seen state.new.store) state.new.log }
 {
     let form = state.info(array)?;
     if reaches(&form, chunk) {
@@ -65,12 +64,13 @@ fn plan_in<K: KvStore>(
     form: &Form,
     state: &mut State<K>,
 ) -> Result<String, Fault>
-    requires ready { IsReady (seen_of K.contents K.faults K.prefixes K.names K.standing K.change_count state.old.store) state.old.log }
+    requires ready { IsReady (K.seen state.old.store) state.old.log }
     requires chunk { IsChunkOf state.old.log.events (record { array = array; index = chunk.now }) }
-    requires form { (k : Known) → known_after state.old.log.events array ≡ Some k → form.now ≡ with_shape (form_of k.info.home) k.shape }
+    requires form { (k : Known) → known_after state.old.log.events array ≡ Some k
+        → form.now ≡ with_shape (form_of k.info.home) k.shape }
     requires stored { meta.is_local form.now ≡ false }
     requires reached { reaches_into (chunk_shape_of form.now) (shape_of form.now) chunk.now ≡ true }
-    ensures { IsReady (seen_of K.contents K.faults K.prefixes K.names K.standing K.change_count state.new.store) state.new.log }
+    ensures { IsReady (K.seen state.new.store) state.new.log }
 {
     let staged = staged_of(
         alloc,
@@ -92,14 +92,15 @@ fn plan_staged<K: KvStore>(
     form: &Form,
     state: &mut State<K>,
 ) -> Result<String, Fault>
-    requires ready { IsReady (seen_of K.contents K.faults K.prefixes K.names K.standing K.change_count state.old.store) state.old.log }
+    requires ready { IsReady (K.seen state.old.store) state.old.log }
     requires chunk { IsChunkOf state.old.log.events (record { array = array; index = chunk.now }) }
-    requires form { (k : Known) → known_after state.old.log.events array ≡ Some k → form.now ≡ with_shape (form_of k.info.home) k.shape }
+    requires form { (k : Known) → known_after state.old.log.events array ≡ Some k
+        → form.now ≡ with_shape (form_of k.info.home) k.shape }
     requires stored { meta.is_local form.now ≡ false }
     requires reached { reaches_into (chunk_shape_of form.now) (shape_of form.now) chunk.now ≡ true }
     requires size { length staged.now ≡ cell_count (chunk_shape_of form.now) }
     requires words { AreWords (dtype_of form.now) staged.now }
-    ensures { IsReady (seen_of K.contents K.faults K.prefixes K.names K.standing K.change_count state.new.store) state.new.log }
+    ensures { IsReady (K.seen state.new.store) state.new.log }
 {
     let key = state.key(array, chunk)?;
     let write = ChunkWrite {

@@ -1,7 +1,6 @@
 // A new shape: `{"call":"resize","array":N,"shape":[..]}`.
 ghost use Rattle.std.specs.Prelude.{◌≡◌, IsTrue, length};
 ghost use Rattle.cells.specs.Shapes.{IsShape};
-ghost use Rattle.state_laws.specs.Seen.{seen_of};
 ghost use Rattle.state_resizes.specs.Conditions.{IsAsked};
 ghost use Rattle.state_cases.specs.Ready.{IsReady};
 
@@ -19,8 +18,8 @@ pub(crate) fn new_shape<K: KvStore>(
     v: &Value,
     state: &mut State<K>,
 ) -> Result<String, Fault>
-    requires { IsReady (seen_of K.contents K.faults K.prefixes K.names K.standing K.change_count state.old.store) state.old.log }
-    ensures { IsReady (seen_of K.contents K.faults K.prefixes K.names K.standing K.change_count state.new.store) state.new.log }
+    requires { IsReady (K.seen state.old.store) state.old.log }
+    ensures { IsReady (K.seen state.new.store) state.new.log }
 {
     let shape = sizes(alloc, v, "shape")?;
     of_array(alloc, owner(v)?, number(v, "array")?, &shape, state)
@@ -33,8 +32,8 @@ fn of_array<K: KvStore>(
     shape: &[u64],
     state: &mut State<K>,
 ) -> Result<String, Fault>
-    requires { IsReady (seen_of K.contents K.faults K.prefixes K.names K.standing K.change_count state.old.store) state.old.log }
-    ensures { IsReady (seen_of K.contents K.faults K.prefixes K.names K.standing K.change_count state.new.store) state.new.log }
+    requires { IsReady (K.seen state.old.store) state.old.log }
+    ensures { IsReady (K.seen state.new.store) state.new.log }
 {
     if !state.has_array(array) || state.is_local(array) {
         return told(alloc, &"no stored array");
@@ -61,9 +60,9 @@ fn resized<K: KvStore>(
     shape: &[u64],
     state: &mut State<K>,
 ) -> Result<String, Fault>
-    requires ready { IsReady (seen_of K.contents K.faults K.prefixes K.names K.standing K.change_count state.old.store) state.old.log }
+    requires ready { IsReady (K.seen state.old.store) state.old.log }
     requires asked { IsAsked state.old.log.events array shape.now }
-    ensures { IsReady (seen_of K.contents K.faults K.prefixes K.names K.standing K.change_count state.new.store) state.new.log }
+    ensures { IsReady (K.seen state.new.store) state.new.log }
 {
     let answer = resize(alloc, state, owner, array, shape);
     told(alloc, &answer)

@@ -2,7 +2,6 @@
 // that begins with these, with a cache of so many cells; then the number of calls of `get`, and what stands under the keys.
 // `{"files":FOLDER,"cache":N,"calls":[..]}`: the same calls over the files of a folder.
 ghost use Rattle.std.specs.Prelude.{◌≡◌, ◌≤◌, ◌^◌, None};
-ghost use Rattle.state_laws.specs.Seen.{seen_of};
 ghost use Rattle.state_cases.specs.Ready.{IsReady};
 
 use crate::calls::answer;
@@ -53,7 +52,7 @@ fn over_files(
 // What the calls give, and the store behind them.
 fn called<K: KvStore>(alloc: Global, v: &Value, store: K, limit: u64) -> Result<(String, K), Fault>
     requires limit { limit ≤ 2 ^ 27 }
-    requires every { K.names store ≡ None }
+    requires every { (K.seen store).names ≡ None }
 {
     match State::new(alloc, store, limit) {
         Ok(state) => with_state(alloc, v, state),
@@ -66,7 +65,7 @@ fn with_state<K: KvStore>(
     v: &Value,
     mut state: State<K>,
 ) -> Result<(String, K), Fault>
-    requires { IsReady (seen_of K.contents K.faults K.prefixes K.names K.standing K.change_count state.store) state.log }
+    requires { IsReady (K.seen state.store) state.log }
 {
     let text = answers(alloc, items(member(v, "calls")?)?, &mut state)?;
     let (store, _) = state.into_parts();
@@ -78,7 +77,7 @@ fn answers<K: KvStore>(
     calls: &[Value],
     state: &mut State<K>,
 ) -> Result<String, Fault>
-    requires { IsReady (seen_of K.contents K.faults K.prefixes K.names K.standing K.change_count state.old.store) state.old.log }
+    requires { IsReady (K.seen state.old.store) state.old.log }
 {
     let mut text = String::new(alloc);
     for call in calls {
@@ -93,8 +92,8 @@ fn put_answer<K: KvStore>(
     call: &Value,
     state: &mut State<K>,
 ) -> Result<(), Fault>
-    requires { IsReady (seen_of K.contents K.faults K.prefixes K.names K.standing K.change_count state.old.store) state.old.log }
-    ensures { IsReady (seen_of K.contents K.faults K.prefixes K.names K.standing K.change_count state.new.store) state.new.log }
+    requires { IsReady (K.seen state.old.store) state.old.log }
+    ensures { IsReady (K.seen state.new.store) state.new.log }
 {
     let line = answer(alloc, call, state)?;
     text.push_str(line.as_str())?;

@@ -5,7 +5,6 @@ ghost use Rattle.cells.specs.Numbers.{IsWord};
 ghost use Rattle.cells.specs.Places.{IsInside};
 ghost use Rattle.chunk_forms.specs.Metadata as meta;
 ghost use Rattle.chunk_forms.specs.Words.{stored_word};
-ghost use Rattle.state_laws.specs.Seen.{seen_of};
 ghost use Rattle.state_laws.specs.Fetches.{IsChunkOf};
 ghost use Rattle.state_cases.specs.Ready.{IsReady};
 ghost use Rattle.state_cases.specs.Usable.{IsReadyWith, IsReadyFor, IsReadyBy};
@@ -27,9 +26,9 @@ pub(crate) fn settle<K: KvStore>(
     chunk: &[u64],
     state: &mut State<K>,
 ) -> Result<String, Fault>
-    requires ready { IsReady (seen_of K.contents K.faults K.prefixes K.names K.standing K.change_count state.old.store) state.old.log }
+    requires ready { IsReady (K.seen state.old.store) state.old.log }
     requires chunk { IsChunkOf state.old.log.events (record { array = array; index = chunk.now }) }
-    ensures { IsReady (seen_of K.contents K.faults K.prefixes K.names K.standing K.change_count state.new.store) state.new.log }
+    ensures { IsReady (K.seen state.new.store) state.new.log }
 {
     match state.look(owner, array, chunk) {
         Ok(look) => settle_look(alloc, array, chunk, &look, state),
@@ -44,9 +43,10 @@ fn settle_look<K: KvStore>(
     look: &Look,
     state: &mut State<K>,
 ) -> Result<String, Fault>
-    requires ready { IsReadyWith (seen_of K.contents K.faults K.prefixes K.names K.standing K.change_count state.old.store) state.old.log (record { array = array; index = chunk.now }) look.now }
+    requires ready { IsReadyWith (K.seen state.old.store) state.old.log
+        (record { array = array; index = chunk.now }) look.now }
     requires chunk { IsChunkOf state.old.log.events (record { array = array; index = chunk.now }) }
-    ensures { IsReady (seen_of K.contents K.faults K.prefixes K.names K.standing K.change_count state.new.store) state.new.log }
+    ensures { IsReady (K.seen state.new.store) state.new.log }
 {
     match look {
         Look::Kept { .. } => told(alloc, &"kept"),
@@ -68,9 +68,10 @@ fn settle_bytes<K: KvStore>(
     bytes: &Option<List<u8>>,
     state: &mut State<K>,
 ) -> Result<String, Fault>
-    requires ready { IsReadyFor (seen_of K.contents K.faults K.prefixes K.names K.standing K.change_count state.old.store) state.old.log (record { array = array; index = chunk.now }) generation form.now bytes.now }
+    requires ready { IsReadyFor (K.seen state.old.store) state.old.log
+        (record { array = array; index = chunk.now }) generation form.now bytes.now }
     requires chunk { IsChunkOf state.old.log.events (record { array = array; index = chunk.now }) }
-    ensures { IsReady (seen_of K.contents K.faults K.prefixes K.names K.standing K.change_count state.new.store) state.new.log }
+    ensures { IsReady (K.seen state.new.store) state.new.log }
 {
     match decoded(alloc, form, bytes) {
         Ok(cells) => settle_cells(alloc, array, chunk, generation, cells, state),
@@ -110,9 +111,10 @@ fn settle_cells<K: KvStore>(
     cells: Dense,
     state: &mut State<K>,
 ) -> Result<String, Fault>
-    requires ready { IsReadyBy (seen_of K.contents K.faults K.prefixes K.names K.standing K.change_count state.old.store) state.old.log (record { array = array; index = chunk.now }) (record { generation = generation; cells = cells }) }
+    requires ready { IsReadyBy (K.seen state.old.store) state.old.log (record { array = array; index = chunk.now })
+        (record { generation = generation; cells = cells }) }
     requires chunk { IsChunkOf state.old.log.events (record { array = array; index = chunk.now }) }
-    ensures { IsReady (seen_of K.contents K.faults K.prefixes K.names K.standing K.change_count state.new.store) state.new.log }
+    ensures { IsReady (K.seen state.new.store) state.new.log }
 {
     let Ok(cells) = Arc::new(alloc, cells) else {
         return Err(Fault::Memory);

@@ -2,7 +2,7 @@
 ghost use Rattle.std.specs.Prelude.{◌≡◌, ◌<◌, ◌+◌, ℕ, List, length, Some, Ok, Err, IfOk, OnOk, OnErr};
 ghost use Rattle.kv_face.specs.Store.{Contents, after};
 ghost use Rattle.run_records.specs.Recorded.{done_event};
-ghost use Rattle.state_laws.specs.Seen.{IsFrame, IsQuiet, seen_of};
+ghost use Rattle.state_laws.specs.Seen.{IsFrame, IsQuiet};
 ghost use Rattle.state_laws.specs.Agreement.{IsState};
 ghost use Rattle.state_laws.specs.Changing.{AreMade, KeepsByDeed, committed};
 ghost use Rattle.state_laws.specs.Fetches.{HasFailed};
@@ -30,19 +30,21 @@ pub fn commit_planned<K: KvStore>(
     commit: Commit,
     plans: Vec<Planned>,
 ) -> Result<u64, ChangeError>
-    requires agrees { let seen = seen_of K.contents K.faults K.prefixes K.names K.standing K.change_count in IsState (seen state.old.store) state.old.log }
+    requires agrees { IsState (K.seen state.old.store) state.old.log }
     requires plans { ArePlans state.old.log (done_event owner commit) plans.items }
-    requires made { let seen = seen_of K.contents K.faults K.prefixes K.names K.standing K.change_count in AreMade (seen state.old.store) (changes_of plans.items) }
+    requires made { AreMade (K.seen state.old.store) (changes_of plans.items) }
     ensures number { IfOk result (λ n. n ≡ length state.old.log.events + 1) }
     ensures after { OnOk result (state.new.log ≡ committed_by state.old.log owner commit plans.items) }
-    ensures done { OnOk result ((m : Contents) → K.contents state.old.store ≡ Some m → K.contents state.new.store ≡ Some (after m (changes_of plans.items))) }
-    ensures failed { (event : ℕ) → result ≡ Err (ChangeError.StoreFailed event) → let seen = seen_of K.contents K.faults K.prefixes K.names K.standing K.change_count in
-        HasFailed owner mount (seen state.old.store) (seen state.new.store) state.old.log state.new.log event }
+    ensures done { OnOk result ((m : Contents) → (K.seen state.old.store).contents ≡ Some m
+        → (K.seen state.new.store).contents ≡ Some (after m (changes_of plans.items))) }
+    ensures failed { (event : ℕ) → result ≡ Err (ChangeError.StoreFailed event)
+        → HasFailed owner mount (K.seen state.old.store) (K.seen state.new.store) state.old.log state.new.log event }
     ensures memory { result ≡ Err ChangeError.Memory → state.new.log ≡ state.old.log }
     ensures uncalled { length (changes_of plans.items) ≡ 0 → state.new.store ≡ state.old.store }
-    ensures quiet { let seen = seen_of K.contents K.faults K.prefixes K.names K.standing K.change_count in OnErr result (IsQuiet (seen state.old.store) (seen state.new.store)) }
-    ensures frame { let seen = seen_of K.contents K.faults K.prefixes K.names K.standing K.change_count in IsFrame (seen state.old.store) (seen state.new.store) }
-    ensures kept { let seen = seen_of K.contents K.faults K.prefixes K.names K.standing K.change_count in KeepsByPlans (seen state.old.store) state.old.log owner commit plans.items (seen state.new.store) state.new.log }
+    ensures quiet { OnErr result (IsQuiet (K.seen state.old.store) (K.seen state.new.store)) }
+    ensures frame { IsFrame (K.seen state.old.store) (K.seen state.new.store) }
+    ensures kept { KeepsByPlans (K.seen state.old.store) state.old.log owner commit plans.items
+        (K.seen state.new.store) state.new.log }
 {
     match parted(alloc, plans) {
         Ok(parts) => commit_parts(state, owner, mount, commit, parts),
@@ -58,18 +60,22 @@ fn commit_parts<K: KvStore>(
     commit: Commit,
     parts: Parts,
 ) -> Result<u64, ChangeError>
-    requires agrees { let seen = seen_of K.contents K.faults K.prefixes K.names K.standing K.change_count in IsState (seen state.old.store) state.old.log }
-    requires parts { (plans : List PlannedOf) × ArePlans state.old.log (done_event owner commit) plans × ArePartsOf plans parts }
-    requires made { let seen = seen_of K.contents K.faults K.prefixes K.names K.standing K.change_count in AreMade (seen state.old.store) parts.changes.items }
+    requires agrees { IsState (K.seen state.old.store) state.old.log }
+    requires parts { (plans : List PlannedOf) × ArePlans state.old.log (done_event owner commit) plans
+        × ArePartsOf plans parts }
+    requires made { AreMade (K.seen state.old.store) parts.changes.items }
     ensures number { IfOk result (λ n. n ≡ length state.old.log.events + 1) }
     ensures after { OnOk result (state.new.log ≡ committed state.old.log owner (deed_of mount commit parts)) }
-    ensures done { OnOk result ((m : Contents) → K.contents state.old.store ≡ Some m → K.contents state.new.store ≡ Some (after m parts.changes.items)) }
-    ensures failed { (event : ℕ) → result ≡ Err (ChangeError.StoreFailed event) → let seen = seen_of K.contents K.faults K.prefixes K.names K.standing K.change_count in HasFailed owner mount (seen state.old.store) (seen state.new.store) state.old.log state.new.log event }
+    ensures done { OnOk result ((m : Contents) → (K.seen state.old.store).contents ≡ Some m
+        → (K.seen state.new.store).contents ≡ Some (after m parts.changes.items)) }
+    ensures failed { (event : ℕ) → result ≡ Err (ChangeError.StoreFailed event)
+        → HasFailed owner mount (K.seen state.old.store) (K.seen state.new.store) state.old.log state.new.log event }
     ensures memory { result ≡ Err ChangeError.Memory → state.new.log ≡ state.old.log }
     ensures uncalled { length parts.changes.items ≡ 0 → state.new.store ≡ state.old.store }
-    ensures quiet { let seen = seen_of K.contents K.faults K.prefixes K.names K.standing K.change_count in OnErr result (IsQuiet (seen state.old.store) (seen state.new.store)) }
-    ensures frame { let seen = seen_of K.contents K.faults K.prefixes K.names K.standing K.change_count in IsFrame (seen state.old.store) (seen state.new.store) }
-    ensures kept { let seen = seen_of K.contents K.faults K.prefixes K.names K.standing K.change_count in KeepsByDeed (seen state.old.store) state.old.log owner (deed_of mount commit parts) parts.changes.items (seen state.new.store) state.new.log }
+    ensures quiet { OnErr result (IsQuiet (K.seen state.old.store) (K.seen state.new.store)) }
+    ensures frame { IsFrame (K.seen state.old.store) (K.seen state.new.store) }
+    ensures kept { KeepsByDeed (K.seen state.old.store) state.old.log owner
+        (deed_of mount commit parts) parts.changes.items (K.seen state.new.store) state.new.log }
 {
     let Parts {
         changes,

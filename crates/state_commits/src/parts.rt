@@ -45,7 +45,8 @@ fn add_left(
 
 /// The parts with those of one plan more.
 fn add(alloc: Global, parts: &mut Parts, plan: Planned) -> Result<(), AllocError>
-    ensures changes { OnOk result (parts.new.changes.items ≡ parts.old.changes.items ++ change_of plan.left plan.key []) }
+    ensures changes { OnOk result (parts.new.changes.items
+        ≡ parts.old.changes.items ++ change_of plan.left plan.key []) }
     ensures keys { OnOk result (parts.new.keys.items ≡ parts.old.keys.items ++ plan.key ∷ []) }
     ensures cells { OnOk result (parts.new.cells.items ≡ parts.old.cells.items ++ held_of plan.left []) }
 {

@@ -12,12 +12,11 @@ pub struct AtStart<K: KvStore> {
 impl<K: KvStore> Model for AtStart<K> {
     ghost use Rattle.std.specs.Coded.{codes};
     ghost use Rattle.kv_face.specs.Store.{contents_code};
-    ghost use Rattle.state_laws.specs.Seen.{seen_of};
     ghost use Rattle.state_laws.specs.Agreement.{Opening};
 
     ghost Value = { Opening };
 
     ghost coded = { Prim.hlevel (codes, contents_code) };
 
-    ghost view = { λ a. record { store = seen_of K.contents K.faults K.prefixes K.names K.standing K.change_count a.store; limit = a.limit } };
+    ghost view = { λ a. record { store = K.seen a.store; limit = a.limit } };
 }

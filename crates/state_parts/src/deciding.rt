@@ -19,7 +19,8 @@ pub fn decided(
     may_create: bool,
     bytes: Option<Vec<u8>>,
 ) -> Result<Decided, OpeningRefusal>
-    ensures outcome { (mount path : List ℕ) → IsDecision (leaf_at mount path want.now may_open may_create) (option_map (λ b. b.items) bytes) result }
+    ensures outcome { (mount path : List ℕ) → IsDecision (leaf_at mount path want.now may_open may_create)
+        (option_map (λ b. b.items) bytes) result }
     ensures source { IfOk result (λ d. IsFrom want.now (option_map (λ b. b.items) bytes) d) }
     ensures asked { IfOk result (λ d. is_asked_form want.now (meta_in d) ≡ true) }
     ensures valid { IfOk result (λ d. IsMetadata (meta_in d)) }

@@ -21,7 +21,8 @@ pub fn decode(alloc: Global, form: &Form, bytes: Option<Vec<u8>>) -> Result<Dens
     ensures dtype { IfOk result (λ d. d.dtype ≡ meta.dtype_of form.now) }
     ensures shape { IfOk result (λ d. d.shape ≡ meta.chunk_shape_of form.now) }
     ensures words { IfOk result (λ d. (index : List ℕ) → IsInside (meta.chunk_shape_of form.now) index
-        → stored_word form.now (meta.fill_of form.now) (option_map (λ b. b.items) bytes) index ≡ Some (word_at d index)) }
+        → stored_word form.now (meta.fill_of form.now) (option_map (λ b.
+        b.items) bytes) index ≡ Some (word_at d index)) }
     ensures causes { IfErr result (λ e. e ≢ form_error.Memory → (cause : DamageOf) × (e ≡ form_error.Damaged cause)
         × (stored_fault form.now (option_map (λ b. b.items) bytes) ≡ Some cause)) }
 {

@@ -84,7 +84,8 @@ fn prepare(alloc: Global, records: &mut Records, key: &str) -> Result<(), AllocE
 pub fn enter_commit(records: &mut Records, owner: u32, deed: Deed) -> u64
     requires room { 0 < records.old.event_room }
     requires prepared { AllByRecursion (IsPrepared records.old.prepared) deed.keys.items }
-    requires known { AllByRecursion (λ (c : HeldCellsOf). IsSome (known_after records.old.events c.array)) deed.cells.items }
+    requires known { AllByRecursion (λ (c : HeldCellsOf).
+        IsSome (known_after records.old.events c.array)) deed.cells.items }
     ensures number { result ≡ length records.old.events + 1 }
     ensures after { records.new ≡ record records.old {
       events = records.old.events ++ done_event owner deed.commit ∷ [];
@@ -128,7 +129,8 @@ fn put(records: &mut Records, held: HeldCells)
 
 /// Adds the event of a new shape that was made, where there is room and its keys are prepared.
 pub fn enter_shape(records: &mut Records, owner: u32, new: NewShape) -> u64
-    requires array { (k : Known) × (known_after records.old.events new.array ≡ Some k) × (is_local k.info.home ≡ false) × (new.form ≡ with_shape (form_of k.info.home) new.shape) }
+    requires array { (k : Known) × (known_after records.old.events new.array ≡ Some k) × (is_local k.info.home ≡ false)
+        × (new.form ≡ with_shape (form_of k.info.home) new.shape) }
     requires room { 0 < records.old.event_room }
     requires prepared { AllByRecursion (IsPrepared records.old.prepared) new.keys.items }
     ensures number { result ≡ length records.old.events + 1 }

@@ -37,7 +37,8 @@ fn behind<'a>(mount: &str, path: &str, key: &'a [u8]) -> &'a [u8]
 /// What stands in a key behind the location of an array and a "/".
 pub fn name_in<'a>(home: &Home, key: &'a [u8]) -> &'a [u8]
     requires { (upper rest : List ℕ) × (location home.now ≡ Some upper) × (key.now ≡ upper ++ 47 ∷ rest) }
-    ensures { (upper rest : List ℕ) → location home.now ≡ Some upper → key.now ≡ upper ++ 47 ∷ rest → result.now ≡ rest }
+    ensures { (upper rest : List ℕ) → location home.now ≡ Some upper → key.now ≡ upper ++ 47 ∷ rest
+        → result.now ≡ rest }
 {
     match home {
         Home::Zarr { mount, path, .. } => behind(mount.items(), path.items(), key),

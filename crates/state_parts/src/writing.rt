@@ -11,7 +11,7 @@ ghost use Rattle.history.specs.Arrays.{form_of};
 ghost use Rattle.history.specs.Legal.{is_opening};
 ghost use Rattle.history.specs.Own.{fault};
 ghost use Rattle.history.specs.Places.{IsFree, IsTable, location};
-ghost use Rattle.state_laws.specs.Seen.{IsFrame, seen_of};
+ghost use Rattle.state_laws.specs.Seen.{IsFrame};
 ghost use Rattle.state_laws.specs.Log.{log_of};
 ghost use Rattle.state_laws.specs.Fetches.{HasFailed};
 ghost use Rattle.state_laws.specs.Openings.{IsStoreError};
@@ -65,19 +65,22 @@ pub fn write_array<K: KvStore>(
     requires form { new.form ≡ with_shape (form_of new.info.home) new.info.shape }
     requires at { location new.info.home ≡ Some here.now }
     requires free { IsFree records.old.events here.now }
-    requires table { (before : Located) × IsTable records.old.events before × (places.old ≡ finmap.insert before here.now new.info.number) }
-    requires keys { All (λ (c : ChangeOf). takes (K.names store.old) c.key ≡ true) changes.now }
+    requires table { (before : Located) × IsTable records.old.events before
+        × (places.old ≡ finmap.insert before here.now new.info.number) }
+    requires keys { All (λ (c : ChangeOf). takes ((K.seen store.old).names) c.key ≡ true) changes.now }
     requires distinct { IsDistinct bytes_eq (keys_of changes.now) }
-    requires together { are_together (K.prefixes store.old) changes.now 0 ≡ true }
+    requires together { are_together ((K.seen store.old).prefixes) changes.now 0 ≡ true }
     ensures entered { IfOk result (λ o. (o.array ≡ new.array) × (o.event ≡ Some (length records.old.events + 1))) }
     ensures after { OnOk result (log_of records.new ≡ entered (log_of records.old) owner new.info None) }
-    ensures done { OnOk result ((m : Contents) → K.contents store.old ≡ Some m → K.contents store.new ≡ Some (after m changes.now)) }
-    ensures one_more { OnOk result (0 < length changes.now → OneMore (K.change_count store.old) (K.change_count store.new)) }
-    ensures contents { OnErr result (K.contents store.new ≡ K.contents store.old) }
-    ensures count { OnErr result (K.change_count store.new ≡ K.change_count store.old) }
-    ensures frame { let seen = seen_of K.contents K.faults K.prefixes K.names K.standing K.change_count in IsFrame (seen store.old) (seen store.new) }
-    ensures failed { (event : ℕ) → result ≡ Err (OpenError.StoreFailed event) → let seen = seen_of K.contents K.faults K.prefixes K.names K.standing K.change_count in
-        HasFailed owner mount (seen store.old) (seen store.new) (log_of records.old) (log_of records.new) event }
+    ensures done { OnOk result ((m : Contents) → (K.seen store.old).contents ≡ Some m
+        → (K.seen store.new).contents ≡ Some (after m changes.now)) }
+    ensures one_more { OnOk result (0 < length changes.now
+        → OneMore ((K.seen store.old).changes) ((K.seen store.new).changes)) }
+    ensures contents { OnErr result ((K.seen store.new).contents ≡ (K.seen store.old).contents) }
+    ensures count { OnErr result ((K.seen store.new).changes ≡ (K.seen store.old).changes) }
+    ensures frame { IsFrame (K.seen store.old) (K.seen store.new) }
+    ensures failed { (event : ℕ) → result ≡ Err (OpenError.StoreFailed event)
+        → HasFailed owner mount (K.seen store.old) (K.seen store.new) (log_of records.old) (log_of records.new) event }
     ensures memory { result ≡ Err OpenError.Memory → log_of records.new ≡ log_of records.old }
     ensures errors { OnErr result (IsStoreError result) }
     ensures table { IsTable records.new.events places.new }
@@ -99,8 +102,10 @@ fn unwritten(
 ) -> OpenError
     requires room { 0 < records.old.event_room }
     requires free { IsFree records.old.events here.now }
-    requires table { (before : Located) × (number : ℕ) × IsTable records.old.events before × (places.old ≡ finmap.insert before here.now number) }
-    ensures failed { error ≡ KvError.Failed → (result ≡ OpenError.StoreFailed (length records.old.events + 1)) × (log_of records.new ≡ record (log_of records.old) { events = records.old.events ++ fault owner mount ∷ [] }) }
+    requires table { (before : Located) × (number : ℕ) × IsTable records.old.events before
+        × (places.old ≡ finmap.insert before here.now number) }
+    ensures failed { error ≡ KvError.Failed → (result ≡ OpenError.StoreFailed (length records.old.events + 1))
+        × (log_of records.new ≡ record (log_of records.old) { events = records.old.events ++ fault owner mount ∷ [] }) }
     ensures memory { error ≡ KvError.Memory → (result ≡ OpenError.Memory) × (log_of records.new ≡ log_of records.old) }
     ensures table { IsTable records.new.events places.new }
 {

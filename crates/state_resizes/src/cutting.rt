@@ -8,7 +8,7 @@ ghost use Rattle.chunk_laying.specs.Laid.{IsChunkOf};
 ghost use Rattle.chunk_plans.specs.Left.{IsLeft};
 ghost use Rattle.chunk_plans.specs.Writes.{IsSameButCache};
 ghost use Rattle.state_laws.specs.Agreement.{IsState, KeepsAgreement};
-ghost use Rattle.state_laws.specs.Seen.{IsRead, seen_of};
+ghost use Rattle.state_laws.specs.Seen.{IsRead};
 ghost use Rattle.state_resizes.specs.Cuts.{IsBegun, IsLeftBy};
 ghost use Rattle.state_resizes.specs.Refusals.{IsUnfilled};
 
@@ -35,6 +35,8 @@ fn bytes_of_cut(
     ensures { IfOk result (λ bytes. IsLeft form.now chunk.now [] (Some base.now) bytes) }
 {
     let cells = cut(alloc, form.shape(), chunk, form.fill(), base)?;
+    // A look at the cells, by which it is known how many there are.
+    let _ = cells.count();
     encode_form(alloc, form, chunk, form.fill(), &cells)
 }
 
@@ -46,15 +48,17 @@ fn read_cut<K: KvStore>(
     new: &NewShape,
     chunk: &[u64],
 ) -> Result<Option<List<u8>>, FetchError>
-    requires agrees { let seen = seen_of K.contents K.faults K.prefixes K.names K.standing K.change_count in IsState (seen state.old.store) state.old.log }
+    requires agrees { IsState (K.seen state.old.store) state.old.log }
     requires begun { IsBegun state.old.log.events new.now }
-    requires cut { (k : Known) → known_after state.old.log.events new.now.array ≡ Some k → is_cut (chunk_shape k.info) k.shape new.now.shape chunk.now ≡ true }
+    requires cut { (k : Known) → known_after state.old.log.events new.now.array ≡ Some k
+        → is_cut (chunk_shape k.info) k.shape new.now.shape chunk.now ≡ true }
     requires reached { reaches_into (chunk_shape_of new.now.form) (shape_of new.now.form) chunk.now ≡ true }
-    ensures left { let seen = seen_of K.contents K.faults K.prefixes K.names K.standing K.change_count in IfOk result (IsLeftBy (seen state.old.store) state.old.log new.now.array new.now.shape chunk.now) }
+    ensures left { IfOk result (IsLeftBy (K.seen state.old.store) state.old.log new.now.array new.now.shape chunk.now) }
     ensures same { OnOk result (IsSameButCache state.old.log state.new.log) }
-    ensures read { let seen = seen_of K.contents K.faults K.prefixes K.names K.standing K.change_count in IsRead (seen state.old.store) (seen state.new.store) }
-    ensures refused { let seen = seen_of K.contents K.faults K.prefixes K.names K.standing K.change_count in IfErr result (IsUnfilled owner new.now (seen state.old.store) (seen state.new.store) state.old.log state.new.log) }
-    ensures kept { let seen = seen_of K.contents K.faults K.prefixes K.names K.standing K.change_count in KeepsAgreement (seen state.old.store) state.old.log (seen state.new.store) state.new.log }
+    ensures read { IsRead (K.seen state.old.store) (K.seen state.new.store) }
+    ensures refused { IfErr result (IsUnfilled owner new.now (K.seen state.old.store)
+        (K.seen state.new.store) state.old.log state.new.log) }
+    ensures kept { KeepsAgreement (K.seen state.old.store) state.old.log (K.seen state.new.store) state.new.log }
 {
     let fetched = match state.fetch(owner, new.array, chunk) {
         Ok(fetched) => fetched,
@@ -78,14 +82,16 @@ pub(crate) fn left_of_cut<K: KvStore>(
     new: &NewShape,
     chunk: &[u64],
 ) -> Result<Option<List<u8>>, FetchError>
-    requires agrees { let seen = seen_of K.contents K.faults K.prefixes K.names K.standing K.change_count in IsState (seen state.old.store) state.old.log }
+    requires agrees { IsState (K.seen state.old.store) state.old.log }
     requires begun { IsBegun state.old.log.events new.now }
-    requires cut { (k : Known) → known_after state.old.log.events new.now.array ≡ Some k → is_cut (chunk_shape k.info) k.shape new.now.shape chunk.now ≡ true }
-    ensures left { let seen = seen_of K.contents K.faults K.prefixes K.names K.standing K.change_count in IfOk result (IsLeftBy (seen state.old.store) state.old.log new.now.array new.now.shape chunk.now) }
+    requires cut { (k : Known) → known_after state.old.log.events new.now.array ≡ Some k
+        → is_cut (chunk_shape k.info) k.shape new.now.shape chunk.now ≡ true }
+    ensures left { IfOk result (IsLeftBy (K.seen state.old.store) state.old.log new.now.array new.now.shape chunk.now) }
     ensures same { OnOk result (IsSameButCache state.old.log state.new.log) }
-    ensures read { let seen = seen_of K.contents K.faults K.prefixes K.names K.standing K.change_count in IsRead (seen state.old.store) (seen state.new.store) }
-    ensures refused { let seen = seen_of K.contents K.faults K.prefixes K.names K.standing K.change_count in IfErr result (IsUnfilled owner new.now (seen state.old.store) (seen state.new.store) state.old.log state.new.log) }
-    ensures kept { let seen = seen_of K.contents K.faults K.prefixes K.names K.standing K.change_count in KeepsAgreement (seen state.old.store) state.old.log (seen state.new.store) state.new.log }
+    ensures read { IsRead (K.seen state.old.store) (K.seen state.new.store) }
+    ensures refused { IfErr result (IsUnfilled owner new.now (K.seen state.old.store)
+        (K.seen state.new.store) state.old.log state.new.log) }
+    ensures kept { KeepsAgreement (K.seen state.old.store) state.old.log (K.seen state.new.store) state.new.log }
 {
     if is_gone(new.form.chunk_shape(), new.form.shape(), chunk) {
         return Ok(None);

@@ -4,7 +4,7 @@ ghost use Rattle.kv_face.specs.Store.{keys_of};
 ghost use Rattle.history.specs.Arrays.{Known, known_after, chunk_shape};
 ghost use Rattle.chunk_plans.specs.Writes.{IsSameButCache};
 ghost use Rattle.state_laws.specs.Agreement.{IsState, KeepsAgreement};
-ghost use Rattle.state_laws.specs.Seen.{IsRead, seen_of};
+ghost use Rattle.state_laws.specs.Seen.{IsRead};
 ghost use Rattle.state_resizes.specs.Cuts.{AreAsked, AreCut, AreFilled, bytes_at};
 ghost use Rattle.state_resizes.specs.Refusals.{IsUnfilled};
 
@@ -45,17 +45,20 @@ pub(crate) fn filled<K: KvStore>(
     chunks: &[Sizes],
     asked: Asked,
 ) -> Result<Asked, FetchError>
-    requires agrees { let seen = seen_of K.contents K.faults K.prefixes K.names K.standing K.change_count in IsState (seen state.old.store) state.old.log }
+    requires agrees { IsState (K.seen state.old.store) state.old.log }
     requires cut { AreCut state.old.log.events asked.plan.array asked.plan.shape chunks.now }
     requires asked { AreAsked state.old.log.events chunks.now asked }
     ensures plan { IfOk result (λ next. next.plan ≡ asked.plan) }
     ensures keys { IfOk result (λ next. keys_of next.changes.items ≡ keys_of asked.changes.items) }
     ensures metadata { IfOk result (λ next. bytes_at next.changes.items 0 ≡ bytes_at asked.changes.items 0) }
-    ensures filled { let seen = seen_of K.contents K.faults K.prefixes K.names K.standing K.change_count in IfOk result (λ next. AreFilled (seen state.old.store) state.old.log asked.plan.array asked.plan.shape chunks.now next.changes.items (length chunks.now)) }
+    ensures filled { IfOk result (λ next. AreFilled
+        (K.seen state.old.store) state.old.log asked.plan.array asked.plan.shape chunks.now next.changes.items
+        (length chunks.now)) }
     ensures same { OnOk result (IsSameButCache state.old.log state.new.log) }
-    ensures read { let seen = seen_of K.contents K.faults K.prefixes K.names K.standing K.change_count in IsRead (seen state.old.store) (seen state.new.store) }
-    ensures refused { let seen = seen_of K.contents K.faults K.prefixes K.names K.standing K.change_count in IfErr result (IsUnfilled owner asked.plan (seen state.old.store) (seen state.new.store) state.old.log state.new.log) }
-    ensures kept { let seen = seen_of K.contents K.faults K.prefixes K.names K.standing K.change_count in KeepsAgreement (seen state.old.store) state.old.log (seen state.new.store) state.new.log }
+    ensures read { IsRead (K.seen state.old.store) (K.seen state.new.store) }
+    ensures refused { IfErr result (IsUnfilled owner asked.plan (K.seen state.old.store)
+        (K.seen state.new.store) state.old.log state.new.log) }
+    ensures kept { KeepsAgreement (K.seen state.old.store) state.old.log (K.seen state.new.store) state.new.log }
 {
     let mut asked = asked;
     for place in 0..chunks.len() {

@@ -5,7 +5,6 @@ ghost use Rattle.history.specs.Arrays.{Known, known_after, form_of};
 ghost use Rattle.history.specs.Chunks.{chunk_key, metadata_key};
 ghost use Rattle.state_laws.specs.Agreement.{IsState};
 ghost use Rattle.state_laws.specs.Fetches.{IsChunkOf};
-ghost use Rattle.state_laws.specs.Seen.{seen_of};
 ghost use Rattle.state_resizes.specs.Cuts.{AreAsked, AreCut, IsBegun};
 
 use crate::reshaped::reshaped;
@@ -30,9 +29,10 @@ fn form_by<K: KvStore>(
     array: u64,
     shape: &[u64],
 ) -> Result<Form, AllocError>
-    requires agrees { let seen = seen_of K.contents K.faults K.prefixes K.names K.standing K.change_count in IsState (seen state.now.store) state.now.log }
+    requires agrees { IsState (K.seen state.now.store) state.now.log }
     requires cut { (chunks : List (List ℕ)) × AreCut state.now.log.events array shape.now chunks }
-    ensures { IfOk result (λ form. (k : Known) → known_after state.now.log.events array ≡ Some k → form ≡ with_shape (form_of k.info.home) shape.now) }
+    ensures { IfOk result (λ form. (k : Known) → known_after state.now.log.events array ≡ Some k
+        → form ≡ with_shape (form_of k.info.home) shape.now) }
 {
     let sizes = copy_sizes(alloc, shape)?;
     let form = state.info(array)?;
@@ -46,7 +46,7 @@ pub(crate) fn begun<K: KvStore>(
     array: u64,
     shape: &[u64],
 ) -> Result<NewShape, AllocError>
-    requires agrees { let seen = seen_of K.contents K.faults K.prefixes K.names K.standing K.change_count in IsState (seen state.now.store) state.now.log }
+    requires agrees { IsState (K.seen state.now.store) state.now.log }
     requires cut { (chunks : List (List ℕ)) × AreCut state.now.log.events array shape.now chunks }
     ensures begun { IfOk result (IsBegun state.now.log.events) }
     ensures array { IfOk result (λ new. new.array ≡ array) }
@@ -73,7 +73,8 @@ fn with_metadata<K: KvStore>(
 ) -> Result<Asked, AllocError>
     requires begun { IsBegun state.now.log.events new }
     ensures plan { IfOk result (λ asked. asked.plan ≡ new) }
-    ensures changes { IfOk result (λ asked. (k : Known) (key : List ℕ) → known_after state.now.log.events new.array ≡ Some k → metadata_key k ≡ Some key
+    ensures changes { IfOk result (λ asked. (k : Known) (key : List ℕ)
+        → known_after state.now.log.events new.array ≡ Some k → metadata_key k ≡ Some key
         → asked.changes.items ≡ record { key = key; bytes = Some (metadata_text new.form) } ∷ []) }
 {
     let key = state.metadata_key(new.array)?;
@@ -85,7 +86,8 @@ fn with_metadata<K: KvStore>(
 fn add_key(alloc: Global, asked: &mut Asked, key: Name) -> Result<(), AllocError>
     ensures plan { OnOk result (asked.new.plan ≡ record asked.old.plan { keys = asked.new.plan.keys }) }
     ensures keys { OnOk result (asked.new.plan.keys.items ≡ asked.old.plan.keys.items ++ key ∷ []) }
-    ensures changes { OnOk result (asked.new.changes.items ≡ asked.old.changes.items ++ record { key = key; bytes = None } ∷ []) }
+    ensures changes { OnOk result (asked.new.changes.items
+        ≡ asked.old.changes.items ++ record { key = key; bytes = None } ∷ []) }
 {
     let copy = copy_name(alloc, key.items())?;
     asked.plan.keys.push(copy)?;
@@ -102,9 +104,11 @@ fn add_chunk<K: KvStore>(
 ) -> Result<(), AllocError>
     requires { IsChunkOf state.now.log.events (record { array = asked.old.plan.array; index = chunk.now }) }
     ensures plan { OnOk result (asked.new.plan ≡ record asked.old.plan { keys = asked.new.plan.keys }) }
-    ensures keys { OnOk result ((k : Known) → known_after state.now.log.events asked.old.plan.array ≡ Some k → asked.new.plan.keys.items ≡ asked.old.plan.keys.items ++ chunk_key k chunk.now ∷ []) }
+    ensures keys { OnOk result ((k : Known) → known_after state.now.log.events asked.old.plan.array ≡ Some k
+        → asked.new.plan.keys.items ≡ asked.old.plan.keys.items ++ chunk_key k chunk.now ∷ []) }
     ensures changes { OnOk result ((k : Known) → known_after state.now.log.events asked.old.plan.array ≡ Some k
-        → asked.new.changes.items ≡ asked.old.changes.items ++ record { key = chunk_key k chunk.now; bytes = None } ∷ []) }
+        → asked.new.changes.items
+        ≡ asked.old.changes.items ++ record { key = chunk_key k chunk.now; bytes = None } ∷ []) }
 {
     let key = state.key(asked.plan.array, chunk)?;
     add_key(alloc, asked, key)
@@ -117,7 +121,7 @@ pub(crate) fn asked_of<K: KvStore>(
     new: NewShape,
     chunks: &[Sizes],
 ) -> Result<Asked, AllocError>
-    requires agrees { let seen = seen_of K.contents K.faults K.prefixes K.names K.standing K.change_count in IsState (seen state.now.store) state.now.log }
+    requires agrees { IsState (K.seen state.now.store) state.now.log }
     requires begun { IsBegun state.now.log.events new }
     requires cut { AreCut state.now.log.events new.array new.shape chunks.now }
     requires none { new.keys.items ≡ [] }

@@ -4,7 +4,7 @@ ghost use Rattle.kv_face.specs.Store.{Contents, after};
 ghost use Rattle.state_laws.specs.Agreement.{IsState};
 ghost use Rattle.state_laws.specs.Changing.{AreMade, IsNewShape, KeepsByShape, resized};
 ghost use Rattle.state_laws.specs.Fetches.{HasFailed};
-ghost use Rattle.state_laws.specs.Seen.{IsFrame, IsQuiet, seen_of};
+ghost use Rattle.state_laws.specs.Seen.{IsFrame, IsQuiet};
 
 use crate::keys::Asked;
 use kv_face::KvStore;
@@ -16,17 +16,19 @@ pub(crate) fn make<K: KvStore>(
     owner: u32,
     asked: Asked,
 ) -> Result<u64, ChangeError>
-    requires agrees { let seen = seen_of K.contents K.faults K.prefixes K.names K.standing K.change_count in IsState (seen state.old.store) state.old.log }
+    requires agrees { IsState (K.seen state.old.store) state.old.log }
     requires shape { IsNewShape state.old.log owner asked.plan asked.changes.items }
-    requires made { let seen = seen_of K.contents K.faults K.prefixes K.names K.standing K.change_count in AreMade (seen state.old.store) asked.changes.items }
+    requires made { AreMade (K.seen state.old.store) asked.changes.items }
     ensures number { IfOk result (λ n. n ≡ length state.old.log.events + 1) }
     ensures after { OnOk result (state.new.log ≡ resized state.old.log owner asked.plan) }
-    ensures failed { (event : ℕ) → result ≡ Err (ChangeError.StoreFailed event) → let seen = seen_of K.contents K.faults K.prefixes K.names K.standing K.change_count in
-        HasFailed owner asked.plan.mount (seen state.old.store) (seen state.new.store) state.old.log state.new.log event }
+    ensures failed { (event : ℕ) → result ≡ Err (ChangeError.StoreFailed event)
+        → HasFailed owner asked.plan.mount (K.seen state.old.store)
+        (K.seen state.new.store) state.old.log state.new.log event }
     ensures memory { result ≡ Err ChangeError.Memory → state.new.log ≡ state.old.log }
-    ensures quiet { let seen = seen_of K.contents K.faults K.prefixes K.names K.standing K.change_count in OnErr result (IsQuiet (seen state.old.store) (seen state.new.store)) }
-    ensures frame { let seen = seen_of K.contents K.faults K.prefixes K.names K.standing K.change_count in IsFrame (seen state.old.store) (seen state.new.store) }
-    ensures kept { let seen = seen_of K.contents K.faults K.prefixes K.names K.standing K.change_count in KeepsByShape (seen state.old.store) state.old.log owner asked.plan asked.changes.items (seen state.new.store) state.new.log }
+    ensures quiet { OnErr result (IsQuiet (K.seen state.old.store) (K.seen state.new.store)) }
+    ensures frame { IsFrame (K.seen state.old.store) (K.seen state.new.store) }
+    ensures kept { KeepsByShape (K.seen state.old.store) state.old.log owner asked.plan asked.changes.items
+        (K.seen state.new.store) state.new.log }
 {
     if state.make_room(1, &asked.plan.keys).is_err() {
         return Err(ChangeError::Memory);

@@ -5,7 +5,6 @@ ghost use Rattle.kv_face.specs.Store.{keys_of};
 ghost use Rattle.history.specs.Arrays.{Known, known_after, form_of};
 ghost use Rattle.history.specs.Commit.{are_together};
 ghost use Rattle.state_laws.specs.Agreement.{IsState};
-ghost use Rattle.state_laws.specs.Seen.{seen_of};
 ghost use Rattle.state_resizes.specs.Answers.{IsResize};
 ghost use Rattle.state_resizes.specs.Conditions.{IsAsked};
 ghost use Rattle.state_resizes.specs.Cuts.{AreAsked, AreCut};
@@ -36,9 +35,10 @@ pub fn resize<K: KvStore>(
     array: u64,
     shape: &[u64],
 ) -> Result<u64, ResizeError>
-    requires agrees { let seen = seen_of K.contents K.faults K.prefixes K.names K.standing K.change_count in IsState (seen state.old.store) state.old.log }
+    requires agrees { IsState (K.seen state.old.store) state.old.log }
     requires asked { IsAsked state.old.log.events array shape.now }
-    ensures { let seen = seen_of K.contents K.faults K.prefixes K.names K.standing K.change_count in IsResize owner array shape.now (seen state.old.store) (seen state.new.store) state.old.log state.new.log result }
+    ensures { IsResize owner array shape.now (K.seen state.old.store)
+        (K.seen state.new.store) state.old.log state.new.log result }
 {
     let Ok(form) = state.info(array) else {
         return Err(ResizeError::Memory);
@@ -55,10 +55,12 @@ fn resize_form<K: KvStore>(
     shape: &[u64],
     form: &Form,
 ) -> Result<u64, ResizeError>
-    requires agrees { let seen = seen_of K.contents K.faults K.prefixes K.names K.standing K.change_count in IsState (seen state.old.store) state.old.log }
+    requires agrees { IsState (K.seen state.old.store) state.old.log }
     requires asked { IsAsked state.old.log.events array shape.now }
-    requires form { (k : Known) → known_after state.old.log.events array ≡ Some k → form.now ≡ with_shape (form_of k.info.home) k.shape }
-    ensures { let seen = seen_of K.contents K.faults K.prefixes K.names K.standing K.change_count in IsResize owner array shape.now (seen state.old.store) (seen state.new.store) state.old.log state.new.log result }
+    requires form { (k : Known) → known_after state.old.log.events array ≡ Some k
+        → form.now ≡ with_shape (form_of k.info.home) k.shape }
+    ensures { IsResize owner array shape.now (K.seen state.old.store)
+        (K.seen state.new.store) state.old.log state.new.log result }
 {
     if count_cut(form.chunk_shape(), form.shape(), shape).is_none() {
         let at = state.events().len() as u64;
@@ -79,9 +81,10 @@ fn resize_chunks<K: KvStore>(
     shape: &[u64],
     chunks: &[Sizes],
 ) -> Result<u64, ResizeError>
-    requires agrees { let seen = seen_of K.contents K.faults K.prefixes K.names K.standing K.change_count in IsState (seen state.old.store) state.old.log }
+    requires agrees { IsState (K.seen state.old.store) state.old.log }
     requires cut { AreCut state.old.log.events array shape.now chunks.now }
-    ensures { let seen = seen_of K.contents K.faults K.prefixes K.names K.standing K.change_count in IsResize owner array shape.now (seen state.old.store) (seen state.new.store) state.old.log state.new.log result }
+    ensures { IsResize owner array shape.now (K.seen state.old.store)
+        (K.seen state.new.store) state.old.log state.new.log result }
 {
     let Ok(new) = begun(alloc, state, array, shape) else {
         return Err(ResizeError::Memory);
@@ -100,10 +103,11 @@ fn resize_asked<K: KvStore>(
     chunks: &[Sizes],
     asked: Asked,
 ) -> Result<u64, ResizeError>
-    requires agrees { let seen = seen_of K.contents K.faults K.prefixes K.names K.standing K.change_count in IsState (seen state.old.store) state.old.log }
+    requires agrees { IsState (K.seen state.old.store) state.old.log }
     requires cut { AreCut state.old.log.events asked.plan.array asked.plan.shape chunks.now }
     requires asked { AreAsked state.old.log.events chunks.now asked }
-    ensures { let seen = seen_of K.contents K.faults K.prefixes K.names K.standing K.change_count in IsResize owner asked.plan.array asked.plan.shape (seen state.old.store) (seen state.new.store) state.old.log state.new.log result }
+    ensures { IsResize owner asked.plan.array asked.plan.shape (K.seen state.old.store)
+        (K.seen state.new.store) state.old.log state.new.log result }
 {
     if !state.together(&asked.changes) {
         let keys = asked.changes.len() as u64;
@@ -120,11 +124,12 @@ fn resize_together<K: KvStore>(
     chunks: &[Sizes],
     asked: Asked,
 ) -> Result<u64, ResizeError>
-    requires agrees { let seen = seen_of K.contents K.faults K.prefixes K.names K.standing K.change_count in IsState (seen state.old.store) state.old.log }
+    requires agrees { IsState (K.seen state.old.store) state.old.log }
     requires cut { AreCut state.old.log.events asked.plan.array asked.plan.shape chunks.now }
     requires asked { AreAsked state.old.log.events chunks.now asked }
-    requires together { are_together (K.prefixes state.old.store) (keys_of asked.changes.items) ≡ true }
-    ensures { let seen = seen_of K.contents K.faults K.prefixes K.names K.standing K.change_count in IsResize owner asked.plan.array asked.plan.shape (seen state.old.store) (seen state.new.store) state.old.log state.new.log result }
+    requires together { are_together ((K.seen state.old.store).prefixes) (keys_of asked.changes.items) ≡ true }
+    ensures { IsResize owner asked.plan.array asked.plan.shape (K.seen state.old.store)
+        (K.seen state.new.store) state.old.log state.new.log result }
 {
     match filled(alloc, state, owner, chunks, asked) {
         Ok(asked) => answer_of(make(state, owner, asked)),

@@ -90,7 +90,8 @@ fn dims_before(
     start: i128,
 ) -> Result<Option<Vec<usize>>, AllocError>
     requires { step ≢ pos 0 }
-    ensures value { IfOk result (λ o. option_map (λ v. v.items) o ≡ all_of (dim_numbered rank) (all_before step stop start)) }
+    ensures value { IfOk result (λ o. option_map (λ v.
+        v.items) o ≡ all_of (dim_numbered rank) (all_before step stop start)) }
     ensures bound { IfOk result (λ o. IfSome o (λ v. All (λ dim. dim < rank) v.items)) }
 {
     let mut dims = Vec::new(alloc);

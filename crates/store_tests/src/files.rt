@@ -127,6 +127,18 @@ fn want_of_permission_is_a_fault(rt: HostRuntime) -> Result<(), Fail> {
     Ok(())
 }
 
+// A device's bytes never end: it isn't opened.
+#[test]
+fn a_device_is_a_fault(rt: HostRuntime) -> Result<(), Fail> {
+    if fs::metadata(&rt, "/dev/zero").is_err() {
+        println!(rt; "a device isn't tried: this machine has none")?;
+        return Ok(());
+    }
+    let mut store = FileKv::new(rt, "/dev")?;
+    assert!(rt; get_fails(&mut store, "zero"));
+    Ok(())
+}
+
 #[test]
 fn a_full_device_is_a_fault(rt: HostRuntime) -> Result<(), Fail> {
     if fs::metadata(&rt, "/dev/full").is_err() {

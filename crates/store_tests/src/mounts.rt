@@ -58,16 +58,16 @@ fn key_of(place: u8) -> &'static str
 
 // Whether the key at a place can be read.
 fn reads<K: KvStore>(store: &mut K, place: u8) -> bool
-    requires { K.names store.old ≡ Some three_names }
-    ensures { K.names store.new ≡ Some three_names }
+    requires { (K.seen store.old).names ≡ Some three_names }
+    ensures { (K.seen store.new).names ≡ Some three_names }
 {
     store.get(key_of(place)).is_ok()
 }
 
 // Whether the key at a place can be changed.
 fn changes<K: KvStore>(alloc: Global, store: &mut K, place: u8) -> Result<bool, Fail>
-    requires { K.names store.old ≡ Some three_names }
-    ensures { K.names store.new ≡ Some three_names }
+    requires { (K.seen store.old).names ≡ Some three_names }
+    ensures { (K.seen store.new).names ≡ Some three_names }
 {
     let change = change(alloc, key_of(place), Some(b"1"))?;
     Ok(store.apply(slice::from_ref(&change)).is_ok())
@@ -75,8 +75,8 @@ fn changes<K: KvStore>(alloc: Global, store: &mut K, place: u8) -> Result<bool, 
 
 // Reads each key: all can be read but those of failing stores.
 fn read_all<K: KvStore>(rt: &impl Abort, store: &mut K, fails: u8)
-    requires { K.names store.old ≡ Some three_names }
-    ensures { K.names store.new ≡ Some three_names }
+    requires { (K.seen store.old).names ≡ Some three_names }
+    ensures { (K.seen store.new).names ≡ Some three_names }
 {
     assert!(rt; reads(store, 0) == (fails & 1 == 0));
     assert!(rt; reads(store, 1) == (fails & 2 == 0));
@@ -89,8 +89,8 @@ fn change_all<K: KvStore>(
     store: &mut K,
     fails: u8,
 ) -> Result<(), Fail>
-    requires { K.names store.old ≡ Some three_names }
-    ensures { IfOk result (λ done. K.names store.new ≡ Some three_names) }
+    requires { (K.seen store.old).names ≡ Some three_names }
+    ensures { IfOk result (λ done. (K.seen store.new).names ≡ Some three_names) }
 {
     assert!(rt; changes(rt.alloc(), store, 0)? == (fails & 1 == 0));
     assert!(rt; changes(rt.alloc(), store, 1)? == (fails & 2 == 0));

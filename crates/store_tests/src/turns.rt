@@ -51,7 +51,9 @@ impl Counter {
     // Adds an amount, if there is room and memory.
     fn add(&mut self, owner: u32, amount: u32) -> bool
         ensures most { self.new.most ≡ self.old.most }
-        ensures entries { MatchBool result ((self.new.entries.items ≡ self.old.entries.items ++ record { owner = owner; amount = amount } ∷ []) × (length self.old.entries.items < self.old.most)) (self.new.entries.items ≡ self.old.entries.items) }
+        ensures entries { MatchBool result ((self.new.entries.items
+            ≡ self.old.entries.items ++ record { owner = owner; amount = amount } ∷ [])
+            × (length self.old.entries.items < self.old.most)) (self.new.entries.items ≡ self.old.entries.items) }
     {
         if self.entries.len() >= self.most {
             return false;
@@ -64,7 +66,8 @@ impl Counter {
 fn add<R: Wait>(rt: &R, book: &TurnBook<Counter>, pass: &mut Pass<Counter>, amount: u32) -> bool
     requires { IsIdle book.now pass.old }
     ensures idle { IsIdle book.now pass.new × (pass.new.number ≡ pass.old.number) }
-    ensures added { MatchBool result (pass.new.mine ≡ pass.old.mine ++ record { owner = pass.old.number; amount = amount } ∷ []) (pass.new.mine ≡ pass.old.mine) }
+    ensures added { MatchBool result (pass.new.mine
+        ≡ pass.old.mine ++ record { owner = pass.old.number; amount = amount } ∷ []) (pass.new.mine ≡ pass.old.mine) }
 {
     let mut held = book.take(rt, pass);
     let added = held.state().add(pass.number(), amount);
@@ -93,7 +96,8 @@ fn add_in_each<R: Threads + Wait + Sync>(
     requires idle { All (IsIdle book.now) passes.old }
     requires threads { 0 < threads }
     ensures idle { All (IsIdle book.now) passes.new }
-    ensures numbers { (k : ℕ) (d : _) → k < length passes.old → (slice_index_or passes.new k d).number ≡ (slice_index_or passes.old k d).number }
+    ensures numbers { (k : ℕ) (d : _) → k < length passes.old
+        → (slice_index_or passes.new k d).number ≡ (slice_index_or passes.old k d).number }
 {
     thread::for_each_mut(
         rt,

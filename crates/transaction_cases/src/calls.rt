@@ -44,7 +44,8 @@ pub(crate) fn answer<K: KvStore, R: Wait, G: Gate>(
 }
 
 fn abort<K: KvStore>(alloc: Global, seat: &mut Seat<K>) -> Result<String, Fault>
-    ensures seat { (book : BookView Opening) → IsSeat book seat.old.pass seat.old.arrays.items seat.old.txn → OnOk result (IsSeatThen book seat.old.pass seat.new.pass seat.new.arrays.items seat.new.txn) }
+    ensures seat { (book : BookView Opening) → IsSeat book seat.old.pass seat.old.arrays.items seat.old.txn
+        → OnOk result (IsSeatThen book seat.old.pass seat.new.pass seat.new.arrays.items seat.new.txn) }
 {
     seat.txn = None;
     told(alloc, &"aborted")

@@ -92,7 +92,7 @@ fn dense(alloc: Global, dtype: Dtype, shape: &[u64], numbers: &[Value]) -> Resul
     ensures { IfOk result (λ d. d.shape ≡ shape.now) }
 {
     let mut dense = Dense::filled(alloc, dtype, shape, zero(dtype)?)?;
-    if numbers.len() != dense.words().len() {
+    if numbers.len() != dense.count() {
         return Err(Fault::Line);
     }
     for place in 0..numbers.len() {

@@ -108,7 +108,8 @@ pub(crate) fn resize<K: KvStore, R: Wait>(
 
 // The number of the stored array at a place, where it may be asked to take the shape.
 fn stored(place: u64, shape: &[u64], arrays: &[ArrayRef]) -> Result<u64, Fault>
-    ensures { IfOk result (λ number. (early events : History) → AllByRecursion (IsKnownRef early) arrays.now → IsPrefix early events → IsLegal finmap.empty (outline events) → IsAsked events number shape.now) }
+    ensures { IfOk result (λ number. (early events : History) → AllByRecursion (IsKnownRef early) arrays.now
+        → IsPrefix early events → IsLegal finmap.empty (outline events) → IsAsked events number shape.now) }
 {
     if place >= arrays.len() as u64 {
         return Err(Fault::Line);
@@ -129,7 +130,8 @@ fn resized<K: KvStore, R: Wait>(
     shape: &[u64],
 ) -> Result<String, Fault>
     requires pass { IsRested book.now pass.old }
-    requires asked { (events : History) → IsPrefix pass.old.seen events → IsLegal finmap.empty (outline events) → IsAsked events array shape.now }
+    requires asked { (events : History) → IsPrefix pass.old.seen events → IsLegal finmap.empty (outline events)
+        → IsAsked events array shape.now }
     ensures { HasPassed book.now pass.old pass.new }
 {
     match resize_in_turn(alloc, rt, book, pass, array, shape) {

@@ -87,7 +87,7 @@ fn called<K: KvStore, R: Wait>(
     limit: u64,
 ) -> Result<(String, K), Fault>
     requires limit { limit ≤ 2 ^ 27 }
-    requires mounts { TakesBoth (K.names store) }
+    requires mounts { TakesBoth ((K.seen store).names) }
 {
     match State::behind_turn(alloc, store, limit, 2) {
         Ok((book, passes)) => with_passes(rt, alloc, v, book, passes),
@@ -188,7 +188,8 @@ fn answers<K: KvStore, R: Wait>(
     requires one { IsSeat book.now one.old.pass one.old.arrays.items one.old.txn }
     requires other { IsSeat book.now other.old.pass other.old.arrays.items other.old.txn }
     ensures one { OnOk result (IsSeatThen book.now one.old.pass one.new.pass one.new.arrays.items one.new.txn) }
-    ensures other { OnOk result (IsSeatThen book.now other.old.pass other.new.pass other.new.arrays.items other.new.txn) }
+    ensures other { OnOk result
+        (IsSeatThen book.now other.old.pass other.new.pass other.new.arrays.items other.new.txn) }
 {
     let mut text = String::new(alloc);
     for call in calls {
@@ -210,7 +211,8 @@ fn put_answer<K: KvStore, R: Wait>(
     requires one { IsSeat book.now one.old.pass one.old.arrays.items one.old.txn }
     requires other { IsSeat book.now other.old.pass other.old.arrays.items other.old.txn }
     ensures one { OnOk result (IsSeatThen book.now one.old.pass one.new.pass one.new.arrays.items one.new.txn) }
-    ensures other { OnOk result (IsSeatThen book.now other.old.pass other.new.pass other.new.arrays.items other.new.txn) }
+    ensures other { OnOk result
+        (IsSeatThen book.now other.old.pass other.new.pass other.new.arrays.items other.new.txn) }
 {
     let line = by_session(rt, alloc, call, book, one, other)?;
     text.push_str(line.as_str())?;
@@ -229,7 +231,8 @@ fn by_session<K: KvStore, R: Wait>(
     requires one { IsSeat book.now one.old.pass one.old.arrays.items one.old.txn }
     requires other { IsSeat book.now other.old.pass other.old.arrays.items other.old.txn }
     ensures one { OnOk result (IsSeatThen book.now one.old.pass one.new.pass one.new.arrays.items one.new.txn) }
-    ensures other { OnOk result (IsSeatThen book.now other.old.pass other.new.pass other.new.arrays.items other.new.txn) }
+    ensures other { OnOk result
+        (IsSeatThen book.now other.old.pass other.new.pass other.new.arrays.items other.new.txn) }
 {
     match number_or(call, "by", 0)? {
         0 => answer(rt, alloc, call, book, one, &Open),

@@ -33,7 +33,8 @@ use transactions::{CommitError, Gate, ReadError, Txn, WriteError};
 use turn_book::{Pass, TurnBook};
 
 pub(crate) fn begin(alloc: Global, v: &Value, txn: &mut Option<Txn>) -> Result<String, Fault>
-    ensures { (opening : Opening) (events : History) → IsLegal finmap.empty (outline events) → OnOk result (HasSound opening events txn.new) }
+    ensures { (opening : Opening) (events : History) → IsLegal finmap.empty (outline events)
+        → OnOk result (HasSound opening events txn.new) }
 {
     let mode = Mode {
         atomic: is_true(v, "atomic"),
@@ -50,7 +51,8 @@ pub(crate) fn write<K: KvStore>(
     seat: &mut Seat<K>,
 ) -> Result<String, Fault>
     requires seat { (book : BookView Opening) × IsSeat book seat.old.pass seat.old.arrays.items seat.old.txn }
-    ensures seat { (book : BookView Opening) → IsSeat book seat.old.pass seat.old.arrays.items seat.old.txn → OnOk result (IsSeatThen book seat.old.pass seat.new.pass seat.new.arrays.items seat.new.txn) }
+    ensures seat { (book : BookView Opening) → IsSeat book seat.old.pass seat.old.arrays.items seat.old.txn
+        → OnOk result (IsSeatThen book seat.old.pass seat.new.pass seat.new.arrays.items seat.new.txn) }
 {
     let view = view(alloc, v, &seat.arrays)?;
     match &mut seat.txn {
@@ -62,7 +64,8 @@ pub(crate) fn write<K: KvStore>(
 fn stage(alloc: Global, view: &View, numbers: &[Value], t: &mut Txn) -> Result<String, Fault>
     requires view { IsView view.now }
     requires may { MayUse view.now t.old }
-    ensures { OnOk result ((opening : Opening) (events : History) → HasKnownRefs events view.now → HasSound opening events (Some t.old) → HasSound opening events (Some t.new)) }
+    ensures { OnOk result ((opening : Opening) (events : History) → HasKnownRefs events view.now
+        → HasSound opening events (Some t.old) → HasSound opening events (Some t.new)) }
 {
     let words = words(alloc, dtype(view), numbers)?;
     stage_words(alloc, view, &words, t)
@@ -83,7 +86,8 @@ fn stage_words(alloc: Global, view: &View, words: &[u64], t: &mut Txn) -> Result
     requires view { IsView view.now }
     requires may { MayUse view.now t.old }
     requires typed { AllByRecursion (IsWord (look_of view.now).dtype) words.now }
-    ensures { OnOk result ((opening : Opening) (events : History) → HasKnownRefs events view.now → HasSound opening events (Some t.old) → HasSound opening events (Some t.new)) }
+    ensures { OnOk result ((opening : Opening) (events : History) → HasKnownRefs events view.now
+        → HasSound opening events (Some t.old) → HasSound opening events (Some t.new)) }
 {
     if !are_all(view, words.len() as u64) {
         return Err(Fault::Line);

@@ -17,7 +17,8 @@ use transform_json::{JsonError, read_transform};
 
 pub(crate) fn view(alloc: Global, v: &Value, arrays: &[ArrayRef]) -> Result<View, Fault>
     ensures view { IfOk result IsView }
-    ensures refs { IfOk result (λ v. (events : History) → AllByRecursion (IsKnownRef events) arrays.now → HasKnownRefs events v) }
+    ensures refs { IfOk result (λ v. (events : History) → AllByRecursion (IsKnownRef events) arrays.now
+        → HasKnownRefs events v) }
 {
     let place = number(v, "array")?;
     if place >= arrays.len() as u64 {

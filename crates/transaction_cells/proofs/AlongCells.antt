@@ -1,5 +1,5 @@
 -- The cells of a view of one array, by the runs in which they lie.
-use Rattle.std.proofs.Common.{◌≡◌, ◌∙◌, ℕ, ◌<◌, zero, suc, List, [], ◌∷◌, length, map, replicate, refl, sym, ap, subst, arith}
+use Rattle.std.proofs.Common.{◌≡◌, ◌∙◌, ℕ, zero, suc, List, [], ◌∷◌, length, map, replicate, refl, sym, ap, subst, arith}
 use Rattle.std.specs.List.{AllByRecursion}
 use Rattle.std.proofs.lemmas.List.{length-map}
 use Rattle.cells.specs.Places.{cell_count}
@@ -11,7 +11,7 @@ use Rattle.stack_driver.specs.Conditions.{IsView}
 use Rattle.stack_driver.specs.References.{Reference}
 use Rattle.stack_driver.specs.Views.{own_transform}
 use Rattle.stack_driver.specs.declared.view.View.{View}
-use Rattle.stack_targets.specs.Landings.{Seen, leaves_of}
+use Rattle.stack_targets.specs.Landings.{leaves_of}
 use Rattle.transaction_cells.specs.Along.{IsWithin, numbered, targets_along}
 use Rattle.transaction_cells.specs.Casting.{HasLane, casts_at}
 use Rattle.transaction_cells.specs.Lanes.{HasGrid, LaneSeen, lane_of}
@@ -57,7 +57,3 @@ cells_along v array leaves lanes pieces h zeros same are =
 -- such a view has a target for each cell
 pub sites_within : (v : View) (array : Reference) → IsWithin v array → AllByRecursion HasGrid (leaves_of v) → IsView v → HasSites v
 sites_within v array h grids valid = has_sites v (landings_along (own_transform v)) (all_along v array h) grids valid
-
--- it has one leaf
-pub few_leaves : (v : View) (array : Reference) → IsWithin v array → length (leaves_of v) < 4294967295
-few_leaves v array h = let one = ap (λ (leaves : List Seen). length leaves) (of_one v array h.of_array).leaves in omega (arith, one)

@@ -20,3 +20,4 @@ pub mod TypedLaws
 pub mod AlongLaws
 pub mod GridPieces
 pub mod AlongCells
+pub mod LaneLaws

@@ -1,5 +1,5 @@
 -- What the leaves of a view tell of where cells lie.
-use Rattle.std.specs.Prelude.{◌≡◌, ℕ, List, [], ◌∷◌, length, map, ◌==◌, Contains, if◌then◌else◌}
+use Rattle.std.specs.Prelude.{◌≡◌, ℕ, List, [], ◌∷◌, ◌++◌, length, map, ◌==◌, Contains, if◌then◌else◌}
 use Rattle.cells.specs.Places.{cell_count}
 use Rattle.cells.specs.Shapes.{IsChunkShape}
 use Rattle.cells.specs.declared.dtype.Dtype.{Dtype}
@@ -16,6 +16,10 @@ pub record LaneSeen : Type 0 where
 -- what a leaf tells
 abbrev pub lane_of : Seen → LaneSeen
 lane_of seen = record { array = seen.array.number; chunk = seen.array.chunk; casts = seen.casts }
+
+-- a lane with one cast more
+abbrev pub cast_lane : Cast → LaneSeen → LaneSeen
+cast_lane cast lane = record { array = lane.array; chunk = lane.chunk; casts = lane.casts ++ cast ∷ [] }
 
 -- the cells of a chunk, by the first lane of its array; 0 where there is none
 abbrev pub size_among : List LaneSeen → ℕ → ℕ

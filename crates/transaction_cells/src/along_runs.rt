@@ -73,8 +73,10 @@ fn pieces_along(
 ) -> Result<List<Piece>, AllocError>
     requires finite { IsTrue (list_all is_finite transform.now.domain.dims) }
     requires few { length (cells_of transform.now.domain.dims) ≤ 4194304 }
-    requires inside { All (λ cell. IsInShape array.now.shape (value_at transform.now cell)) (cells_of transform.now.domain.dims) }
-    ensures { IfOk result (λ pieces. pieces ≡ map (numbered array.now.number (cell_count array.now.chunk)) (run_pieces array.now.chunk (targets_along transform.now))) }
+    requires inside { All (λ cell. IsInShape array.now.shape (value_at transform.now cell))
+        (cells_of transform.now.domain.dims) }
+    ensures { IfOk result (λ pieces. pieces ≡ map (numbered array.now.number (cell_count array.now.chunk))
+        (run_pieces array.now.chunk (targets_along transform.now))) }
 {
     let grid = grid_of(alloc, array)?;
     let pieces = runs(alloc, transform, &grid)?;

@@ -26,7 +26,9 @@ pub(crate) fn put(
     requires before { IfSome (found cuts.old.entries id.now.items) (IsUpTo view) }
     requires small { view < 4194304 }
     ensures { OnOk result ((other : List ℕ) → found cuts.new.entries other
-        ≡ (if bytes_eq id.now.items other then Some (with_pair (record { view = view; chunk = place }) (found cuts.old.entries other)) else found cuts.old.entries other)) }
+        ≡ (if bytes_eq id.now.items other then Some
+        (with_pair (record { view = view; chunk = place })
+        (found cuts.old.entries other)) else found cuts.old.entries other)) }
 {
     if let Some(growing) = cuts.get_mut(id) {
         return growing.push(view, place);

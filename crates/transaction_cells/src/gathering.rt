@@ -37,10 +37,15 @@ impl Staging {
     ) -> Result<Vec<u64>, AllocError>
         requires cells { CanStage self.now cells.now (length cells.now.leaves) }
         requires chunks { AreChunksOf cells.now.pieces chunks.now }
-        ensures value { IfOk result (λ words. (sites : List Site) → AreCells sites cells.now → words.items ≡ map (shown_word self.now cells.now.pieces chunks.now) sites) }
-        ensures history { IfOk result (λ words. (events : History) (v : View) (ops : List Op) (content : Content) → AllByRecursion (IsLeafIn events) (leaves_of v) → HasSites v → AreCells (sites_of v) cells.now
-            → AreStaged events ops self.now → AllByRecursion (IsTold events content cells.now.pieces chunks.now) (unwritten ops v) → map Some words.items ≡ read_values (written ops content) v) }
-        ensures typed { IfOk result (λ words. (events : History) (v : View) (ops : List Op) → AllByRecursion (IsLeafIn events) (leaves_of v) → HasSites v → AreCells (sites_of v) cells.now → AreStaged events ops self.now → AreTypedChunks events cells.now.pieces chunks.now
+        ensures value { IfOk result (λ words. (sites : List Site) → AreCells sites cells.now
+            → words.items ≡ map (shown_word self.now cells.now.pieces chunks.now) sites) }
+        ensures history { IfOk result (λ words. (events : History) (v : View) (ops : List Op) (content : Content)
+            → AllByRecursion (IsLeafIn events) (leaves_of v) → HasSites v → AreCells (sites_of v) cells.now
+            → AreStaged events ops self.now → AllByRecursion (IsTold events content cells.now.pieces chunks.now)
+            (unwritten ops v) → map Some words.items ≡ read_values (written ops content) v) }
+        ensures typed { IfOk result (λ words. (events : History) (v : View) (ops : List Op)
+            → AllByRecursion (IsLeafIn events) (leaves_of v) → HasSites v → AreCells (sites_of v) cells.now
+            → AreStaged events ops self.now → AreTypedChunks events cells.now.pieces chunks.now
             → AllByRecursion (IsWord (look_of v).dtype) words.items) }
     {
         let mut words = vec![in alloc; 0; cells.leaves.items().len()]?;
@@ -54,7 +59,8 @@ fn show(staging: &Staging, cells: &ViewCells, chunks: &[Option<Snapshot>], out: 
     requires cells { CanStage staging.now cells.now (length cells.now.leaves) }
     requires chunks { AreChunksOf cells.now.pieces chunks.now }
     requires zeros { out.old ≡ replicate (length cells.now.leaves) 0 }
-    ensures { (sites : List Site) → AreCells sites cells.now → out.new ≡ map (shown_word staging.now cells.now.pieces chunks.now) sites }
+    ensures { (sites : List Site) → AreCells sites cells.now
+        → out.new ≡ map (shown_word staging.now cells.now.pieces chunks.now) sites }
 {
     fill(&staging.table, cells.pieces.items(), chunks, out);
     cells.out(out);

@@ -23,7 +23,7 @@ use crate::lanes::lanes_of;
 use crate::view_cells::{Piece, ViewCells};
 use cells::List;
 use stack_driver::View;
-use stack_targets::{Targets, TargetsError, has_leaf, targets};
+use stack_targets::{Targets, TargetsError, targets};
 use std::alloc::{AllocError, Global};
 use std::collections::BTreeMap;
 
@@ -74,15 +74,14 @@ fn cell_by_cell(alloc: Global, v: &View) -> Result<ViewCells, TargetsError>
 fn cut(alloc: Global, v: &View, t: &Targets) -> Result<(List<Lane>, List<Piece>), AllocError>
     requires view { IsView v.now }
     requires few { length t.now.leaves ≤ 4194304 }
-    requires landed { AllByRecursion (IsLanded (leaves_of v.now)) (told_landings (leaves_of v.now) t.now.leaves t.now.numbers) }
+    requires landed { AllByRecursion (IsLanded (leaves_of v.now))
+        (told_landings (leaves_of v.now) t.now.leaves t.now.numbers) }
     requires alike { AreAlike (leaves_of v.now) }
     ensures lanes { IfOk result (λ r. r.0 ≡ map lane_of (leaves_of v.now)) }
     ensures ranks { OnOk result (AllByRecursion HasGrid (leaves_of v.now)) }
-    ensures pieces { IfOk result (λ r. ArePieces (told_sites (map lane_of (leaves_of v.now)) t.now.leaves t.now.numbers) r.1) }
+    ensures pieces { IfOk result (λ r. ArePieces
+        (told_sites (map lane_of (leaves_of v.now)) t.now.leaves t.now.numbers) r.1) }
 {
-    if !has_leaf(v, 0) {
-        return Err(AllocError);
-    }
     let lanes = lanes_of(alloc, v)?;
     let pieces = pieces_among(alloc, lanes.items(), t)?;
     Ok((lanes, pieces))
@@ -130,7 +129,8 @@ fn add(
     requires before { (other : List ℕ) → IfSome (found cuts.old.entries other) (IsUpTo view) }
     requires small { view < 4194304 }
     requires same { length index.now ≡ length lane.now.chunk }
-    ensures { OnOk result ((sites : List Site) → length sites ≡ view → AreCuts sites cuts.old → AreCuts (sites ++ site_by lane.now index.now ∷ []) cuts.new) }
+    ensures { OnOk result ((sites : List Site) → length sites ≡ view → AreCuts sites cuts.old
+        → AreCuts (sites ++ site_by lane.now index.now ∷ []) cuts.new) }
 {
     let chunk = lane.chunk.items();
     write_id(id, lane.array, chunk, index)?;

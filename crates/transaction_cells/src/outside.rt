@@ -38,10 +38,15 @@ impl Staging {
         requires cells { CanStage self.now cells.now (length cells.now.leaves) }
         requires piece { piece < length cells.now.pieces }
         requires grid { (d : Piece) → IsInGrid shape.now chunk.now (slice_index_or cells.now.pieces piece d) }
-        ensures value { (d : Piece) → result ≡ needs_outside shape.now chunk.now self.now (slice_index_or cells.now.pieces piece d) }
-        ensures history { (d : Piece) (events : History) (v : View) (ops : List Op) (array : ℕ) (index : List ℕ) (k : Known) → AllByRecursion (IsLeafIn events) (leaves_of v) → HasSites v → AreCells (sites_of v) cells.now → AreStaged events ops self.now
-            → (slice_index_or cells.now.pieces piece d).id ≡ array ∷ index → known_after events array ≡ Some k → chunk.now ≡ chunk_shape k.info
-            → result ≡ list_any (is_cell_outside events shape.now (slice_index_or cells.now.pieces piece d).id) (unwritten ops v) }
+        ensures value { (d : Piece) → result ≡ needs_outside shape.now chunk.now self.now
+            (slice_index_or cells.now.pieces piece d) }
+        ensures history { (d : Piece) (events : History) (v : View) (ops : List Op) (array : ℕ) (index : List ℕ)
+            (k : Known) → AllByRecursion (IsLeafIn events) (leaves_of v) → HasSites v → AreCells (sites_of v) cells.now
+            → AreStaged events ops self.now
+            → (slice_index_or cells.now.pieces piece d).id ≡ array ∷ index → known_after events array ≡ Some k
+            → chunk.now ≡ chunk_shape k.info
+            → result ≡ list_any (is_cell_outside events shape.now (slice_index_or cells.now.pieces piece d).id)
+            (unwritten ops v) }
     {
         let piece = &cells.pieces.items()[piece];
         let index = index_in(piece.id.items());
@@ -66,7 +71,8 @@ fn index_in(id: &[u64]) -> &[u64]
 // Whether the whole chunk lies in the shape.
 fn is_within(shape: &[u64], chunk: &[u64], index: &[u64]) -> bool
     requires { AreRanked shape.now chunk.now index.now }
-    ensures { IsTrue result → (place : ℕ) → place < cell_count chunk.now → is_place_inside shape.now chunk.now index.now place ≡ true }
+    ensures { IsTrue result → (place : ℕ) → place < cell_count chunk.now
+        → is_place_inside shape.now chunk.now index.now place ≡ true }
 {
     for k in 0..chunk.len() {
         if shape[k] / chunk[k] <= index[k] {
@@ -88,7 +94,8 @@ fn are_outside(
     requires ranks { AreRanked shape.now chunk.now index.now }
     requires size { size ≡ cell_count chunk.now }
     requires runs { AllByRecursion (IsRunIn size) runs.now }
-    ensures { result ≡ are_outside shape.now chunk.now index.now (unwrap_or (option_map (λ s. s.now) staged.entry) []) runs.now }
+    ensures { result ≡ are_outside shape.now chunk.now index.now (unwrap_or (option_map (λ s.
+        s.now) staged.entry) []) runs.now }
 {
     for run in runs {
         if has_outside(staged, shape, chunk, index, size, run) {
@@ -110,7 +117,8 @@ fn has_outside(
     requires ranks { AreRanked shape.now chunk.now index.now }
     requires size { size ≡ cell_count chunk.now }
     requires run { IsRunIn size run.now }
-    ensures { result ≡ list_any (is_pair_outside shape.now chunk.now index.now (unwrap_or (option_map (λ s. s.now) staged.entry) [])) (pairs_of run.now) }
+    ensures { result ≡ list_any (is_pair_outside shape.now chunk.now index.now (unwrap_or (option_map (λ s.
+        s.now) staged.entry) [])) (pairs_of run.now) }
 {
     for k in 0..run.len {
         let place = place_at(run, k);

@@ -72,8 +72,10 @@ impl Staging {
         requires { CanStage self.old cells.now (length words.now) }
         ensures ok { OnOk result ((sites : List Site) → AreCells sites cells.now → (id : List ℕ)
             → staged_of self.new id ≡ written_at id sites words.now (staged_of self.old id)) }
-        ensures history { OnOk result ((events : History) (v : View) (ops : List Op) → AllByRecursion (IsLeafIn events) (leaves_of v) → HasSites v → AreCells (sites_of v) cells.now
-            → AllByRecursion (IsWord (look_of v).dtype) words.now → AreStaged events ops self.old → AreStaged events (ops ++ op.Write v words.now ∷ []) self.new) }
+        ensures history { OnOk result ((events : History) (v : View) (ops : List Op)
+            → AllByRecursion (IsLeafIn events) (leaves_of v) → HasSites v → AreCells (sites_of v) cells.now
+            → AllByRecursion (IsWord (look_of v).dtype) words.now → AreStaged events ops self.old
+            → AreStaged events (ops ++ op.Write v words.now ∷ []) self.new) }
         ensures err { OnErr result ((id : List ℕ) (place : ℕ) → word_in self.new id place ≡ word_in self.old id place) }
     {
         if cells.is_plain() {
@@ -93,7 +95,8 @@ impl Staging {
         kept: &[u64],
     ) -> Result<(), AllocError>
         requires { CanStage self.old cells.now (length kept.now) }
-        ensures ok { OnOk result ((sites : List Site) → AreCells sites cells.now → (words : List ℕ) → kept.now ≡ taken_back cells.now.lanes cells.now.leaves words → length words ≡ length kept.now
+        ensures ok { OnOk result ((sites : List Site) → AreCells sites cells.now → (words : List ℕ)
+            → kept.now ≡ taken_back cells.now.lanes cells.now.leaves words → length words ≡ length kept.now
             → (id : List ℕ) → staged_of self.new id ≡ written_at id sites words (staged_of self.old id)) }
         ensures err { OnErr result ((id : List ℕ) (place : ℕ) → word_in self.new id place ≡ word_in self.old id place) }
     {
@@ -117,8 +120,11 @@ impl Staging {
         requires cells { CanStage self.now cells.now (length cells.now.leaves) }
         requires piece { piece < length cells.now.pieces }
         ensures value { (d : Piece) → result ≡ needs self.now (slice_index_or cells.now.pieces piece d) }
-        ensures history { (d : Piece) (events : History) (v : View) (ops : List Op) → AllByRecursion (IsLeafIn events) (leaves_of v) → HasSites v → AreCells (sites_of v) cells.now → AreStaged events ops self.now
-            → result ≡ list_any (λ x. bytes_eq (id_of (chunk_of events x)) (slice_index_or cells.now.pieces piece d).id) (unwritten ops v) }
+        ensures history { (d : Piece) (events : History) (v : View) (ops : List Op)
+            → AllByRecursion (IsLeafIn events) (leaves_of v) → HasSites v → AreCells (sites_of v) cells.now
+            → AreStaged events ops self.now
+            → result ≡ list_any (λ x. bytes_eq (id_of (chunk_of events x))
+            (slice_index_or cells.now.pieces piece d).id) (unwritten ops v) }
     {
         let piece = &cells.pieces.items()[piece];
         match self.table.get(piece.id.items()) {
@@ -167,7 +173,8 @@ pub(crate) fn place_at(run: &Run, k: u32) -> usize
 
 // Makes an entry for each piece that has none.
 fn prepare(alloc: Global, table: &mut Table, pieces: &[Piece]) -> Result<(), AllocError>
-    ensures ok { OnOk result ((id : List ℕ) → found table.new.entries id ≡ prepared pieces.now id (found table.old.entries id)) }
+    ensures ok { OnOk result ((id : List ℕ) → found table.new.entries id
+        ≡ prepared pieces.now id (found table.old.entries id)) }
     ensures words { (id : List ℕ) → HasSameWords (found table.old.entries id) (found table.new.entries id) }
 {
     for piece in pieces {
@@ -177,7 +184,8 @@ fn prepare(alloc: Global, table: &mut Table, pieces: &[Piece]) -> Result<(), All
 }
 
 fn add(alloc: Global, table: &mut Table, piece: &Piece) -> Result<(), AllocError>
-    ensures ok { OnOk result ((id : List ℕ) → found table.new.entries id ≡ prepared (piece.now ∷ []) id (found table.old.entries id)) }
+    ensures ok { OnOk result ((id : List ℕ) → found table.new.entries id
+        ≡ prepared (piece.now ∷ []) id (found table.old.entries id)) }
     ensures err { OnErr result (table.new.entries ≡ table.old.entries) }
 {
     if table.contains_key(piece.id.items()) {
@@ -194,7 +202,8 @@ fn add(alloc: Global, table: &mut Table, piece: &Piece) -> Result<(), AllocError
 // Writes the words of each piece along its runs.
 fn write(table: &mut Table, pieces: &[Piece], words: &[u64])
     requires { (id : List ℕ) → MayWrite pieces.now id (length words.now) (found table.old.entries id) }
-    ensures { (id : List ℕ) → found table.new.entries id ≡ pieces_written pieces.now id words.now (found table.old.entries id) }
+    ensures { (id : List ℕ) → found table.new.entries id
+        ≡ pieces_written pieces.now id words.now (found table.old.entries id) }
 {
     for piece in pieces {
         write_piece(table, piece, words);
@@ -203,7 +212,8 @@ fn write(table: &mut Table, pieces: &[Piece], words: &[u64])
 
 fn write_piece(table: &mut Table, piece: &Piece, words: &[u64])
     requires { (id : List ℕ) → MayWrite (piece.now ∷ []) id (length words.now) (found table.old.entries id) }
-    ensures { (id : List ℕ) → found table.new.entries id ≡ pieces_written (piece.now ∷ []) id words.now (found table.old.entries id) }
+    ensures { (id : List ℕ) → found table.new.entries id
+        ≡ pieces_written (piece.now ∷ []) id words.now (found table.old.entries id) }
 {
     let Some(staged) = table.get_mut(piece.id.items()) else {
         unreachable!();

@@ -34,7 +34,8 @@ pub(crate) fn ask_in_turn<'a, K: KvStore, R: Wait>(
     parts: Vec<Part<'a>>,
 ) -> Result<Vec<Asked<'a>>, AllocError>
     requires pass { IsIdle book.now pass.old }
-    requires parts { (events : History) → IsPrefix pass.old.seen events → IsLegal finmap.empty (outline events) → AllByRecursion (IsPart events) parts.items }
+    requires parts { (events : History) → IsPrefix pass.old.seen events → IsLegal finmap.empty (outline events)
+        → AllByRecursion (IsPart events) parts.items }
     ensures asked { IfOk result (λ asked. AllByRecursion (IsAsked book.now.fixed pass.new.seen) asked.items) }
     ensures parts { IfOk result (λ asked. map part_in asked.items ≡ parts.entry.items) }
     ensures turned { HasTurned book.now pass.old pass.new [] }
@@ -55,7 +56,8 @@ pub(crate) fn commit_in_turn<K: KvStore, R: Wait>(
 ) -> Result<List<u64>, CommitRefused>
     requires pass { IsIdle book.now pass.old }
     requires prepared { (t : Transaction) × MayCommitLater book.now.fixed pass.old.seen t p }
-    ensures { (t : Transaction) → MayCommitLater book.now.fixed pass.old.seen t p.entry → IsCommitTurn book.now pass.old pass.new t result }
+    ensures { (t : Transaction) → MayCommitLater book.now.fixed pass.old.seen t p.entry
+        → IsCommitTurn book.now pass.old pass.new t result }
 {
     let owner = pass.number();
     let mut held = book.take(rt, pass);

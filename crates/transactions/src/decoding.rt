@@ -34,8 +34,10 @@ use std::sync::Wait;
 /// `Damaged` where its bytes are no chunk of the array; `Memory`.
 pub(crate) fn fresh_of(alloc: Global, l: Looked) -> Result<Fresh, ReadError>
     requires { (opening : Opening) × (events : History) × (c : Chunk) × IsLookedAt opening events c l }
-    ensures fresh { IfOk result (λ f. (opening : Opening) (events : History) (c : Chunk) → IsLookedAt opening events c l → IsFresh opening events c f) }
-    ensures damaged { (key : List ℕ) (cause : DamageOf) → result ≡ Err (read_error.Damaged key cause) → (opening : Opening) (events : History) (c : Chunk) (start : Contents) → IsLookedAt opening events c l
+    ensures fresh { IfOk result (λ f. (opening : Opening) (events : History) (c : Chunk)
+        → IsLookedAt opening events c l → IsFresh opening events c f) }
+    ensures damaged { (key : List ℕ) (cause : DamageOf) → result ≡ Err (read_error.Damaged key cause)
+        → (opening : Opening) (events : History) (c : Chunk) (start : Contents) → IsLookedAt opening events c l
         → opening.store.contents ≡ Some start → IsDamaged start events c key cause }
     ensures err { IfErr result IsDecodeError }
 {
@@ -77,8 +79,10 @@ fn snapshot_of(
     ensures generation { IfOk result (λ s. s.generation ≡ generation) }
     ensures dtype { IfOk result (λ s. s.cells.dtype ≡ meta.dtype_of form.now) }
     ensures shape { IfOk result (λ s. s.cells.shape ≡ meta.chunk_shape_of form.now) }
-    ensures words { IfOk result (λ s. (index : List ℕ) → IsInside (meta.chunk_shape_of form.now) index → stored_word form.now (meta.fill_of form.now) bytes.now index ≡ Some (word_at s.cells index)) }
-    ensures causes { IfErr result (λ e. e ≢ form_error.Memory → (cause : DamageOf) × (e ≡ form_error.Damaged cause) × (stored_fault form.now bytes.now ≡ Some cause)) }
+    ensures words { IfOk result (λ s. (index : List ℕ) → IsInside (meta.chunk_shape_of form.now) index
+        → stored_word form.now (meta.fill_of form.now) bytes.now index ≡ Some (word_at s.cells index)) }
+    ensures causes { IfErr result (λ e. e ≢ form_error.Memory → (cause : DamageOf) × (e ≡ form_error.Damaged cause)
+        × (stored_fault form.now bytes.now ≡ Some cause)) }
 {
     let cells = decoded(alloc, form, bytes)?;
     match as_snapshot(alloc, generation, cells) {
@@ -92,8 +96,10 @@ fn decoded(alloc: Global, form: &Form, bytes: &Option<List<u8>>) -> Result<Dense
     requires fill { IsWord (meta.dtype_of form.now) (meta.fill_of form.now) }
     ensures dtype { IfOk result (λ d. d.dtype ≡ meta.dtype_of form.now) }
     ensures shape { IfOk result (λ d. d.shape ≡ meta.chunk_shape_of form.now) }
-    ensures words { IfOk result (λ d. (index : List ℕ) → IsInside (meta.chunk_shape_of form.now) index → stored_word form.now (meta.fill_of form.now) bytes.now index ≡ Some (word_at d index)) }
-    ensures causes { IfErr result (λ e. e ≢ form_error.Memory → (cause : DamageOf) × (e ≡ form_error.Damaged cause) × (stored_fault form.now bytes.now ≡ Some cause)) }
+    ensures words { IfOk result (λ d. (index : List ℕ) → IsInside (meta.chunk_shape_of form.now) index
+        → stored_word form.now (meta.fill_of form.now) bytes.now index ≡ Some (word_at d index)) }
+    ensures causes { IfErr result (λ e. e ≢ form_error.Memory → (cause : DamageOf) × (e ≡ form_error.Damaged cause)
+        × (stored_fault form.now bytes.now ≡ Some cause)) }
 {
     let dtype = form.dtype();
     let fill = form.fill();
@@ -117,9 +123,12 @@ pub(crate) fn decode_all<R: Wait, G: Gate>(
     session: u32,
     looks: Vec<Looked>,
 ) -> Result<Vec<Fresh>, ReadError>
-    requires { (opening : Opening) × (events : History) × (pieces : List PieceOf) × AreLookedAt opening events pieces looks.items }
-    ensures fresh { IfOk result (λ fresh. (opening : Opening) (events : History) (pieces : List PieceOf) → AreLookedAt opening events pieces looks.items → AreFresh opening events pieces fresh.items) }
-    ensures damaged { (key : List ℕ) (cause : DamageOf) → result ≡ Err (read_error.Damaged key cause) → (opening : Opening) (events : History) (pieces : List PieceOf) → AreLookedAt opening events pieces looks.items
+    requires { (opening : Opening) × (events : History) × (pieces : List PieceOf)
+        × AreLookedAt opening events pieces looks.items }
+    ensures fresh { IfOk result (λ fresh. (opening : Opening) (events : History) (pieces : List PieceOf)
+        → AreLookedAt opening events pieces looks.items → AreFresh opening events pieces fresh.items) }
+    ensures damaged { (key : List ℕ) (cause : DamageOf) → result ≡ Err (read_error.Damaged key cause)
+        → (opening : Opening) (events : History) (pieces : List PieceOf) → AreLookedAt opening events pieces looks.items
         → HasDamagedAmong opening events pieces key cause }
     ensures err { IfErr result IsDecodeError }
 {
@@ -139,8 +148,10 @@ fn opened<R: Wait, G: Gate>(
     l: Looked,
 ) -> Result<Fresh, ReadError>
     requires { (opening : Opening) × (events : History) × (c : Chunk) × IsLookedAt opening events c l }
-    ensures fresh { IfOk result (λ f. (opening : Opening) (events : History) (c : Chunk) → IsLookedAt opening events c l → IsFresh opening events c f) }
-    ensures damaged { (key : List ℕ) (cause : DamageOf) → result ≡ Err (read_error.Damaged key cause) → (opening : Opening) (events : History) (c : Chunk) (start : Contents) → IsLookedAt opening events c l
+    ensures fresh { IfOk result (λ f. (opening : Opening) (events : History) (c : Chunk)
+        → IsLookedAt opening events c l → IsFresh opening events c f) }
+    ensures damaged { (key : List ℕ) (cause : DamageOf) → result ≡ Err (read_error.Damaged key cause)
+        → (opening : Opening) (events : History) (c : Chunk) (start : Contents) → IsLookedAt opening events c l
         → opening.store.contents ≡ Some start → IsDamaged start events c key cause }
     ensures err { IfErr result IsDecodeError }
 {

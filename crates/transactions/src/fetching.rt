@@ -49,9 +49,13 @@ pub(crate) fn fetch<K: KvStore, R: Wait, G: Gate>(
 ) -> Result<Vec<Kept>, ReadError>
     requires pass { IsIdle book.now pass.old }
     requires count { length sources.now ≡ length pieces.now }
-    requires chunks { (events : History) → IsPrefix pass.old.seen events → IsLegal finmap.empty (outline events) → AreChunks events (new_pieces sources.now pieces.now) }
-    requires named { AllByRecursion (λ (p : PieceOf). p.id ≡ id_of (chunk_at p.id)) (new_pieces sources.now pieces.now) }
-    ensures fetched { IfOk result (λ fetched. AreFetched book.now.fixed (length pass.old.seen) pass.new.seen (new_pieces sources.now pieces.now) fetched.items) }
+    requires chunks { (events : History) → IsPrefix pass.old.seen events → IsLegal finmap.empty (outline events)
+        → AreChunks events (new_pieces sources.now pieces.now) }
+    requires named { AllByRecursion (λ (p : PieceOf).
+        p.id ≡ id_of (chunk_at p.id)) (new_pieces sources.now pieces.now) }
+    ensures fetched { IfOk result (λ fetched.
+        AreFetched book.now.fixed (length pass.old.seen) pass.new.seen
+        (new_pieces sources.now pieces.now) fetched.items) }
     ensures ok { OnOk result (HasPassed book.now pass.old pass.new []) }
     ensures untaken { list_any is_new sources.now ≡ false → pass.new ≡ pass.old }
     ensures refused { IfErr result (IsFetchError book.now pass.old pass.new (new_pieces sources.now pieces.now)) }
@@ -99,11 +103,14 @@ fn decoded<K: KvStore, R: Wait, G: Gate>(
 ) -> Result<Vec<Kept>, ReadError>
     requires pass { IsIdle book.now pass.old }
     requires count { length sources.now ≡ length pieces.now }
-    requires chunks { (events : History) → IsPrefix pass.old.seen events → IsLegal finmap.empty (outline events) → AreChunks events (new_pieces sources.now pieces.now) }
-    requires named { AllByRecursion (λ (p : PieceOf). p.id ≡ id_of (chunk_at p.id)) (new_pieces sources.now pieces.now) }
+    requires chunks { (events : History) → IsPrefix pass.old.seen events → IsLegal finmap.empty (outline events)
+        → AreChunks events (new_pieces sources.now pieces.now) }
+    requires named { AllByRecursion (λ (p : PieceOf).
+        p.id ≡ id_of (chunk_at p.id)) (new_pieces sources.now pieces.now) }
     requires looked { AreLookedAt book.now.fixed pass.old.seen (new_pieces sources.now pieces.now) looks.items }
     requires mark { mark ≡ length pass.old.seen }
-    ensures fetched { IfOk result (λ fetched. AreFetchedAt book.now.fixed pass.new.seen mark (new_pieces sources.now pieces.now) fetched.items) }
+    ensures fetched { IfOk result (λ fetched.
+        AreFetchedAt book.now.fixed pass.new.seen mark (new_pieces sources.now pieces.now) fetched.items) }
     ensures ok { OnOk result (HasTurned book.now pass.old pass.new []) }
     ensures refused { IfErr result (IsDecodeRefusal book.now pass.old pass.new (new_pieces sources.now pieces.now)) }
 {
@@ -125,11 +132,14 @@ fn settled<K: KvStore, R: Wait>(
 ) -> Result<Vec<Kept>, ReadError>
     requires pass { IsIdle book.now pass.old }
     requires count { length sources.now ≡ length pieces.now }
-    requires chunks { (events : History) → IsPrefix pass.old.seen events → IsLegal finmap.empty (outline events) → AreChunks events (new_pieces sources.now pieces.now) }
-    requires named { AllByRecursion (λ (p : PieceOf). p.id ≡ id_of (chunk_at p.id)) (new_pieces sources.now pieces.now) }
+    requires chunks { (events : History) → IsPrefix pass.old.seen events → IsLegal finmap.empty (outline events)
+        → AreChunks events (new_pieces sources.now pieces.now) }
+    requires named { AllByRecursion (λ (p : PieceOf).
+        p.id ≡ id_of (chunk_at p.id)) (new_pieces sources.now pieces.now) }
     requires fresh { AreFresh book.now.fixed pass.old.seen (new_pieces sources.now pieces.now) fresh.items }
     requires mark { mark ≡ length pass.old.seen }
-    ensures fetched { IfOk result (λ fetched. AreFetchedAt book.now.fixed pass.new.seen mark (new_pieces sources.now pieces.now) fetched.items) }
+    ensures fetched { IfOk result (λ fetched.
+        AreFetchedAt book.now.fixed pass.new.seen mark (new_pieces sources.now pieces.now) fetched.items) }
     ensures turned { HasTurned book.now pass.old pass.new [] }
     ensures refused { IfErr result (λ e. e ≡ read_error.Memory) }
 {
@@ -147,7 +157,8 @@ fn kept(
     mark: u64,
 ) -> Result<Vec<Kept>, ReadError>
     requires count { length sources.now ≡ length pieces.now }
-    ensures kept { IfOk result (λ fetched. fetched.items ≡ kept_from mark (new_pieces sources.now pieces.now) fresh.items) }
+    ensures kept { IfOk result (λ fetched. fetched.items
+        ≡ kept_from mark (new_pieces sources.now pieces.now) fresh.items) }
     ensures err { IfErr result (λ e. e ≡ read_error.Memory) }
 {
     match keep_all(alloc, pieces, sources, fresh, mark) {
@@ -184,7 +195,9 @@ fn next_new(sources: &[Source], from: usize) -> usize
     requires { from ≤ length sources.now }
     ensures from { from ≤ result }
     ensures to { result ≤ length sources.now }
-    ensures next { (pieces : List PieceOf) → length sources.now ≡ length pieces → new_pieces (drop result sources.now) (drop result pieces) ≡ new_pieces (drop from sources.now) (drop from pieces) }
+    ensures next { (pieces : List PieceOf) → length sources.now ≡ length pieces
+        → new_pieces (drop result sources.now) (drop result pieces)
+        ≡ new_pieces (drop from sources.now) (drop from pieces) }
     ensures new { (d : SourceOf) → result < length sources.now → is_new (slice_index_or sources.now result d) ≡ true }
 {
     let mut k = from;
@@ -198,7 +211,8 @@ fn next_new(sources: &[Source], from: usize) -> usize
 }
 
 fn keep(alloc: Global, id: &[u64], f: Fresh, mark: u64) -> Result<Kept, AllocError>
-    ensures { IfOk result (λ k. k ≡ record { id = id.now; key = f.key; snapshot = f.snapshot; bounds = f.bounds; mark = mark }) }
+    ensures { IfOk result (λ k.
+        k ≡ record { id = id.now; key = f.key; snapshot = f.snapshot; bounds = f.bounds; mark = mark }) }
 {
     let id = Sizes::wrap(Vec::from_slice(alloc, id)?);
     let Fresh {

@@ -45,7 +45,8 @@ impl Txn {
     ) -> Result<(), AllocError>
         requires view { IsView v.now }
         requires new { AreNewTo self.old.kept fetched.items }
-        ensures ok { OnOk result (self.new ≡ record self.old { ops = self.old.ops ++ op.Read v.now words.now ∷ []; kept = self.old.kept ++ fetched.items }) }
+        ensures ok { OnOk result (self.new
+            ≡ record self.old { ops = self.old.ops ++ op.Read v.now words.now ∷ []; kept = self.old.kept ++ fetched.items }) }
         ensures err { OnErr result (self.new ≡ self.old) }
     {
         let count = self.kept.len();
@@ -69,8 +70,10 @@ fn prepare(
     from: usize,
 ) -> Result<(), AllocError>
     requires { from < 2 ^ 63 }
-    ensures ok { OnOk result ((id : List ℕ) → found places.new.entries id ≡ placed from fetched.now id (found places.old.entries id)) }
-    ensures unspoilt { (kept : List KeptOf) → length kept ≡ from → AllByRecursion (IsUnkept kept) fetched.now → (id : List ℕ) → IsUnspoilt kept id (found places.old.entries id) (found places.new.entries id) }
+    ensures ok { OnOk result ((id : List ℕ) → found places.new.entries id
+        ≡ placed from fetched.now id (found places.old.entries id)) }
+    ensures unspoilt { (kept : List KeptOf) → length kept ≡ from → AllByRecursion (IsUnkept kept) fetched.now
+        → (id : List ℕ) → IsUnspoilt kept id (found places.old.entries id) (found places.new.entries id) }
 {
     for (k, chunk) in fetched.iter().enumerate() {
         insert(alloc, places, chunk.id.items(), (from + k) as u64)?;
@@ -84,7 +87,9 @@ fn insert(
     id: &[u64],
     place: u64,
 ) -> Result<(), AllocError>
-    ensures ok { OnOk result ((other : List ℕ) → found places.new.entries other ≡ (if bytes_eq id.now other then Some place else found places.old.entries other)) }
+    ensures ok { OnOk result ((other : List ℕ)
+        → found places.new.entries other
+        ≡ (if bytes_eq id.now other then Some place else found places.old.entries other)) }
     ensures err { OnErr result (places.new.entries ≡ places.old.entries) }
 {
     let id = Vec::from_slice(alloc, id)?;

@@ -3,7 +3,6 @@ ghost use Rattle.std.specs.Prelude.{◌≡◌, ℕ, Some, Err, IfOk, OnOk, OnErr
 ghost use Rattle.history.specs.Chunks.{key_of};
 ghost use Rattle.state_laws.specs.Agreement.{Opening, Agrees, IsState, KeepsAgreement};
 ghost use Rattle.state_laws.specs.Fetches.{IsChunkOf};
-ghost use Rattle.state_laws.specs.Seen.{seen_of};
 ghost use Rattle.transactions.specs.Looking.{IsLookedAt, AreLookedAt, HasFailedAt, HasFailedAmong, AreChunks};
 ghost use Rattle.transactions.specs.Sources.{new_pieces};
 ghost use Rattle.transactions.specs.Refusals.{IsNotDamaged, IsSameRefusal};
@@ -45,14 +44,15 @@ pub(crate) fn look_at<K: KvStore>(
     owner: u32,
     id: &[u64],
 ) -> Result<Looked, LookError>
-    requires agrees { let seen = seen_of K.contents K.faults K.prefixes K.names K.standing K.change_count in IsState (seen state.old.store) state.old.log }
+    requires agrees { IsState (K.seen state.old.store) state.old.log }
     requires chunk { IsChunkOf state.old.log.events (chunk_at id.now) }
-    ensures looked { let seen = seen_of K.contents K.faults K.prefixes K.names K.standing K.change_count in
-        IfOk result (λ l. (opening : Opening) → Agrees opening (seen state.old.store) state.old.log → IsLookedAt opening state.old.log.events (chunk_at id.now) l) }
+    ensures looked { IfOk result (λ l. (opening : Opening) → Agrees opening (K.seen state.old.store) state.old.log
+        → IsLookedAt opening state.old.log.events (chunk_at id.now) l) }
     ensures events { OnOk result (state.new.log.events ≡ state.old.log.events) }
-    ensures failed { (event : ℕ) → result ≡ Err (look_error.StoreFailed event) → HasFailedAt owner (chunk_at id.now) state.old.log.events state.new.log.events event }
+    ensures failed { (event : ℕ) → result ≡ Err (look_error.StoreFailed event)
+        → HasFailedAt owner (chunk_at id.now) state.old.log.events state.new.log.events event }
     ensures memory { result ≡ Err look_error.Memory → state.new.log.events ≡ state.old.log.events }
-    ensures kept { let seen = seen_of K.contents K.faults K.prefixes K.names K.standing K.change_count in KeepsAgreement (seen state.old.store) state.old.log (seen state.new.store) state.new.log }
+    ensures kept { KeepsAgreement (K.seen state.old.store) state.old.log (K.seen state.new.store) state.new.log }
 {
     match state.look(owner, array_in(id), index_in(id)) {
         Ok(look) => named(state, id, look),
@@ -91,16 +91,18 @@ pub(crate) fn look_all<K: KvStore>(
     pieces: &[Piece],
     sources: &[Source],
 ) -> Result<(Vec<Looked>, u64), LookError>
-    requires agrees { let seen = seen_of K.contents K.faults K.prefixes K.names K.standing K.change_count in IsState (seen state.old.store) state.old.log }
+    requires agrees { IsState (K.seen state.old.store) state.old.log }
     requires count { length sources.now ≡ length pieces.now }
     requires chunks { AreChunks state.old.log.events (new_pieces sources.now pieces.now) }
-    ensures looked { let seen = seen_of K.contents K.faults K.prefixes K.names K.standing K.change_count in
-        IfOk result (λ seen_at. (opening : Opening) → Agrees opening (seen state.old.store) state.old.log → AreLookedAt opening state.old.log.events (new_pieces sources.now pieces.now) seen_at.0.items) }
+    ensures looked { IfOk result (λ seen_at. (opening : Opening)
+        → Agrees opening (K.seen state.old.store) state.old.log
+        → AreLookedAt opening state.old.log.events (new_pieces sources.now pieces.now) seen_at.0.items) }
     ensures mark { IfOk result (λ seen_at. seen_at.1 ≡ length state.new.log.events) }
     ensures events { OnOk result (state.new.log.events ≡ state.old.log.events) }
-    ensures failed { (event : ℕ) → result ≡ Err (look_error.StoreFailed event) → HasFailedAmong owner (new_pieces sources.now pieces.now) state.old.log.events state.new.log.events event }
+    ensures failed { (event : ℕ) → result ≡ Err (look_error.StoreFailed event)
+        → HasFailedAmong owner (new_pieces sources.now pieces.now) state.old.log.events state.new.log.events event }
     ensures memory { result ≡ Err look_error.Memory → state.new.log.events ≡ state.old.log.events }
-    ensures kept { let seen = seen_of K.contents K.faults K.prefixes K.names K.standing K.change_count in KeepsAgreement (seen state.old.store) state.old.log (seen state.new.store) state.new.log }
+    ensures kept { KeepsAgreement (K.seen state.old.store) state.old.log (K.seen state.new.store) state.new.log }
 {
     let mut looks = Vec::new(alloc);
     for (k, source) in sources.iter().enumerate() {

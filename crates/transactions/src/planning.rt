@@ -36,7 +36,8 @@ impl Txn {
     fn source(&self, cells: &ViewCells, piece: usize) -> Source
         requires cells { CanStage self.now.staged cells.now (length cells.now.leaves) }
         requires piece { piece < length cells.now.pieces }
-        ensures { (d : PieceOf) → result ≡ source_of self.now.staged self.now.kept (slice_index_or cells.now.pieces piece d) }
+        ensures { (d : PieceOf) → result ≡ source_of self.now.staged self.now.kept
+            (slice_index_or cells.now.pieces piece d) }
     {
         if !self.staging.needs(cells, piece) {
             return Source::Covered;
@@ -128,6 +129,6 @@ fn share(snapshot: &Snapshot) -> Result<Snapshot, AllocError>
     ensures value { IfOk result (λ s. s ≡ snapshot.now) }
     ensures dense { IfOk result (λ s. IsDense s.cells) }
 {
-    let _ = snapshot.cells().words();
+    let _ = snapshot.cells().count();
     snapshot.share()
 }

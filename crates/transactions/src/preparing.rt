@@ -47,8 +47,10 @@ pub(crate) fn commit_kept<K: KvStore, R: Wait, G: Gate>(
 ) -> Result<List<u64>, CommitRefused>
     requires pass { IsIdle book.now pass.old }
     requires txn { IsTxnIn book.now.fixed pass.old.seen (txn_of line mode ops.now staging.now kept.now) }
-    requires recorded { IsRecorded book.now.fixed pass.old.seen (transaction_of (txn_of line mode ops.now staging.now kept.now)) }
-    ensures { HasCommitted book.now pass.old pass.new (transaction_of (txn_of line mode ops.now staging.now kept.now)) result }
+    requires recorded { IsRecorded book.now.fixed pass.old.seen
+        (transaction_of (txn_of line mode ops.now staging.now kept.now)) }
+    ensures { HasCommitted book.now pass.old pass.new
+        (transaction_of (txn_of line mode ops.now staging.now kept.now)) result }
 {
     let parts = parts_of(alloc, staging)?;
     let asked = ask_in_turn(alloc, rt, book, pass, parts)?;

@@ -15,7 +15,6 @@ ghost use Rattle.stack_driver.specs.Views.{look_of};
 ghost use Rattle.stack_driver.specs.declared.view.View.{View as ViewOf};
 ghost use Rattle.stack_targets.specs.Landings.{leaves_of};
 ghost use Rattle.state_laws.specs.Outline.{outline};
-ghost use Rattle.state_laws.specs.Seen.{seen_of};
 ghost use Rattle.transaction_cells.specs.Gathered.{AreChunksOf, AreTypedChunks, IsTold};
 ghost use Rattle.transaction_cells.specs.Operations.{AreStaged, HasSites, IsLeafIn};
 ghost use Rattle.transaction_cells.specs.Pieces.{AreCells};
@@ -78,7 +77,8 @@ impl Txn {
         requires pass { IsIdle book.now pass.old }
         requires txn { IsTxnIn book.now.fixed pass.old.seen self.old }
         requires refs { HasKnownRefs pass.old.seen v.now }
-        ensures read { IfOk result (λ words. HasRead book.now.fixed (length pass.old.seen) pass.new.seen self.old self.new v.now words) }
+        ensures read { IfOk result (λ words. HasRead book.now.fixed
+            (length pass.old.seen) pass.new.seen self.old self.new v.now words) }
         ensures turned { OnOk result (HasPassed book.now pass.old pass.new []) }
         ensures txn { IsTxnIn book.now.fixed pass.new.seen self.new }
         ensures errors { IfErr result (IsReadError book.now pass.old pass.new self.old v.now) }
@@ -103,7 +103,8 @@ impl Txn {
     ) -> Result<Words, ReadError>
         requires pass { IsIdle book.now pass.old }
         requires read { IsReadOf book.now.fixed pass.old.seen self.old v.now cells.now }
-        ensures read { IfOk result (λ words. HasRead book.now.fixed (length pass.old.seen) pass.new.seen self.old self.new v.now words) }
+        ensures read { IfOk result (λ words. HasRead book.now.fixed
+            (length pass.old.seen) pass.new.seen self.old self.new v.now words) }
         ensures turned { OnOk result (HasPassed book.now pass.old pass.new []) }
         ensures txn { IsTxnIn book.now.fixed pass.new.seen self.new }
         ensures errors { IfErr result (IsReadError book.now pass.old pass.new self.old v.now) }
@@ -129,7 +130,8 @@ impl Txn {
         requires pass { IsIdle book.now pass.old }
         requires read { IsReadOf book.now.fixed pass.old.seen self.old v.now cells.now }
         requires sources { sources.now ≡ sources_of self.old.staged self.old.kept cells.now.pieces }
-        ensures read { IfOk result (λ words. HasRead book.now.fixed (length pass.old.seen) pass.new.seen self.old self.new v.now words) }
+        ensures read { IfOk result (λ words. HasRead book.now.fixed
+            (length pass.old.seen) pass.new.seen self.old self.new v.now words) }
         ensures turned { OnOk result (HasPassed book.now pass.old pass.new []) }
         ensures txn { IsTxnIn book.now.fixed pass.new.seen self.new }
         ensures errors { IfErr result (IsReadError book.now pass.old pass.new self.old v.now) }
@@ -156,10 +158,13 @@ impl Txn {
         requires pass { IsIdle book.now pass.old }
         requires read { (seen : ℕ) × IsReadBy book.now.fixed seen pass.old.seen self.old v.now cells.now fetched.items }
         requires sources { sources.now ≡ sources_of self.old.staged self.old.kept cells.now.pieces }
-        ensures read { IfOk result (λ words. (seen : ℕ) → IsReadBy book.now.fixed seen pass.old.seen self.old v.now cells.now fetched.items → HasRead book.now.fixed seen pass.new.seen self.old self.new v.now words) }
+        ensures read { IfOk result (λ words. (seen : ℕ)
+            → IsReadBy book.now.fixed seen pass.old.seen self.old v.now cells.now fetched.items
+            → HasRead book.now.fixed seen pass.new.seen self.old self.new v.now words) }
         ensures ok { OnOk result (pass.new ≡ pass.old) }
         ensures txn { IsTxnIn book.now.fixed pass.new.seen self.new }
-        ensures errors { IfErr result (λ e. IsStrayRefusal book.now pass.old pass.new (strays_by self.old cells.now fetched.items) e) }
+        ensures errors { IfErr result (λ e. IsStrayRefusal book.now pass.old pass.new
+            (strays_by self.old cells.now fetched.items) e) }
         ensures same { OnErr result (self.new ≡ self.old) }
     {
         match self.checked(alloc, rt, book, pass, v, cells, sources, &fetched) {
@@ -185,7 +190,8 @@ impl Txn {
         requires sources { sources.now ≡ sources_of self.now.staged self.now.kept cells.now.pieces }
         ensures none { OnOk result (strays_by self.now cells.now fetched.now ≡ []) }
         ensures ok { OnOk result (pass.new ≡ pass.old) }
-        ensures errors { IfErr result (IsStrayRefusal book.now pass.old pass.new (strays_by self.now cells.now fetched.now)) }
+        ensures errors { IfErr result (IsStrayRefusal book.now pass.old pass.new
+            (strays_by self.now cells.now fetched.now)) }
     {
         match self.strays(alloc, cells, sources, fetched) {
             Ok(strays) => unless_stray(rt, book, pass, &strays),
@@ -204,15 +210,23 @@ impl Txn {
     ) -> Result<Words, ReadError>
         requires view { IsView v.now }
         requires cells { CanStage self.old.staged cells.now (length cells.now.leaves) }
-        requires sized { AllByRecursion IsDenseOrNone (snapshots_of (had_by self.old cells.now fetched.items)) → AreChunksOf cells.now.pieces (snapshots_of (had_by self.old cells.now fetched.items)) }
+        requires sized { AllByRecursion IsDenseOrNone (snapshots_of (had_by self.old cells.now fetched.items))
+            → AreChunksOf cells.now.pieces (snapshots_of (had_by self.old cells.now fetched.items)) }
         requires sources { sources.now ≡ sources_of self.old.staged self.old.kept cells.now.pieces }
         requires new { AreNewTo self.old.kept fetched.items }
         ensures ok { IfOk result (λ words. self.new ≡ with_read self.old v.now words fetched.items) }
         ensures count { IfOk result (λ words. length words ≡ length cells.now.leaves) }
-        ensures shown { IfOk result (λ words. (events : History) (content : Content) → AllByRecursion (IsLeafIn events) (leaves_of v.now) → HasSites v.now → AreCells (sites_of v.now) cells.now → AreStaged events self.old.ops self.old.staged
-            → AllByRecursion (IsTold events content cells.now.pieces (snapshots_of (had_by self.old cells.now fetched.items))) (unwritten self.old.ops v.now) → map Some words ≡ read_values (written self.old.ops content) v.now) }
-        ensures typed { IfOk result (λ words. (events : History) → AllByRecursion (IsLeafIn events) (leaves_of v.now) → HasSites v.now → AreCells (sites_of v.now) cells.now → AreStaged events self.old.ops self.old.staged
-            → (AllByRecursion IsDenseOrNone (snapshots_of (had_by self.old cells.now fetched.items)) → AreTypedChunks events cells.now.pieces (snapshots_of (had_by self.old cells.now fetched.items))) → AllByRecursion (IsWord (look_of v.now).dtype) words) }
+        ensures shown { IfOk result (λ words. (events : History) (content : Content)
+            → AllByRecursion (IsLeafIn events) (leaves_of v.now) → HasSites v.now → AreCells (sites_of v.now) cells.now
+            → AreStaged events self.old.ops self.old.staged
+            → AllByRecursion (IsTold events content cells.now.pieces
+            (snapshots_of (had_by self.old cells.now fetched.items))) (unwritten self.old.ops v.now)
+            → map Some words ≡ read_values (written self.old.ops content) v.now) }
+        ensures typed { IfOk result (λ words. (events : History) → AllByRecursion (IsLeafIn events) (leaves_of v.now)
+            → HasSites v.now → AreCells (sites_of v.now) cells.now → AreStaged events self.old.ops self.old.staged
+            → (AllByRecursion IsDenseOrNone (snapshots_of (had_by self.old cells.now fetched.items))
+            → AreTypedChunks events cells.now.pieces (snapshots_of (had_by self.old cells.now fetched.items)))
+            → AllByRecursion (IsWord (look_of v.now).dtype) words) }
         ensures err { IfErr result (λ e. e ≡ read_error.Memory) }
         ensures same { OnErr result (self.new ≡ self.old) }
     {
@@ -229,13 +243,22 @@ impl Txn {
         fetched: &[Kept],
     ) -> Result<Vec<u64>, AllocError>
         requires cells { CanStage self.now.staged cells.now (length cells.now.leaves) }
-        requires sized { AllByRecursion IsDenseOrNone (snapshots_of (had_by self.now cells.now fetched.now)) → AreChunksOf cells.now.pieces (snapshots_of (had_by self.now cells.now fetched.now)) }
+        requires sized { AllByRecursion IsDenseOrNone (snapshots_of (had_by self.now cells.now fetched.now))
+            → AreChunksOf cells.now.pieces (snapshots_of (had_by self.now cells.now fetched.now)) }
         requires sources { sources.now ≡ sources_of self.now.staged self.now.kept cells.now.pieces }
         ensures count { IfOk result (λ words. length words.items ≡ length cells.now.leaves) }
-        ensures shown { IfOk result (λ words. (events : History) (v : ViewOf) (ops : List Op) (content : Content) → AllByRecursion (IsLeafIn events) (leaves_of v) → HasSites v → AreCells (sites_of v) cells.now → AreStaged events ops self.now.staged
-            → AllByRecursion (IsTold events content cells.now.pieces (snapshots_of (had_by self.now cells.now fetched.now))) (unwritten ops v) → map Some words.items ≡ read_values (written ops content) v) }
-        ensures typed { IfOk result (λ words. (events : History) (v : ViewOf) (ops : List Op) → AllByRecursion (IsLeafIn events) (leaves_of v) → HasSites v → AreCells (sites_of v) cells.now → AreStaged events ops self.now.staged
-            → (AllByRecursion IsDenseOrNone (snapshots_of (had_by self.now cells.now fetched.now)) → AreTypedChunks events cells.now.pieces (snapshots_of (had_by self.now cells.now fetched.now))) → AllByRecursion (IsWord (look_of v).dtype) words.items) }
+        ensures shown { IfOk result (λ words. (events : History) (v : ViewOf) (ops : List Op) (content : Content)
+            → AllByRecursion (IsLeafIn events) (leaves_of v) → HasSites v → AreCells (sites_of v) cells.now
+            → AreStaged events ops self.now.staged
+            → AllByRecursion (IsTold events content cells.now.pieces
+            (snapshots_of (had_by self.now cells.now fetched.now))) (unwritten ops v)
+            → map Some words.items ≡ read_values (written ops content) v) }
+        ensures typed { IfOk result (λ words. (events : History) (v : ViewOf) (ops : List Op)
+            → AllByRecursion (IsLeafIn events) (leaves_of v) → HasSites v → AreCells (sites_of v) cells.now
+            → AreStaged events ops self.now.staged
+            → (AllByRecursion IsDenseOrNone (snapshots_of (had_by self.now cells.now fetched.now))
+            → AreTypedChunks events cells.now.pieces (snapshots_of (had_by self.now cells.now fetched.now)))
+            → AllByRecursion (IsWord (look_of v).dtype) words.items) }
     {
         let chunks = chunks_from(alloc, sources, &self.kept, fetched)?;
         self.staging.gather(alloc, cells, &chunks)
@@ -259,7 +282,8 @@ fn unless_stray<K: KvStore, R: Wait>(
     strays: &[Stray],
 ) -> Result<(), ReadError>
     requires pass { IsIdle book.now pass.old }
-    requires stored { (events : History) → IsPrefix pass.old.seen events → IsLegal finmap.empty (outline events) → AllByRecursion (IsStoredIn events) strays.now }
+    requires stored { (events : History) → IsPrefix pass.old.seen events → IsLegal finmap.empty (outline events)
+        → AllByRecursion (IsStoredIn events) strays.now }
     ensures none { OnOk result (strays.now ≡ []) }
     ensures ok { OnOk result (pass.new ≡ pass.old) }
     ensures errors { IfErr result (IsStrayRefusal book.now pass.old pass.new strays.now) }
@@ -284,7 +308,8 @@ fn least_in_turn<K: KvStore, R: Wait>(
 ) -> Result<(Name, u64), AllocError>
     requires pass { IsIdle book.now pass.old }
     requires some { 0 < length strays.now }
-    requires stored { (events : History) → IsPrefix pass.old.seen events → IsLegal finmap.empty (outline events) → AllByRecursion (IsStoredIn events) strays.now }
+    requires stored { (events : History) → IsPrefix pass.old.seen events → IsLegal finmap.empty (outline events)
+        → AllByRecursion (IsStoredIn events) strays.now }
     ensures least { IfOk result (λ r. HasLeastKey pass.new.seen strays.now r.1 r.0) }
     ensures turned { HasTurned book.now pass.old pass.new [] }
 {

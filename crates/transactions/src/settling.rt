@@ -3,7 +3,6 @@ ghost use Rattle.std.specs.Prelude.{◌≡◌, ◌++◌, length};
 ghost use Rattle.history.specs.History.{History};
 ghost use Rattle.state_laws.specs.Agreement.{Opening, Agrees, IsState};
 ghost use Rattle.state_laws.specs.Fetches.{IsChunkOf};
-ghost use Rattle.state_laws.specs.Seen.{seen_of};
 ghost use Rattle.transactions.specs.Looking.{IsFresh, AreFresh, AreChunks};
 ghost use Rattle.transactions.specs.Sources.{new_pieces};
 ghost use Rattle.transactions.specs.Txn.{chunk_at};
@@ -25,11 +24,14 @@ pub(crate) fn settle_all<K: KvStore>(
 ) -> Result<(), AllocError>
     requires count { length sources.now ≡ length pieces.now }
     requires chunks { AreChunks state.old.log.events (new_pieces sources.now pieces.now) }
-    requires fresh { let seen = seen_of K.contents K.faults K.prefixes K.names K.standing K.change_count in (opening : Opening) × (early : History) × (more : History) × (state.old.log.events ≡ early ++ more)
-        × AreFresh opening early (new_pieces sources.now pieces.now) fresh.now × Agrees opening (seen state.old.store) state.old.log }
+    requires fresh { (opening : Opening) × (early : History) × (more : History) × (state.old.log.events ≡ early ++ more)
+        × AreFresh opening early (new_pieces sources.now pieces.now) fresh.now
+        × Agrees opening (K.seen state.old.store) state.old.log }
     ensures events { state.new.log.events ≡ state.old.log.events }
-    ensures kept { let seen = seen_of K.contents K.faults K.prefixes K.names K.standing K.change_count in (opening : Opening) (early more : History) → state.old.log.events ≡ early ++ more
-        → AreFresh opening early (new_pieces sources.now pieces.now) fresh.now → Agrees opening (seen state.old.store) state.old.log → Agrees opening (seen state.new.store) state.new.log }
+    ensures kept { (opening : Opening) (early more : History) → state.old.log.events ≡ early ++ more
+        → AreFresh opening early (new_pieces sources.now pieces.now) fresh.now
+        → Agrees opening (K.seen state.old.store) state.old.log
+        → Agrees opening (K.seen state.new.store) state.new.log }
 {
     let mut next = 0;
     for (k, source) in sources.iter().enumerate() {
@@ -42,11 +44,12 @@ pub(crate) fn settle_all<K: KvStore>(
 }
 
 fn settle<K: KvStore>(state: &mut State<K>, id: &[u64], f: &Fresh) -> Result<(), AllocError>
-    requires agrees { let seen = seen_of K.contents K.faults K.prefixes K.names K.standing K.change_count in IsState (seen state.old.store) state.old.log }
+    requires agrees { IsState (K.seen state.old.store) state.old.log }
     requires chunk { IsChunkOf state.old.log.events (chunk_at id.now) }
     ensures events { state.new.log.events ≡ state.old.log.events }
-    ensures kept { let seen = seen_of K.contents K.faults K.prefixes K.names K.standing K.change_count in (opening : Opening) (early more : History) → state.old.log.events ≡ early ++ more
-        → IsFresh opening early (chunk_at id.now) f.now → Agrees opening (seen state.old.store) state.old.log → Agrees opening (seen state.new.store) state.new.log }
+    ensures kept { (opening : Opening) (early more : History) → state.old.log.events ≡ early ++ more
+        → IsFresh opening early (chunk_at id.now) f.now → Agrees opening (K.seen state.old.store) state.old.log
+        → Agrees opening (K.seen state.new.store) state.new.log }
 {
     if !f.is_new {
         return Ok(());

@@ -30,7 +30,8 @@ impl Txn {
         requires cells { CanStage self.now.staged cells.now (length cells.now.leaves) }
         requires count { length sources.now ≡ length cells.now.pieces }
         requires fit { AreFitting cells.now.pieces (had_from sources.now self.now.kept fetched.now 0) }
-        ensures { IfOk result (λ strays. strays.items ≡ strays_of self.now.staged cells.now.pieces (had_from sources.now self.now.kept fetched.now 0)) }
+        ensures { IfOk result (λ strays. strays.items
+            ≡ strays_of self.now.staged cells.now.pieces (had_from sources.now self.now.kept fetched.now 0)) }
     {
         let mut strays = Vec::new(alloc);
         let mut next = 0;
@@ -48,7 +49,8 @@ impl Txn {
         requires cells { CanStage self.now.staged cells.now (length cells.now.leaves) }
         requires piece { piece < length cells.now.pieces }
         requires fits { (d : PieceOf) → IsFitting (slice_index_or cells.now.pieces piece d) (option_copied had) }
-        ensures { (d : PieceOf) → result ≡ stray_at self.now.staged (slice_index_or cells.now.pieces piece d) (option_copied had.entry) }
+        ensures { (d : PieceOf) → result ≡ stray_at self.now.staged (slice_index_or cells.now.pieces piece d)
+            (option_copied had.entry) }
     {
         match had {
             Some(k) => self.stray_of(cells, piece, k),
@@ -60,7 +62,8 @@ impl Txn {
         requires cells { CanStage self.now.staged cells.now (length cells.now.leaves) }
         requires piece { piece < length cells.now.pieces }
         requires fits { (d : PieceOf) → IsFitting (slice_index_or cells.now.pieces piece d) (Some k.now) }
-        ensures { (d : PieceOf) → result ≡ stray_at self.now.staged (slice_index_or cells.now.pieces piece d) (Some k.now) }
+        ensures { (d : PieceOf) → result ≡ stray_at self.now.staged (slice_index_or cells.now.pieces piece d)
+            (Some k.now) }
     {
         let chunk = k.snapshot.cells().shape();
         if self

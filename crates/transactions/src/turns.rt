@@ -34,11 +34,14 @@ pub(crate) fn look_in_turn<K: KvStore, R: Wait>(
 ) -> Result<(Vec<Looked>, u64), LookError>
     requires pass { IsIdle book.now pass.old }
     requires count { length sources.now ≡ length pieces.now }
-    requires chunks { (events : History) → IsPrefix pass.old.seen events → IsLegal finmap.empty (outline events) → AreChunks events (new_pieces sources.now pieces.now) }
-    ensures looked { IfOk result (λ seen_at. AreLookedAt book.now.fixed pass.new.seen (new_pieces sources.now pieces.now) seen_at.0.items) }
+    requires chunks { (events : History) → IsPrefix pass.old.seen events → IsLegal finmap.empty (outline events)
+        → AreChunks events (new_pieces sources.now pieces.now) }
+    ensures looked { IfOk result (λ seen_at.
+        AreLookedAt book.now.fixed pass.new.seen (new_pieces sources.now pieces.now) seen_at.0.items) }
     ensures mark { IfOk result (λ seen_at. seen_at.1 ≡ length pass.new.seen) }
     ensures ok { OnOk result (HasTurned book.now pass.old pass.new []) }
-    ensures failed { (event : ℕ) → result ≡ Err (look_error.StoreFailed event) → HasFailedTurn book.now pass.old pass.new (new_pieces sources.now pieces.now) event }
+    ensures failed { (event : ℕ) → result ≡ Err (look_error.StoreFailed event)
+        → HasFailedTurn book.now pass.old pass.new (new_pieces sources.now pieces.now) event }
     ensures memory { result ≡ Err look_error.Memory → HasTurned book.now pass.old pass.new [] }
 {
     let owner = pass.number();
@@ -59,7 +62,8 @@ pub(crate) fn settle_in_turn<K: KvStore, R: Wait>(
 ) -> Result<(), AllocError>
     requires pass { IsIdle book.now pass.old }
     requires count { length sources.now ≡ length pieces.now }
-    requires chunks { (events : History) → IsPrefix pass.old.seen events → IsLegal finmap.empty (outline events) → AreChunks events (new_pieces sources.now pieces.now) }
+    requires chunks { (events : History) → IsPrefix pass.old.seen events → IsLegal finmap.empty (outline events)
+        → AreChunks events (new_pieces sources.now pieces.now) }
     requires fresh { AreFresh book.now.fixed pass.old.seen (new_pieces sources.now pieces.now) fresh.now }
     ensures { HasTurned book.now pass.old pass.new [] }
 {

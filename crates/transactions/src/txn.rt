@@ -86,8 +86,10 @@ impl Txn {
         requires txn { MayUse v.now self.old }
         requires words { (n : ℕ) → count_answer (look_of v.now).dims ≡ Ok n → length words.now ≡ n }
         requires typed { AllByRecursion (IsWord (look_of v.now).dtype) words.now }
-        ensures ok { OnOk result ((self.new.ops ≡ self.old.ops ++ op.Write v.now words.now ∷ []) × (self.new ≡ record self.old { ops = self.new.ops; staged = self.new.staged })) }
-        ensures txn { OnOk result ((opening : Opening) (events : History) → IsTxnIn opening events self.old → HasKnownRefs events v.now → IsTxnIn opening events self.new) }
+        ensures ok { OnOk result ((self.new.ops ≡ self.old.ops ++ op.Write v.now words.now ∷ [])
+            × (self.new ≡ record self.old { ops = self.new.ops; staged = self.new.staged })) }
+        ensures txn { OnOk result ((opening : Opening) (events : History) → IsTxnIn opening events self.old
+            → HasKnownRefs events v.now → IsTxnIn opening events self.new) }
         ensures whole { OnOk result (IsStaged (op.Write v.now words.now)) }
         ensures err { IfErr result (IsLocateFault v.now) }
         ensures same { OnErr result (result ≢ Err write.Memory → self.new ≡ self.old) }
@@ -112,8 +114,10 @@ impl Txn {
         requires sites { HasSites v.now }
         requires are { AreCells (sites_of v.now) cells.now }
         requires typed { AllByRecursion (IsWord (look_of v.now).dtype) words.now }
-        ensures ok { OnOk result ((self.new.ops ≡ self.old.ops ++ op.Write v.now words.now ∷ []) × (self.new ≡ record self.old { ops = self.new.ops; staged = self.new.staged })) }
-        ensures staged { OnOk result ((events : History) → AllByRecursion (IsLeafIn events) (leaves_of v.now) → AreStaged events self.old.ops self.old.staged → AreStaged events self.new.ops self.new.staged) }
+        ensures ok { OnOk result ((self.new.ops ≡ self.old.ops ++ op.Write v.now words.now ∷ [])
+            × (self.new ≡ record self.old { ops = self.new.ops; staged = self.new.staged })) }
+        ensures staged { OnOk result ((events : History) → AllByRecursion (IsLeafIn events) (leaves_of v.now)
+            → AreStaged events self.old.ops self.old.staged → AreStaged events self.new.ops self.new.staged) }
         ensures err { OnErr result (result ≡ Err write.Memory) }
         ensures memory { OnErr result (self.new ≡ record self.old { staged = self.new.staged }) }
     {

@@ -143,8 +143,10 @@ pub(crate) fn read_entries(
     requires finite { IsTrue (list_all is_finite read.now) }
     requires ordered { IsTrue (list_all is_ordered read.now) }
     requires array { IsTrue (are_entries sizes.now entries.now) }
-    requires readable { (cell : List ℤ) → IsCell read.now cell → IsTrue (can_read outers.now sizes.now dims.now maps.now cell) }
-    ensures { IfOk result (λ gathered. gathered.items ≡ map (entry_over outers.now sizes.now entries.now dims.now maps.now) (cells_of read.now)) }
+    requires readable { (cell : List ℤ) → IsCell read.now cell
+        → IsTrue (can_read outers.now sizes.now dims.now maps.now cell) }
+    ensures { IfOk result (λ gathered. gathered.items
+        ≡ map (entry_over outers.now sizes.now entries.now dims.now maps.now) (cells_of read.now)) }
 {
     let mut walk = Walk::over(alloc, read)?;
     let mut index = lower_bounds(alloc, read)?;

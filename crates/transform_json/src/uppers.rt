@@ -147,7 +147,9 @@ fn below(bound: ReadBound) -> Option<ReadBound>
 }
 
 fn by_size(lower: Option<i128>, item: &Value) -> Option<ReadBound>
-    ensures { result ≡ option_and_then (λ p. option_map (λ hi. record { number = Some hi; implicit = p.1 }) (end_of lower p.0)) (alone size_number (view item.now)) }
+    ensures { result ≡ option_and_then (λ p.
+        option_map (λ hi. record { number = Some hi; implicit = p.1 }) (end_of lower p.0))
+        (alone size_number (view item.now)) }
 {
     match list_items(item) {
         None => bound(Some(end_of(lower, size_number(item)?)?), false),

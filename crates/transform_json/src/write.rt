@@ -88,7 +88,8 @@ fn put_lowers(
     name: &str,
     dims: &[Interval],
 ) -> Result<(), AllocError>
-    ensures { OnOk result (members_view members.new.entries ≡ with_member name.now (list_of (map lower_data dims.now)) (members_view members.old.entries)) }
+    ensures { OnOk result (members_view members.new.entries
+        ≡ with_member name.now (list_of (map lower_data dims.now)) (members_view members.old.entries)) }
 {
     put(members, alloc, name, lowers(alloc, dims)?)
 }
@@ -100,7 +101,8 @@ fn put_uppers(
     name: &str,
     dims: &[Interval],
 ) -> Result<(), AllocError>
-    ensures value { OnOk result (members_view members.new.entries ≡ with_member name.now (list_of (map upper_data dims.now)) (members_view members.old.entries)) }
+    ensures value { OnOk result (members_view members.new.entries
+        ≡ with_member name.now (list_of (map upper_data dims.now)) (members_view members.old.entries)) }
     ensures bounds { OnOk result (AllByRecursion AreBounds dims.now) }
 {
     put(members, alloc, name, uppers(alloc, dims)?)
@@ -113,7 +115,8 @@ fn put_outputs(
     maps: &[OutMap],
 ) -> Result<(), AllocError>
     requires { IsTrue (list_all has_entries maps.now) }
-    ensures value { OnOk result (members_view members.new.entries ≡ with_member (codes "output") (list_of (map map_data maps.now)) (members_view members.old.entries)) }
+    ensures value { OnOk result (members_view members.new.entries
+        ≡ with_member (codes "output") (list_of (map map_data maps.now)) (members_view members.old.entries)) }
     ensures words { OnOk result (AllByRecursion HasWords maps.now) }
     ensures few { OnOk result (AllByRecursion HasFewLists maps.now) }
 {
@@ -182,7 +185,8 @@ fn put_labels(
     name: &str,
     labels: &[Name],
 ) -> Result<(), AllocError>
-    ensures { OnOk result (members_view members.new.entries ≡ with_labels name.now labels.now (members_view members.old.entries)) }
+    ensures { OnOk result (members_view members.new.entries
+        ≡ with_labels name.now labels.now (members_view members.old.entries)) }
 {
     if are_unlabelled(labels) {
         return Ok(());
@@ -292,7 +296,8 @@ fn put_number(
     usual: i64,
     number: i64,
 ) -> Result<(), AllocError>
-    ensures { OnOk result (members_view members.new.entries ≡ with_number name.now usual number (members_view members.old.entries)) }
+    ensures { OnOk result (members_view members.new.entries
+        ≡ with_number name.now usual number (members_view members.old.entries)) }
 {
     if number == usual {
         return Ok(());

@@ -22,7 +22,8 @@ pub(crate) fn win<S: Book, R: Wait>(
     rt: &R,
     seat: &mut Seat<Option<S>, SeatView<S::Entry, S::Fixed>>,
 )
-    requires at { IsAt (book_at shared.now.table_id shared.now.key.passes (S.opening shared.now.key.start.value)) seat.old }
+    requires at { IsAt (book_at shared.now.table_id shared.now.key.passes
+        (S.opening shared.now.key.start.value)) seat.old }
     requires one_word { shared.now.table_id.words ≡ 1 }
     requires idle { seat.old.me.1 ≡ [] }
     ensures same { (seat.new.table_id ≡ seat.old.table_id) × (seat.new.id ≡ seat.old.id) }
@@ -46,7 +47,8 @@ pub(crate) fn put<S: Book>(
     seat: &mut Seat<Option<S>, SeatView<S::Entry, S::Fixed>>,
     state: S,
 )
-    requires at { IsAt (book_at shared.now.table_id shared.now.key.passes (S.opening shared.now.key.start.value)) seat.old }
+    requires at { IsAt (book_at shared.now.table_id shared.now.key.passes
+        (S.opening shared.now.key.start.value)) seat.old }
     requires one_word { shared.now.table_id.words ≡ 1 }
     requires turn { (seat.old.me.0.further ≡ []) × (seat.old.me.1 ≡ in_hand true) × (seat.old.me.0.holds ≡ true) }
     requires agrees { S.agrees state (S.opening shared.now.key.start.value) }
@@ -68,10 +70,17 @@ fn deal_one<S: Book>(
     number: u32,
 ) -> Pass<S>
     requires at { (seat.old.table_id ≡ shared.now.table_id) × (shared.now.table_id.words ≡ 1) }
-    requires more { (k : ℕ) × (seat.old.me ≡ (new_view (S.opening shared.now.key.start.value) number (new_claims (suc number) (suc k)), [])) }
+    requires more { (k : ℕ) × (seat.old.me ≡
+        (new_view (S.opening shared.now.key.start.value) number (new_claims (suc number) (suc k)), [])) }
     ensures table { seat.new.table_id ≡ seat.old.table_id }
-    ensures left { (k : ℕ) → seat.old.me ≡ (new_view (S.opening shared.now.key.start.value) number (new_claims (suc number) (suc k)), []) → seat.new.me ≡ (new_view (S.opening shared.now.key.start.value) (suc number) (new_claims (suc (suc number)) k), []) }
-    ensures pass { result ≡ new_pass (book_at shared.now.table_id shared.now.key.passes (S.opening shared.now.key.start.value)) number }
+    ensures left { (k : ℕ) → seat.old.me ≡ (
+      new_view (S.opening shared.now.key.start.value) number
+          (new_claims (suc number) (suc k)),
+      [],
+    ) → seat.new.me
+        ≡ (new_view (S.opening shared.now.key.start.value) (suc number) (new_claims (suc (suc number)) k), []) }
+    ensures pass { result ≡ new_pass (book_at shared.now.table_id shared.now.key.passes
+        (S.opening shared.now.key.start.value)) number }
 {
     let other = shared.split_seat::<Deals>(seat);
     pass_of(other, number)
@@ -97,7 +106,8 @@ pub(crate) fn deal<S: Book>(
     requires some_pass { (0 < passes) × (passes ≡ shared.now.key.passes) }
     requires room { (row.items ≡ []) × (passes ≤ vec_capacity row) }
     ensures count { vec_len result ≡ passes }
-    ensures passes { AreNew (book_at shared.now.table_id shared.now.key.passes (S.opening shared.now.key.start.value)) result.items }
+    ensures passes { AreNew (book_at shared.now.table_id shared.now.key.passes
+        (S.opening shared.now.key.start.value)) result.items }
 {
     let last = passes - 1;
     for number in 0..last {
@@ -113,9 +123,11 @@ pub(crate) fn unite<S: Book>(
     seat: &mut Seat<Option<S>, SeatView<S::Entry, S::Fixed>>,
     mut passes: Vec<Pass<S>>,
 )
-    requires at { IsAt (book_at shared.now.table_id shared.now.key.passes (S.opening shared.now.key.start.value)) seat.old }
+    requires at { IsAt (book_at shared.now.table_id shared.now.key.passes
+        (S.opening shared.now.key.start.value)) seat.old }
     requires one_word { shared.now.table_id.words ≡ 1 }
-    requires passes { All (IsIdle (book_at shared.now.table_id shared.now.key.passes (S.opening shared.now.key.start.value))) passes.items }
+    requires passes { All (IsIdle (book_at shared.now.table_id shared.now.key.passes
+        (S.opening shared.now.key.start.value))) passes.items }
     ensures table { seat.new.table_id ≡ seat.old.table_id }
     ensures claims { seat.new.me ≡ with_claims seat.old.me (map claim_of passes.items) }
 {
@@ -134,11 +146,13 @@ pub(crate) fn finish<S: Book>(
     table: Table<Option<S>, SeatView<S::Entry, S::Fixed>, Origin<S>, Turns<S>, Global>,
     seat: Seat<Option<S>, SeatView<S::Entry, S::Fixed>>,
 ) -> S
-    requires at { IsAt (book_at table.shared.table_id table.shared.key.passes (S.opening table.shared.key.start.value)) seat }
+    requires at { IsAt (book_at table.shared.table_id table.shared.key.passes
+        (S.opening table.shared.key.start.value)) seat }
     requires one_slot { table.shared.table_id.slots ≡ 1 }
     requires idle { seat.me.0.holds ≡ false }
     requires all { HasAll table.shared.key.passes seat.me.0 }
-    ensures { Ends S.owner S.history S.agrees table.shared.key.passes (S.opening table.shared.key.start.value) seat.me.0 result }
+    ensures { Ends S.owner S.history S.agrees table.shared.key.passes
+        (S.opening table.shared.key.start.value) seat.me.0 result }
 {
     let mut closed = table.close_with(seat);
     let slot = closed.take(0);

@@ -24,7 +24,8 @@ pub(crate) fn in_turn<T: Drop>(
     value: &Value,
     judged: Result<T, Fault>,
 ) -> Result<Option<T>, MetaError>
-    ensures value { IfOk result (λ o. in_turn (option_map (λ s. s.now) unknown.entry) name.now (view value.now) judged ≡ Ok o) }
+    ensures value { IfOk result (λ o. in_turn (option_map (λ s.
+        s.now) unknown.entry) name.now (view value.now) judged ≡ Ok o) }
     ensures right { IfOk result (λ o. IfSome o (λ x. judged ≡ Ok x)) }
     ensures causes { IfErr result (λ e. e ≢ MetaError.Memory
         → in_turn (option_map (λ s. s.now) unknown.entry) name.now (view value.now) judged ≡ Err e) }
@@ -54,7 +55,8 @@ pub(crate) fn none_before(alloc: Global, unknown: Option<&str>, name: &str) -> R
 #[tactic(auto, unfolding(crate::specs::Asking::none_left))]
 pub(crate) fn none_left(alloc: Global, unknown: Option<&str>) -> Result<(), MetaError>
     ensures value { OnOk result (none_left (option_map (λ s. s.now) unknown.entry) ≡ Ok tt) }
-    ensures causes { IfErr result (λ e. e ≢ MetaError.Memory → none_left (option_map (λ s. s.now) unknown.entry) ≡ Err e) }
+    ensures causes { IfErr result (λ e. e ≢ MetaError.Memory
+        → none_left (option_map (λ s. s.now) unknown.entry) ≡ Err e) }
 {
     match unknown {
         None => Ok(()),

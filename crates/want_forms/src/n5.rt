@@ -84,7 +84,8 @@ fn members_asked(
     dtype: Option<Dtype>,
     value: &Value,
 ) -> Result<N5Want, MetaError>
-    ensures value { IfOk result (λ w. members_asked (option_map (λ s. s.now) unknown.entry) dtype (view value.now) ≡ Ok w) }
+    ensures value { IfOk result (λ w. members_asked (option_map (λ s.
+        s.now) unknown.entry) dtype (view value.now) ≡ Ok w) }
     ensures causes { IfErr result (λ e. e ≢ MetaError.Memory
         → members_asked (option_map (λ s. s.now) unknown.entry) dtype (view value.now) ≡ Err e) }
 {
@@ -103,7 +104,8 @@ fn dimensions_asked(
     unknown: Option<&str>,
     value: &Value,
 ) -> Result<Option<Sizes>, MetaError>
-    ensures value { IfOk result (λ o. dimensions_asked (option_map (λ s. s.now) unknown.entry) (view value.now) ≡ Ok o) }
+    ensures value { IfOk result (λ o. dimensions_asked (option_map (λ s.
+        s.now) unknown.entry) (view value.now) ≡ Ok o) }
     ensures rules { IfOk result (λ o. IfSome o (λ sizes. IsShape sizes × (1 ≤ length sizes))) }
     ensures there { IfOk result (λ o. IfSome o (λ sizes.
         list_len_at (codes "dimensions") (view value.now) ≡ Some (length sizes))) }
@@ -130,13 +132,15 @@ fn dimensions_in_turn(
     unknown: Option<&str>,
     value: &Value,
 ) -> Result<Option<Sizes>, MetaError>
-    ensures value { IfOk result (λ o. in_turn (option_map (λ s. s.now) unknown.entry) (codes "dimensions") (view value.now)
+    ensures value { IfOk result (λ o. in_turn (option_map (λ s.
+        s.now) unknown.entry) (codes "dimensions") (view value.now)
         (judged_dimensions (sizes_at (codes "dimensions") (view value.now))) ≡ Ok o) }
     ensures rules { IfOk result (λ o. IfSome o (λ sizes. IsShape sizes × (1 ≤ length sizes))) }
     ensures there { IfOk result (λ o. IfSome o (λ sizes.
         list_len_at (codes "dimensions") (view value.now) ≡ Some (length sizes))) }
     ensures absent { IfOk result (λ o. IfNone o (list_len_at (codes "dimensions") (view value.now) ≡ None)) }
-    ensures causes { IfErr result (λ e. e ≢ MetaError.Memory → in_turn (option_map (λ s. s.now) unknown.entry) (codes "dimensions")
+    ensures causes { IfErr result (λ e. e ≢ MetaError.Memory
+        → in_turn (option_map (λ s. s.now) unknown.entry) (codes "dimensions")
         (view value.now) (judged_dimensions (sizes_at (codes "dimensions") (view value.now))) ≡ Err e) }
 {
     none_before(alloc, unknown, "dimensions")?;

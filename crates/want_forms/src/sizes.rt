@@ -55,7 +55,8 @@ pub(crate) fn chunks_in_turn(
     ensures rules { IfOk result (λ o. IfSome o (λ sizes. IsChunkShape sizes)) }
     ensures rank { IfOk result (λ o. IfSome o (HasRank least (list_len_at shape.now (view value.now)))) }
     ensures causes { IfErr result (λ e. e ≢ MetaError.Memory → in_turn (option_map (λ s. s.now) unknown.entry) name.now
-        (view value.now) (judged_beside least (list_len_at shape.now (view value.now)) (sizes_at name.now (view value.now))) ≡ Err e) }
+        (view value.now) (judged_beside least (list_len_at shape.now (view value.now))
+        (sizes_at name.now (view value.now))) ≡ Err e) }
 {
     none_before(alloc, unknown, name)?;
     if !is_there(value, name) {
@@ -75,7 +76,8 @@ pub(crate) fn chunks_beside(
     rank: Option<usize>,
     sizes: Option<Vec<u64>>,
 ) -> Result<Vec<u64>, MetaError>
-    ensures value { IfOk result (λ v. named name.now (judged_beside least rank (option_map (λ v. v.items) sizes)) ≡ Ok v.items) }
+    ensures value { IfOk result (λ v. named name.now (judged_beside least rank (option_map (λ v. v.items) sizes))
+        ≡ Ok v.items) }
     ensures rules { IfOk result (λ v. IsChunkShape v.items) }
     ensures rank { IfOk result (λ v. HasRank least rank v.items) }
     ensures causes { IfErr result (λ e. e ≢ MetaError.Memory
@@ -94,7 +96,8 @@ fn chunks_alone(
     least: usize,
     sizes: Option<Vec<u64>>,
 ) -> Result<Vec<u64>, MetaError>
-    ensures value { IfOk result (λ v. named name.now (judged_alone least (option_map (λ v. v.items) sizes)) ≡ Ok v.items) }
+    ensures value { IfOk result (λ v. named name.now (judged_alone least (option_map (λ v. v.items) sizes))
+        ≡ Ok v.items) }
     ensures rules { IfOk result (λ v. IsChunkShape v.items) }
     ensures least { IfOk result (λ v. least ≤ length v.items) }
     ensures most { IfOk result (λ v. length v.items ≤ 32) }

@@ -139,8 +139,10 @@ fn rest_asked(
     dtype: Option<Dtype>,
     value: &Value,
 ) -> Result<Rest, MetaError>
-    ensures value { IfOk result (λ rest. rest_asked (option_map (λ s. s.now) unknown.entry) dtype (view value.now) ≡ Ok rest) }
-    ensures word { IfOk result (λ rest. IfSome dtype (λ d. IfSome rest.fill (λ fill. IfSome fill (λ word. IsWord d word)))) }
+    ensures value { IfOk result (λ rest. rest_asked (option_map (λ s.
+        s.now) unknown.entry) dtype (view value.now) ≡ Ok rest) }
+    ensures word { IfOk result (λ rest. IfSome dtype (λ d.
+        IfSome rest.fill (λ fill. IfSome fill (λ word. IsWord d word)))) }
     ensures causes { IfErr result (λ e. e ≢ MetaError.Memory
         → rest_asked (option_map (λ s. s.now) unknown.entry) dtype (view value.now) ≡ Err e) }
 {
@@ -179,7 +181,8 @@ fn shape_asked(
 ) -> Result<Option<Sizes>, MetaError>
     ensures value { IfOk result (λ o. shape_asked (option_map (λ s. s.now) unknown.entry) (view value.now) ≡ Ok o) }
     ensures rules { IfOk result (λ o. IfSome o (λ sizes. IsShape sizes)) }
-    ensures there { IfOk result (λ o. IfSome o (λ sizes. list_len_at (codes "shape") (view value.now) ≡ Some (length sizes))) }
+    ensures there { IfOk result (λ o. IfSome o (λ sizes.
+        list_len_at (codes "shape") (view value.now) ≡ Some (length sizes))) }
     ensures absent { IfOk result (λ o. IfNone o (list_len_at (codes "shape") (view value.now) ≡ None)) }
     ensures causes { IfErr result (λ e. e ≢ MetaError.Memory
         → shape_asked (option_map (λ s. s.now) unknown.entry) (view value.now) ≡ Err e) }

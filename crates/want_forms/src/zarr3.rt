@@ -94,7 +94,8 @@ fn members_asked(
     dtype: Option<Dtype>,
     value: &Value,
 ) -> Result<Zarr3Want, MetaError>
-    ensures value { IfOk result (λ w. members_asked (option_map (λ s. s.now) unknown.entry) dtype (view value.now) ≡ Ok w) }
+    ensures value { IfOk result (λ w. members_asked (option_map (λ s.
+        s.now) unknown.entry) dtype (view value.now) ≡ Ok w) }
     ensures causes { IfErr result (λ e. e ≢ MetaError.Memory
         → members_asked (option_map (λ s. s.now) unknown.entry) dtype (view value.now) ≡ Err e) }
 {
@@ -126,9 +127,11 @@ fn rest_asked(
     dtype: Option<Dtype>,
     value: &Value,
 ) -> Result<Rest, MetaError>
-    ensures value { IfOk result (λ rest. rest_asked (option_map (λ s. s.now) unknown.entry) dtype (view value.now) ≡ Ok rest) }
+    ensures value { IfOk result (λ rest. rest_asked (option_map (λ s.
+        s.now) unknown.entry) dtype (view value.now) ≡ Ok rest) }
     ensures word { IfOk result (λ rest. IfSome dtype (λ d. IfSome rest.fill (λ word. IsWord d word))) }
-    ensures one_byte { IfOk result (λ rest. IfSome dtype (λ d. byte_count d ≡ 1 → IfSome rest.big (λ big. big ≡ false))) }
+    ensures one_byte { IfOk result (λ rest. IfSome dtype (λ d. byte_count d ≡ 1
+        → IfSome rest.big (λ big. big ≡ false))) }
     ensures causes { IfErr result (λ e. e ≢ MetaError.Memory
         → rest_asked (option_map (λ s. s.now) unknown.entry) dtype (view value.now) ≡ Err e) }
 {
@@ -155,7 +158,8 @@ fn shape_asked(
 ) -> Result<Option<Sizes>, MetaError>
     ensures value { IfOk result (λ o. shape_asked (option_map (λ s. s.now) unknown.entry) (view value.now) ≡ Ok o) }
     ensures rules { IfOk result (λ o. IfSome o (λ sizes. IsShape sizes)) }
-    ensures there { IfOk result (λ o. IfSome o (λ sizes. list_len_at (codes "shape") (view value.now) ≡ Some (length sizes))) }
+    ensures there { IfOk result (λ o. IfSome o (λ sizes.
+        list_len_at (codes "shape") (view value.now) ≡ Some (length sizes))) }
     ensures absent { IfOk result (λ o. IfNone o (list_len_at (codes "shape") (view value.now) ≡ None)) }
     ensures causes { IfErr result (λ e. e ≢ MetaError.Memory
         → shape_asked (option_map (λ s. s.now) unknown.entry) (view value.now) ≡ Err e) }
@@ -173,13 +177,16 @@ fn grid_in_turn(
     unknown: Option<&str>,
     value: &Value,
 ) -> Result<Option<Sizes>, MetaError>
-    ensures value { IfOk result (λ o. in_turn (option_map (λ s. s.now) unknown.entry) (codes "chunk_grid") (view value.now)
-        (grid_asked (list_len_at (codes "shape") (view value.now)) (get (codes "chunk_grid") (view value.now))) ≡ Ok o) }
+    ensures value { IfOk result (λ o. in_turn (option_map (λ s.
+        s.now) unknown.entry) (codes "chunk_grid") (view value.now)
+        (grid_asked (list_len_at (codes "shape") (view value.now)) (get (codes "chunk_grid") (view value.now)))
+        ≡ Ok o) }
     ensures rules { IfOk result (λ o. IfSome o (λ sizes. IsChunkShape sizes)) }
     ensures rank { IfOk result (λ o. IfSome o (HasRank 0 (list_len_at (codes "shape") (view value.now)))) }
     ensures causes { IfErr result (λ e. e ≢ MetaError.Memory
         → in_turn (option_map (λ s. s.now) unknown.entry) (codes "chunk_grid") (view value.now)
-        (grid_asked (list_len_at (codes "shape") (view value.now)) (get (codes "chunk_grid") (view value.now))) ≡ Err e) }
+        (grid_asked (list_len_at (codes "shape") (view value.now)) (get (codes "chunk_grid") (view value.now)))
+        ≡ Err e) }
 {
     none_before(alloc, unknown, "chunk_grid")?;
     let Some(grid) = value.get("chunk_grid") else {
@@ -191,7 +198,8 @@ fn grid_in_turn(
 
 #[tactic(auto, unfolding(crate::specs::Zarr3::grid_asked))]
 fn checked_grid(alloc: Global, rank: Option<usize>, grid: &Value) -> Result<Vec<u64>, MetaError>
-    ensures value { IfOk result (λ v. named (codes "chunk_grid") (grid_asked rank (Some (view grid.now))) ≡ Ok v.items) }
+    ensures value { IfOk result (λ v. named (codes "chunk_grid") (grid_asked rank (Some (view grid.now)))
+        ≡ Ok v.items) }
     ensures rules { IfOk result (λ v. IsChunkShape v.items) }
     ensures rank { IfOk result (λ v. HasRank 0 rank v.items) }
     ensures causes { IfErr result (λ e. e ≢ MetaError.Memory

@@ -7,7 +7,7 @@ ghost use Rattle.zarr_chunks.specs.declared.chunk.ChunkError.TheVariants as erro
 ghost use Rattle.zarr3_chunks.specs.Chunk.{SpellsChunk, as_zarr};
 
 use crate::metadata::Zarr3Meta;
-use cells::{Dense, MOST_CHUNK_CELLS, Sizes, Words, count_cells};
+use cells::{Dense, MOST_CHUNK_CELLS, Sizes, count_cells};
 use chunk_elements::{bytes_of, words_of};
 use std::alloc::{AllocError, Global};
 use zarr_chunks::ChunkError;
@@ -41,7 +41,10 @@ pub fn decode(alloc: Global, m: &Zarr3Meta, bytes: &[u8]) -> Result<Dense, Chunk
     let Ok(shape) = Vec::from_slice(alloc, m.chunks.items()) else {
         return Err(ChunkError::Memory);
     };
-    Ok(Dense::new(m.dtype, Sizes::wrap(shape), Words::wrap(words)))
+    let Ok(cells) = Dense::of_words(alloc, m.dtype, Sizes::wrap(shape), &words) else {
+        return Err(ChunkError::Memory);
+    };
+    Ok(cells)
 }
 
 /// The bytes of a chunk that spell its numbers.
@@ -55,7 +58,8 @@ pub fn encode(alloc: Global, m: &Zarr3Meta, d: &Dense) -> Result<Vec<u8>, AllocE
     requires shape { d.now.shape ≡ m.now.chunks }
     ensures { IfOk result (λ bytes. SpellsChunk m.now bytes.items (word_at d.now)) }
 {
-    write_words(alloc, m, d.words())
+    let words = d.to_words(alloc)?;
+    write_words(alloc, m, &words)
 }
 
 // The number of cells of a chunk.

@@ -261,7 +261,8 @@ pub(crate) fn unread_member(value: &Value) -> Option<&str>
 
 fn first_unread<'v>(members: &'v Map<String, Value>, value: &'v Value) -> Option<&'v String>
     ensures found { option_map (λ name. name.now) result ≡ find
-        (λ name. not (is_among (string_bytes name) known_members) && not (is_passed (string_bytes name) (view value.now)))
+        (λ name. not (is_among (string_bytes name) known_members) && not
+        (is_passed (string_bytes name) (view value.now)))
         (keys members.now) }
     ensures ordered { IsOrdered string_cmp members.now }
 {

@@ -1,5 +1,5 @@
 -- A chunk is its words in the stored order, one after another.
-use Rattle.std.proofs.Common.{◌≡◌, ℕ, zero, suc, ◌+◌, ◌*◌, ◌<◌, ◌≤◌, List, [], ◌∷◌, length, take, drop, get_or, sym, ap, subst, ◌∙◌, arith}
+use Rattle.std.proofs.Common.{◌≡◌, ℕ, zero, suc, ◌+◌, ◌*◌, ◌<◌, ◌≤◌, Bool, false, List, [], ◌∷◌, length, take, drop, get_or, sym, ap, subst, ◌∙◌, arith}
 use Rattle.std.specs.Prelude.{All}
 use Rattle.std.proofs.Math.Nat.{mul-le-mul_left}
 use Rattle.std.proofs.lemmas.List.{length-take-le, length-drop, get_or-drop}
@@ -10,9 +10,11 @@ use Rattle.cells.specs.Places.{cell_count, IsInside, place_of, c_place, f_place,
 use Rattle.cells.specs.declared.dtype.Dtype.{Dtype}
 use Rattle.cells.specs.declared.order.Order.TheVariants.{C, F}
 use Rattle.cells.proofs.Laws.{word_of_bytes-word_bytes, word_bytes-word_of_bytes, IsWord-word_of_bytes, place_of-lt, c_place-lt, IsInside-c_index, c_place-c_index, IsInside-f_index, f_place-f_index, cell_count-pos}
+use Rattle.cells.specs.Dense.{DenseCells, IsDense}
+use Rattle.cells.specs.Items.{SpellsItems}
 use Rattle.cells.specs.Shapes.{IsChunkShape}
 use Rattle.zarr_chunks.specs.Metadata.{Metadata}
-use Rattle.zarr_chunks.specs.Chunk.{element_bytes, SpellsChunk, chunk_len, chunk_word}
+use Rattle.zarr_chunks.specs.Chunk.{element_bytes, word_at, SpellsChunk, chunk_len, chunk_word}
 use Rattle.chunk_elements.specs.Blocks.{StoresWords}
 use Rattle.chunk_elements.specs.Words.{SpellsWords}
 use Rattle.chunk_elements.proofs.Laws.{small-drop, small-take}
@@ -33,6 +35,18 @@ SpellsChunk-from_c m bytes words is full are spells = record {
       let less = c_place-lt m.chunks index within in
       All-get_or (IsWord m.dtype) words (c_place m.chunks index) 0 (omega (arith, less, full)) are;
 }
+
+-- items are a chunk in C order with the lowest byte first
+pub SpellsChunk-from_items : (m : Metadata) (bytes : List ℕ) (d : DenseCells) → m.order ≡ C → m.big ≡ false → d.dtype ≡ m.dtype → d.shape ≡ m.chunks → IsDense d → SpellsItems d.dtype bytes d.words
+    → SpellsChunk m bytes (word_at d)
+SpellsChunk-from_items m bytes d order little same shape dense spells =
+    let spelled : SpellsWords m.dtype m.big bytes d.words = record {
+      count = spells.count ∙ ap (λ (t : Dtype). length d.words * byte_count t) same;
+      elements = λ p less. ap (λ (t : Dtype). element_bytes (byte_count t) bytes p) (sym same) ∙ spells.items p less
+          ∙ ap (λ (t : Dtype). word_bytes t false (get_or d.words p 0)) same ∙ ap (λ (b : Bool). word_bytes m.dtype b (get_or d.words p 0)) (sym little);
+    } in
+    let base = SpellsChunk-from_c m bytes d.words order (dense.full ∙ ap cell_count shape) (subst (λ (t : Dtype). All (IsWord t) d.words) same dense.of_dtype) spelled in
+    subst (λ (s : List ℕ). SpellsChunk m bytes (λ index. get_or d.words (c_place s index) 0)) (sym shape) base
 
 -- a whole block of words is a chunk in F order
 pub SpellsChunk-from_f : (m : Metadata) (bytes words : List ℕ) → m.order ≡ F → length words ≡ cell_count m.chunks → All (IsWord m.dtype) words → StoresWords m.dtype m.big m.chunks m.chunks bytes words

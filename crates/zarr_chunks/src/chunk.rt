@@ -1,12 +1,13 @@
-ghost use Rattle.std.specs.Prelude.{◌≡◌, ◌≢◌, ◌↔◌, ◌*◌, ◌<◌, ◌≤◌, ◌^◌, ℕ, IfOk, IfErr, length, slice_index};
+ghost use Rattle.std.specs.Prelude.{◌≡◌, ◌≢◌, ◌↔◌, ◌*◌, ◌<◌, ◌≤◌, ◌^◌, ℕ, IfOk, IfErr, false, length, slice_index};
 ghost use Rattle.cells.specs.Numbers.{IsWord};
+ghost use Rattle.cells.specs.declared.order.Order.TheVariants as ordering;
 ghost use Rattle.cells.specs.Places.{cell_count, c_place};
 ghost use Rattle.cells.specs.Shapes.{IsChunkShape};
 ghost use Rattle.chunk_elements.specs.Blocks.{StoresWords};
 ghost use Rattle.zarr_chunks.specs.Chunk.{SpellsChunk, chunk_len, word_at};
 
 use crate::metadata::ZarrMeta;
-use cells::{Dense, Dtype, MOST_CHUNK_CELLS, Order, Sizes, Words, count_cells};
+use cells::{Dense, Dtype, MOST_CHUNK_CELLS, Order, Sizes, count_cells};
 use chunk_elements::{bytes_of, put_block, words_of, words_of_block};
 use std::alloc::{AllocError, Global};
 use thiserror::Error;
@@ -45,13 +46,10 @@ pub fn decode(alloc: Global, m: &ZarrMeta, bytes: &[u8]) -> Result<Dense, ChunkE
             want: want as u64,
         });
     }
-    let Ok(words) = read_words(alloc, m, count, bytes) else {
+    let Ok(cells) = read_cells(alloc, m, count, bytes) else {
         return Err(ChunkError::Memory);
     };
-    let Ok(shape) = Vec::from_slice(alloc, m.chunks.items()) else {
-        return Err(ChunkError::Memory);
-    };
-    Ok(Dense::new(m.dtype, Sizes::wrap(shape), Words::wrap(words)))
+    Ok(cells)
 }
 
 /// The bytes of a chunk that spell its numbers.
@@ -65,7 +63,20 @@ pub fn encode(alloc: Global, m: &ZarrMeta, d: &Dense) -> Result<Vec<u8>, AllocEr
     requires shape { d.now.shape ≡ m.now.chunks }
     ensures { IfOk result (λ bytes. SpellsChunk m.now bytes.items (word_at d.now)) }
 {
-    write_words(alloc, m, d.words())
+    match m.order {
+        Order::C if !m.big => Vec::from_slice(alloc, d.bytes()),
+        _ => spell_words(alloc, m, d),
+    }
+}
+
+// The same by way of words.
+fn spell_words(alloc: Global, m: &ZarrMeta, d: &Dense) -> Result<Vec<u8>, AllocError>
+    requires dtype { d.now.dtype ≡ m.now.dtype }
+    requires shape { d.now.shape ≡ m.now.chunks }
+    ensures { IfOk result (λ bytes. SpellsChunk m.now bytes.items (word_at d.now)) }
+{
+    let words = d.to_words(alloc)?;
+    write_words(alloc, m, &words)
 }
 
 // The number of cells of a chunk.
@@ -77,6 +88,47 @@ fn cells_of(m: &ZarrMeta) -> usize
         unreachable!();
     };
     count as usize
+}
+
+// The cells that a chunk's bytes spell.
+fn read_cells(alloc: Global, m: &ZarrMeta, count: usize, bytes: &[u8]) -> Result<Dense, AllocError>
+    requires count { count ≡ cell_count m.now.chunks }
+    requires full { length bytes.now ≡ chunk_len m.now }
+    ensures dtype { IfOk result (λ d. d.dtype ≡ m.now.dtype) }
+    ensures shape { IfOk result (λ d. d.shape ≡ m.now.chunks) }
+    ensures spells { IfOk result (λ d. SpellsChunk m.now bytes.now (word_at d)) }
+{
+    match m.order {
+        Order::C if !m.big => keep_bytes(alloc, m, bytes),
+        _ => take_words(alloc, m, count, bytes),
+    }
+}
+
+// The elements are items as they stand.
+fn keep_bytes(alloc: Global, m: &ZarrMeta, bytes: &[u8]) -> Result<Dense, AllocError>
+    requires order { m.now.order ≡ ordering.C }
+    requires little { m.now.big ≡ false }
+    requires full { length bytes.now ≡ chunk_len m.now }
+    ensures dtype { IfOk result (λ d. d.dtype ≡ m.now.dtype) }
+    ensures shape { IfOk result (λ d. d.shape ≡ m.now.chunks) }
+    ensures spells { IfOk result (λ d. SpellsChunk m.now bytes.now (word_at d)) }
+{
+    let shape = Vec::from_slice(alloc, m.chunks.items())?;
+    let items = Vec::from_slice(alloc, bytes)?;
+    Ok(Dense::from_bytes(m.dtype, Sizes::wrap(shape), items))
+}
+
+// By way of words.
+fn take_words(alloc: Global, m: &ZarrMeta, count: usize, bytes: &[u8]) -> Result<Dense, AllocError>
+    requires count { count ≡ cell_count m.now.chunks }
+    requires full { length bytes.now ≡ chunk_len m.now }
+    ensures dtype { IfOk result (λ d. d.dtype ≡ m.now.dtype) }
+    ensures shape { IfOk result (λ d. d.shape ≡ m.now.chunks) }
+    ensures spells { IfOk result (λ d. SpellsChunk m.now bytes.now (word_at d)) }
+{
+    let words = read_words(alloc, m, count, bytes)?;
+    let shape = Vec::from_slice(alloc, m.chunks.items())?;
+    Dense::of_words(alloc, m.dtype, Sizes::wrap(shape), &words)
 }
 
 // The words that a chunk's bytes spell, in C order.

@@ -3,5 +3,5 @@ use Rattle.cells.specs.Dense.{DenseCells}
 use Rattle.rebase_writes.specs.Staged.{AreWords}
 use Rattle.chunk_laying.proofs.laying.over_fill.Goals as goal
 
-pub over-requires-clause-words : goal.over-requires-clause-words
-over-requires-clause-words c = subst (λ t. AreWords t c.args.staged.now) (sym (ap (λ (d : DenseCells). d.dtype) c.in_ok-base.ensures)) c.requires.words
+pub lay_over-requires-clause-words : goal.lay_over-requires-clause-words
+lay_over-requires-clause-words c = subst (λ t. AreWords t c.args.staged.now) (sym (ap (λ (d : DenseCells). d.dtype) c.in_ok-cells.ensures)) c.requires.words

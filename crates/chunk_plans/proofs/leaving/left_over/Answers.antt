@@ -1,6 +1,5 @@
 use Rattle.std.proofs.Common.{◌∙◌, sym, subst}
 use Rattle.std.specs.Prelude.{option_map}
-use Rattle.cells.specs.Dense.{IsDense}
 use Rattle.rebase_writes.specs.Staged.{AreWords}
 use Rattle.chunk_plans.proofs.LeftLaws.{laid_of, may_write, is_left}
 use Rattle.chunk_plans.proofs.leaving.left_over.Goals as goal
@@ -17,4 +16,4 @@ pub returns : goal.returns
 returns c =
     is_left c.args.form.now c.args.chunk.now c.args.staged.now (option_map (λ b. b.now) c.args.base) c.in_ok-cells.cells c.fill-2.result c.encode_form.result
     (laid_of c.args.form.now c.args.chunk.now c.args.staged.now (option_map (λ b. b.now) c.args.base) c.in_ok-cells.cells c.shape.result.now c.chunk_shape.result.now c.fill.result c.shape.ensures c.chunk_shape.ensures.value c.fill.ensures c.in_ok-cells.ensures.words)
-    (c.in_ok-cells.ensures.shape ∙ c.chunk_shape.ensures.value) c.fill-2.ensures (subst IsDense c.cells.view_is c.cells.invariant).full c.encode_form.ensures.absent c.encode_form.ensures.written
+    (c.in_ok-cells.ensures.shape ∙ c.chunk_shape.ensures.value) c.fill-2.ensures c.count.ensures.well_formed.full c.encode_form.ensures.absent c.encode_form.ensures.written

@@ -1,5 +1,4 @@
 use Rattle.std.proofs.Common.{Err, ◌+◌, length, sym, ap, subst, ◌∙◌}
-use Rattle.state_laws.specs.Seen.{seen_of}
 use Rattle.commits.specs.Keyed.{each_event}
 use Rattle.commits.specs.Made.{IsMade}
 use Rattle.commits.specs.Planning.{ArePlannedBy, IsFirstDamaged}
@@ -14,7 +13,7 @@ plan_writes-requires-clause-agrees g c = (c.requires.agrees.0, c.requires.agrees
 
 pub make_each-requires-clause-agrees : goal.make_each-requires-clause-agrees
 make_each-requires-clause-agrees g c =
-    let seen = seen_of g.K.KvStore.contents g.K.KvStore.faults g.K.KvStore.prefixes g.K.KvStore.names g.K.KvStore.standing g.K.KvStore.change_count in
+    let seen = g.K.KvStore.seen in
     let it = c.requires.agrees in
     let planned = subst (λ n. ArePlannedBy (seen c.args.state.now.store) c.args.state.now.log (n + 1) 1 c.args.writes.items c.in-Ok.plans.items) (ap length c.events.ensures) c.in-Ok.ensures.plans in (
       it.0,
@@ -27,17 +26,17 @@ make_each-requires-clause-agrees g c =
 
 pub make_each-requires-clause-plans : goal.make_each-requires-clause-plans
 make_each-requires-clause-plans g c =
-    let seen = seen_of g.K.KvStore.contents g.K.KvStore.faults g.K.KvStore.prefixes g.K.KvStore.names g.K.KvStore.standing g.K.KvStore.change_count in
+    let seen = g.K.KvStore.seen in
     key_plans_of (seen c.args.state.now.store) c.args.state.now.log c.plan_writes.new.state.log c.args.by.ops _ c.args.writes.items c.in-Ok.plans.items c.in-Ok.ensures.same.events c.requires.all c.in-Ok.ensures.plans
 
 pub make_each-requires-clause-some : goal.make_each-requires-clause-some
 make_each-requires-clause-some g c =
-    let seen = seen_of g.K.KvStore.contents g.K.KvStore.faults g.K.KvStore.prefixes g.K.KvStore.names g.K.KvStore.standing g.K.KvStore.change_count in
+    let seen = g.K.KvStore.seen in
     planned_some (seen c.args.state.now.store) c.args.state.now.log _ c.args.writes.items c.in-Ok.plans.items c.in-Ok.ensures.plans c.requires.some
 
 pub returns-in-Ok-clause-made : goal.returns-in-Ok-clause-made
 returns-in-Ok-clause-made g c =
-    let seen = seen_of g.K.KvStore.contents g.K.KvStore.faults g.K.KvStore.prefixes g.K.KvStore.names g.K.KvStore.standing g.K.KvStore.change_count in
+    let seen = g.K.KvStore.seen in
     let planned = subst (λ n. ArePlannedBy (seen c.args.state.now.store) c.args.state.now.log (n + 1) 1 c.args.writes.items c.in-Ok.plans.items) (ap length c.events.ensures) c.in-Ok.ensures.plans in
     let by = c.args.by in
     subst (λ keys. IsMade c.args.owner (seen c.args.state.now.store) (seen c.make_each.new.state.store) c.args.state.now.log c.make_each.new.state.log 1 c.args.writes.items (each_event c.args.owner by.line by.mode by.ops keys) c.make_each.result)
@@ -47,7 +46,7 @@ returns-in-Ok-clause-made g c =
 
 pub returns-in-Ok-clause-kept : goal.returns-in-Ok-clause-kept
 returns-in-Ok-clause-kept g c opening agrees right =
-    let seen = seen_of g.K.KvStore.contents g.K.KvStore.faults g.K.KvStore.prefixes g.K.KvStore.names g.K.KvStore.standing g.K.KvStore.change_count in
+    let seen = g.K.KvStore.seen in
     let planned = subst (λ n. ArePlannedBy (seen c.args.state.now.store) c.args.state.now.log (n + 1) 1 c.args.writes.items c.in-Ok.plans.items) (ap length c.events.ensures) c.in-Ok.ensures.plans in
     c.make_each.ensures.kept opening (c.plan_writes.ensures.kept opening agrees)
     (λ start told.
@@ -55,7 +54,7 @@ returns-in-Ok-clause-kept g c opening agrees right =
 
 pub returns-in-Err-clause-made : goal.returns-in-Err-clause-made
 returns-in-Err-clause-made g c =
-    let seen = seen_of g.K.KvStore.contents g.K.KvStore.faults g.K.KvStore.prefixes g.K.KvStore.names g.K.KvStore.standing g.K.KvStore.change_count in
+    let seen = g.K.KvStore.seen in
     let all = each_event c.args.owner c.args.by.line c.args.by.mode c.args.by.ops (write_keys c.args.writes.items) in
     subst (λ r. IsMade c.args.owner (seen c.args.state.now.store) (seen c.plan_writes.new.state.store) c.args.state.now.log c.plan_writes.new.state.log 1 c.args.writes.items all (Err r)) (sym c.unplanned.ensures)
     (unplanned_made c.args.owner (seen c.args.state.now.store) (seen c.plan_writes.new.state.store) c.args.state.now.log c.plan_writes.new.state.log 1 c.args.writes.items all c.in-Err.error

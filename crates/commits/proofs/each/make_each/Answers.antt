@@ -1,7 +1,6 @@
 use Rattle.std.proofs.Common.{◌≡◌, Err, List, [], length, inl, inr, refl, sym, ap, subst, ◌∙◌, arith}
 use Rattle.std.specs.Prelude.{filter}
 use Rattle.history.specs.Commit.{is_write}
-use Rattle.state_laws.specs.Seen.{seen_of}
 use Rattle.state_laws.proofs.Laws.{frame_same, frame_then}
 use Rattle.state_commits.specs.declared.plan.Planned.{Planned}
 use Rattle.state_commits.specs.Plans.{keys_of}
@@ -14,7 +13,7 @@ use Rattle.commits.proofs.each.make_each.Goals as goal
 
 pub returns-in_err-numbers-clause-made : goal.returns-in_err-numbers-clause-made
 returns-in_err-numbers-clause-made g c =
-    let seen = seen_of g.K.KvStore.contents g.K.KvStore.faults g.K.KvStore.prefixes g.K.KvStore.names g.K.KvStore.standing g.K.KvStore.change_count in
+    let seen = g.K.KvStore.seen in
     let by = c.args.by in
     let one = each_length c.args.owner by.line by.mode by.ops (keys_of c.args.plans.items) in
     let two = keys_of_length c.args.plans.items in
@@ -24,7 +23,7 @@ returns-in_err-numbers-clause-made g c =
 
 pub loop-plan-init : goal.loop-plan-init
 loop-plan-init g c =
-    let seen = seen_of g.K.KvStore.contents g.K.KvStore.faults g.K.KvStore.prefixes g.K.KvStore.names g.K.KvStore.standing g.K.KvStore.change_count in
+    let seen = g.K.KvStore.seen in
     let by = c.args.by in
     let h = c.args.state.now.log.events in
     let all = each_event c.args.owner by.line by.mode by.ops (keys_of c.args.plans.items) in
@@ -49,7 +48,7 @@ make_one-requires-clause-plan g c = (subst (AreKeyPlans c.loop-plan.state.log.ev
 
 pub returns-in_default-clause-made : goal.returns-in_default-clause-made
 returns-in_default-clause-made g c =
-    let seen = seen_of g.K.KvStore.contents g.K.KvStore.faults g.K.KvStore.prefixes g.K.KvStore.names g.K.KvStore.standing g.K.KvStore.change_count in
+    let seen = g.K.KvStore.seen in
     let by = c.args.by in
     let p = c.in-Some.plan in
     wanting_then c.args.owner (plan_arrays c.args.plans.items) (seen c.args.state.now.store) (seen c.loop-plan.state.store) (seen c.loop-plan.state.store) c.args.state.now.log.events c.loop-plan.state.log.events c.loop-plan.state.log.events
@@ -62,7 +61,7 @@ returns-in_default-clause-kept g c opening agrees right = (c.loop-plan.invariant
 
 pub returns-in-Err-clause-made : goal.returns-in-Err-clause-made
 returns-in-Err-clause-made g c =
-    let seen = seen_of g.K.KvStore.contents g.K.KvStore.faults g.K.KvStore.prefixes g.K.KvStore.names g.K.KvStore.standing g.K.KvStore.change_count in
+    let seen = g.K.KvStore.seen in
     let by = c.args.by in
     let p = c.in-Some.plan in
     let all = each_event c.args.owner by.line by.mode by.ops (keys_of c.args.plans.items) in
@@ -87,7 +86,7 @@ returns-in-Err-clause-kept g c opening agrees right =
 
 pub loop-plan-preserved : goal.loop-plan-preserved
 loop-plan-preserved g c =
-    let seen = seen_of g.K.KvStore.contents g.K.KvStore.faults g.K.KvStore.prefixes g.K.KvStore.names g.K.KvStore.standing g.K.KvStore.change_count in
+    let seen = g.K.KvStore.seen in
     let by = c.args.by in
     let p = c.in-Some.plan in
     let steps = c.in-Some.ensures.steps.0 in

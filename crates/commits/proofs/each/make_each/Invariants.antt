@@ -2,7 +2,7 @@ use Rattle.std.proofs.Common.{◌≡◌, ◌≤◌, ◌+◌, ℕ, List, length}
 use Rattle.std.specs.Prelude.{filter, vec_len, vec_capacity}
 use Rattle.history.specs.Commit.{is_write}
 use Rattle.history.specs.History.{History}
-use Rattle.state_laws.specs.Seen.{IsFrame, seen_of}
+use Rattle.state_laws.specs.Seen.{IsFrame}
 use Rattle.state_commits.specs.Plans.{keys_of}
 use Rattle.commits.specs.Keyed.{AreKeyPlans, each_event, plan_arrays}
 use Rattle.commits.specs.Planning.{IsAmongOn}
@@ -12,7 +12,7 @@ use Rattle.commits.proofs.each.make_each.Given as goal
 -- the events so far are the first of all, and those of the plans that are left are the others
 abbrev pub invariant-loop-plan : goal.invariant-loop-plan
 invariant-loop-plan g l =
-    let seen = seen_of g.K.KvStore.contents g.K.KvStore.faults g.K.KvStore.prefixes g.K.KvStore.names g.K.KvStore.standing g.K.KvStore.change_count in
+    let seen = g.K.KvStore.seen in
     record {
       done : IsDoneSoFar l.fn.state.log.events l.state.log.events (each_event l.owner l.line l.mode l.fn.by.ops (keys_of l.fn.plans.items)) (each_event l.owner l.line l.mode l.ops (keys_of l.plan-iterator.rest.items)) l.numbers.items;
       plans : AreKeyPlans l.state.log.events l.plan-iterator.rest.items;

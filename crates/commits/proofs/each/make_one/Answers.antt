@@ -2,7 +2,6 @@ use Rattle.std.proofs.Common.{List, sym, subst}
 use Rattle.run_records.specs.declared.commit.Commit.{Commit}
 use Rattle.run_records.specs.Recorded.{done_event}
 use Rattle.state_laws.specs.Changing.{AreMade}
-use Rattle.state_laws.specs.Seen.{seen_of}
 use Rattle.state_commits.specs.declared.plan.Planned.{Planned}
 use Rattle.state_commits.specs.Plans.{ArePlans, AreRightBy, changes_of}
 use Rattle.commits.specs.Keyed.{key_event}
@@ -11,14 +10,14 @@ use Rattle.commits.proofs.each.make_one.Goals as goal
 
 pub commit_planned-requires-clause-plans : goal.commit_planned-requires-clause-plans
 commit_planned-requires-clause-plans g c =
-    let seen = seen_of g.K.KvStore.contents g.K.KvStore.faults g.K.KvStore.prefixes g.K.KvStore.names g.K.KvStore.standing g.K.KvStore.change_count in
+    let seen = g.K.KvStore.seen in
     subst (λ (commit : Commit). ArePlans c.args.state.now.log (done_event c.args.owner commit) c.in-Ok-alone.plans.items) (sym c.in-Ok-keyed.ensures)
     (subst (λ (ps : List Planned). ArePlans c.args.state.now.log (key_event c.args.owner c.args.line c.args.mode c.args.ops c.args.plan.key) ps) (sym c.in-Ok-alone.ensures)
     (one_plan (seen c.args.state.now.store) c.args.state.now.log c.args.owner c.args.line c.args.mode c.args.ops c.args.plan c.requires.agrees c.requires.plan))
 
 pub commit_planned-requires-clause-made : goal.commit_planned-requires-clause-made
 commit_planned-requires-clause-made g c =
-    let seen = seen_of g.K.KvStore.contents g.K.KvStore.faults g.K.KvStore.prefixes g.K.KvStore.names g.K.KvStore.standing g.K.KvStore.change_count in
+    let seen = g.K.KvStore.seen in
     subst (λ (ps : List Planned). AreMade (seen c.args.state.now.store) (changes_of ps)) (sym c.in-Ok-alone.ensures) (one_made (seen c.args.state.now.store) c.args.state.now.log c.args.owner c.args.line c.args.mode c.args.ops c.args.plan c.requires.agrees c.requires.plan)
 
 pub returns-clause-kept : goal.returns-clause-kept

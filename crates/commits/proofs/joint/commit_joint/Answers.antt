@@ -1,6 +1,5 @@
 use Rattle.std.proofs.Common.{Err, List, [], ◌∷◌, ◌+◌, length, sym, ap, subst, ◌∙◌, arith}
 use Rattle.run_records.specs.Recorded.{done_event}
-use Rattle.state_laws.specs.Seen.{seen_of}
 use Rattle.chunk_plans.specs.declared.write.ChunkWrite.{ChunkWrite}
 use Rattle.commits.specs.Made.{IsMade}
 use Rattle.commits.specs.Planning.{ArePlannedBy, IsFirstDamaged, IsMountFor}
@@ -13,32 +12,32 @@ make_joint-requires-clause-agrees g c = (c.requires.agrees.0, c.plan_writes.ensu
 
 pub make_joint-requires-clause-plans : goal.make_joint-requires-clause-plans
 make_joint-requires-clause-plans g c =
-    let seen = seen_of g.K.KvStore.contents g.K.KvStore.faults g.K.KvStore.prefixes g.K.KvStore.names g.K.KvStore.standing g.K.KvStore.change_count in
+    let seen = g.K.KvStore.seen in
     joint_plans (seen c.args.state.now.store) (seen c.plan_writes.new.state.store) c.args.state.now.log c.plan_writes.new.state.log c.args.owner c.args.commit _ c.args.writes.items c.in-Ok.plans.items c.requires.whole c.in-Ok.ensures.same.events c.plan_writes.ensures.read c.requires.all
     c.in-Ok.ensures.plans
 
 pub make_joint-requires-clause-made : goal.make_joint-requires-clause-made
 make_joint-requires-clause-made g c =
-    let seen = seen_of g.K.KvStore.contents g.K.KvStore.faults g.K.KvStore.prefixes g.K.KvStore.names g.K.KvStore.standing g.K.KvStore.change_count in
+    let seen = g.K.KvStore.seen in
     joint_made (seen c.args.state.now.store) (seen c.plan_writes.new.state.store) c.args.state.now.log c.plan_writes.new.state.log c.args.owner c.args.commit _ c.args.writes.items c.in-Ok.plans.items c.requires.whole c.in-Ok.ensures.same.events c.plan_writes.ensures.read c.requires.all
     c.in-Ok.ensures.plans (c.requires.agrees.0, c.plan_writes.ensures.kept c.requires.agrees.0 c.requires.agrees.1) c.requires.together
 
 pub make_joint-requires-clause-mount : goal.make_joint-requires-clause-mount
 make_joint-requires-clause-mount g c =
-    let seen = seen_of g.K.KvStore.contents g.K.KvStore.faults g.K.KvStore.prefixes g.K.KvStore.names g.K.KvStore.standing g.K.KvStore.change_count in
+    let seen = g.K.KvStore.seen in
     joint_mount (seen c.args.state.now.store) (seen c.plan_writes.new.state.store) c.args.state.now.log c.plan_writes.new.state.log c.args.owner c.args.commit _ c.args.writes.items c.in-Ok.plans.items c.requires.whole c.in-Ok.ensures.same.events c.plan_writes.ensures.read c.requires.all
     c.in-Ok.ensures.plans c.in_ok-mount.mount (subst (λ (ws : List ChunkWrite). IsMountFor c.args.state.now.log.events ws c.in_ok-mount.mount) c.deref.ensures.value c.in_ok-mount.ensures)
 
 pub returns-in-Ok-clause-made : goal.returns-in-Ok-clause-made
 returns-in-Ok-clause-made g c =
-    let seen = seen_of g.K.KvStore.contents g.K.KvStore.faults g.K.KvStore.prefixes g.K.KvStore.names g.K.KvStore.standing g.K.KvStore.change_count in
+    let seen = g.K.KvStore.seen in
     made_then c.args.owner (seen c.args.state.now.store) (seen c.plan_writes.new.state.store) (seen c.make_joint.new.state.store) c.args.state.now.log c.plan_writes.new.state.log c.make_joint.new.state.log 0 c.args.writes.items c.in-Ok.plans.items
     (done_event c.args.owner c.args.commit ∷ []) c.in-Ok.ensures.same.events c.plan_writes.ensures.read.frame.faults (subst (λ n. ArePlannedBy (seen c.args.state.now.store) c.args.state.now.log n 0 c.args.writes.items c.in-Ok.plans.items) (ap (λ n. n + 1) (ap length c.events.ensures)) c.in-Ok.ensures.plans)
     c.make_joint.result c.make_joint.ensures.made
 
 pub returns-in-Ok-clause-kept : goal.returns-in-Ok-clause-kept
 returns-in-Ok-clause-kept g c opening agrees right =
-    let seen = seen_of g.K.KvStore.contents g.K.KvStore.faults g.K.KvStore.prefixes g.K.KvStore.names g.K.KvStore.standing g.K.KvStore.change_count in
+    let seen = g.K.KvStore.seen in
     c.make_joint.ensures.kept opening (c.plan_writes.ensures.kept opening agrees)
     (λ start told.
     joint_right opening start (seen c.args.state.now.store) c.args.state.now.log c.plan_writes.new.state.log c.args.owner c.args.commit c.args.writes.items c.in-Ok.plans.items c.requires.whole c.in-Ok.ensures.same.events c.requires.all
@@ -46,7 +45,7 @@ returns-in-Ok-clause-kept g c opening agrees right =
 
 pub returns-in-Err-clause-made : goal.returns-in-Err-clause-made
 returns-in-Err-clause-made g c =
-    let seen = seen_of g.K.KvStore.contents g.K.KvStore.faults g.K.KvStore.prefixes g.K.KvStore.names g.K.KvStore.standing g.K.KvStore.change_count in
+    let seen = g.K.KvStore.seen in
     let all = done_event c.args.owner c.args.commit ∷ [] in
     subst (λ r. IsMade c.args.owner (seen c.args.state.now.store) (seen c.plan_writes.new.state.store) c.args.state.now.log c.plan_writes.new.state.log 0 c.args.writes.items all (Err r)) (sym c.unplanned.ensures)
     (unplanned_made c.args.owner (seen c.args.state.now.store) (seen c.plan_writes.new.state.store) c.args.state.now.log c.plan_writes.new.state.log 0 c.args.writes.items all c.in-Err.error (omega arith)

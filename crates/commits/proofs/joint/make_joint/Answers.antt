@@ -1,7 +1,6 @@
 use Rattle.std.proofs.Common.{Err, [], ◌∷◌, sym, ap, subst, ◌∙◌}
 use Rattle.std.specs.Prelude.{length}
 use Rattle.run_records.specs.Recorded.{done_event}
-use Rattle.state_laws.specs.Seen.{seen_of}
 use Rattle.state_commits.specs.Plans.{changes_of}
 use Rattle.commits.specs.Keyed.{IsMadeEach, plan_arrays}
 use Rattle.commits.specs.Refused.{unmade}
@@ -10,7 +9,7 @@ use Rattle.commits.proofs.joint.make_joint.Goals as goal
 
 pub returns-in-Err-clause-made : goal.returns-in-Err-clause-made
 returns-in-Err-clause-made g c =
-    let seen = seen_of g.K.KvStore.contents g.K.KvStore.faults g.K.KvStore.prefixes g.K.KvStore.names g.K.KvStore.standing g.K.KvStore.change_count in
+    let seen = g.K.KvStore.seen in
     let e = done_event c.args.owner c.args.commit in
     subst (λ r. IsMadeEach c.args.owner (plan_arrays c.args.plans.items) (seen c.args.state.now.store) (seen c.commit_planned.new.state.store) c.args.state.now.log.events c.commit_planned.new.state.log.events (e ∷ []) (Err r))
     (sym (c.unmade.ensures ∙ ap (λ done. unmade done c.in-Err.error) c.in_ok-numbers.ensures.items))

@@ -4,8 +4,6 @@ use Rattle.chunk_laying.specs.Laid.{IsCovered}
 use Rattle.std.specs.List.{AllByRecursion}
 use Rattle.std.proofs.lemmas.List.{append_assoc, append-nil}
 use Rattle.state_laws.specs.declared.error.FetchError.TheVariants as fetch
-use Rattle.state_laws.specs.Seen.{seen_of}
-use Rattle.state_laws.specs.Seen.{seen_of}
 use Rattle.state_laws.proofs.Laws.{read_then}
 use Rattle.chunk_plans.specs.declared.write.ChunkWrite.{ChunkWrite}
 use Rattle.chunk_plans.specs.Writes.{IsWrite, may_use}
@@ -23,7 +21,7 @@ plan_write-requires-clause-write g c =
 
 pub returns-in_err-plan-clause-failed : goal.returns-in_err-plan-clause-failed
 returns-in_err-plan-clause-failed g c event e =
-    let seen = seen_of g.K.KvStore.contents g.K.KvStore.faults g.K.KvStore.prefixes g.K.KvStore.names g.K.KvStore.standing g.K.KvStore.change_count in
+    let seen = g.K.KvStore.seen in
     let h = c.args.state.now.log.events in
     let told = err_and _ c.from_residual-in_err-plan.result (fetch.StoreFailed event) e c.from_residual-in_err-plan.ensures.1 in
     let is : c.plan_write.result ≡ Err (fetch.StoreFailed event) = c.in_err-plan.was ∙ ap Err (sym told) in
@@ -36,7 +34,7 @@ returns-in_err-plan-clause-failed g c event e =
 
 pub returns-in_err-plan-clause-damaged : goal.returns-in_err-plan-clause-damaged
 returns-in_err-plan-clause-damaged g c name cause e =
-    let seen = seen_of g.K.KvStore.contents g.K.KvStore.faults g.K.KvStore.prefixes g.K.KvStore.names g.K.KvStore.standing g.K.KvStore.change_count in
+    let seen = g.K.KvStore.seen in
     let told = err_and _ c.from_residual-in_err-plan.result (fetch.Damaged name cause) e c.from_residual-in_err-plan.ensures.1 in
     let is : c.plan_write.result ≡ Err (fetch.Damaged name cause) = c.in_err-plan.was ∙ ap Err (sym told) in
     let there = c.plan_write.ensures.damaged name cause is in
@@ -57,7 +55,7 @@ returns-in_err-plan-clause-kept g c opening agrees = c.plan_write.ensures.kept o
 
 pub loop-write-preserved : goal.loop-write-preserved
 loop-write-preserved g c =
-    let seen = seen_of g.K.KvStore.contents g.K.KvStore.faults g.K.KvStore.prefixes g.K.KvStore.names g.K.KvStore.standing g.K.KvStore.change_count in
+    let seen = g.K.KvStore.seen in
     let h = c.args.state.now.log.events in
     let log = c.args.state.now.log in
     let w = c.in-Some.write in
@@ -81,7 +79,7 @@ loop-write-preserved g c =
 
 pub returns-clause-plans : goal.returns-clause-plans
 returns-clause-plans g c =
-    let seen = seen_of g.K.KvStore.contents g.K.KvStore.faults g.K.KvStore.prefixes g.K.KvStore.names g.K.KvStore.standing g.K.KvStore.change_count in
+    let seen = g.K.KvStore.seen in
     let none = none_left c.loop-write.write-iterator.rest.items (omega (arith, c.in-None.ensures.steps.0)) in
     subst (ArePlannedBy (seen c.args.state.now.store) c.args.state.now.log c.args.number c.args.step c.args.writes.items) (append-nil c.loop-write.plans.items)
     (c.loop-write.invariant.plans [] (subst (λ (ws : List ChunkWrite). ArePlannedBy (seen c.args.state.now.store) c.args.state.now.log c.loop-write.next c.args.step ws []) (sym none) tt))

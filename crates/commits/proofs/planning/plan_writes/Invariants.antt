@@ -2,7 +2,7 @@ use Rattle.std.proofs.Common.{◌≡◌, ◌≤◌, ◌+◌, ◌*◌, ◌++◌, 
 use Rattle.std.specs.Prelude.{vec_len, vec_capacity}
 use Rattle.std.specs.List.{AllByRecursion}
 use Rattle.chunk_forms.specs.declared.form.Damage.{Damage}
-use Rattle.state_laws.specs.Seen.{IsRead, seen_of}
+use Rattle.state_laws.specs.Seen.{IsRead}
 use Rattle.state_laws.specs.Agreement.{KeepsAgreement}
 use Rattle.state_commits.specs.declared.plan.Planned.{Planned}
 use Rattle.chunk_plans.specs.Writes.{IsSameButCache, IsWrite}
@@ -12,7 +12,7 @@ use Rattle.commits.proofs.planning.plan_writes.Given as goal
 -- plans of the writes that are left make plans of all, and the first of them that is damaged is the first of all
 abbrev pub invariant-loop-write : goal.invariant-loop-write
 invariant-loop-write g l =
-    let seen = seen_of g.K.KvStore.contents g.K.KvStore.faults g.K.KvStore.prefixes g.K.KvStore.names g.K.KvStore.standing g.K.KvStore.change_count in
+    let seen = g.K.KvStore.seen in
     record {
       plans : (more : List Planned) → ArePlannedBy (seen l.fn.state.store) l.fn.state.log l.next l.step l.write-iterator.rest.items more → ArePlannedBy (seen l.fn.state.store) l.fn.state.log l.fn.number l.step l.fn.writes.items (l.plans.items ++ more);
       damaged : (key : List ℕ) (cause : Damage) → IsFirstDamaged (seen l.fn.state.store) l.fn.state.log l.next l.step l.write-iterator.rest.items key cause → IsFirstDamaged (seen l.fn.state.store) l.fn.state.log l.fn.number l.step l.fn.writes.items key cause;

@@ -26,6 +26,6 @@ returns c =
     let sizes_is : c.as_slice.result.now ≡ cut_sizes m.block m.dimensions c.args.chunk.now =
     c.as_slice.ensures.value ∙ c.in_ok-sizes.ensures ∙ ap (λ b. cut_sizes b c.items-2.result.now c.args.chunk.now) block_is ∙ ap (λ d. cut_sizes m.block d c.args.chunk.now) dimensions_is in
     IfOk-weaker c.write_block.result _ _
-    (λ bytes adds. WritesBlock-same m c.args.chunk.now bytes.items c.items-3.result.now c.as_slice.result.now c.words.result.now c.m.inside.dtype c.args.d.now c.words.ensures.well_formed
-    c.requires.dtype c.requires.shape rules c.requires.reached c.requires.outside (ap (λ (n : Metadata). n.dtype) c.m.view_is) (c.items-3.ensures ∙ ap (λ (n : Metadata). n.block) c.m.view_is) sizes_is c.words.ensures.value adds)
+    (λ bytes adds. WritesBlock-same m c.args.chunk.now bytes.items c.items-3.result.now c.as_slice.result.now c.deref.result.now c.m.inside.dtype c.args.d.now (c.in_ok-words.ensures.well_formed)
+    c.requires.dtype c.requires.shape rules c.requires.reached c.requires.outside (ap (λ (n : Metadata). n.dtype) c.m.view_is) (c.items-3.ensures ∙ ap (λ (n : Metadata). n.block) c.m.view_is) sizes_is (c.deref.ensures.value ∙ c.in_ok-words.ensures.value) adds)
     c.write_block.ensures

@@ -1,12 +1,11 @@
 use Rattle.std.proofs.Common.{◌≡◌, ◌++◌}
-use Rattle.state_laws.specs.Seen.{seen_of}
 use Rattle.prepared_writes.proofs.AskLaws.{AreAskedSo}
 use Rattle.prepared_writes.proofs.asking.ask_all.Given as goal
 
 -- what was told of the parts so far, and the parts that are left
 abbrev pub invariant-loop-part : goal.invariant-loop-part
 invariant-loop-part g l =
-    let seen = seen_of g.K.KvStore.contents g.K.KvStore.faults g.K.KvStore.prefixes g.K.KvStore.names g.K.KvStore.standing g.K.KvStore.change_count in
+    let seen = g.K.KvStore.seen in
     record {
       so : AreAskedSo (seen l.initial.state.store) (seen l.state.store) l.initial.state.log l.state.log l.yielded l.asked.items;
       store : l.state.store ≡ l.initial.state.store;

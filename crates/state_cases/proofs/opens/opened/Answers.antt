@@ -1,6 +1,5 @@
 use Rattle.std.proofs.Common.{codes}
 use Rattle.state_cases.proofs.Ready.{ready_kept, ready_names, memory_mount, takes_all}
-use Rattle.state_laws.specs.Seen.{seen_of}
 use Rattle.state_cases.proofs.opens.opened.Goals as goal
 
 pub open-answer-requires-clause-agrees : goal.open-answer-requires-clause-agrees
@@ -11,8 +10,8 @@ open-answer-requires-clause-mount g c = memory_mount
 
 pub open-answer-requires-clause-taken : goal.open-answer-requires-clause-taken
 open-answer-requires-clause-taken g c =
-    let store = seen_of g.K.KvStore.contents g.K.KvStore.faults g.K.KvStore.prefixes g.K.KvStore.names g.K.KvStore.standing g.K.KvStore.change_count c.args.state.now.store in
-    takes_all (g.K.KvStore.names c.args.state.now.store) (codes "memory") (ready_names store c.args.state.now.log c.requires)
+    let store = g.K.KvStore.seen c.args.state.now.store in
+    takes_all ((g.K.KvStore.seen c.args.state.now.store).names) (codes "memory") (ready_names store c.args.state.now.log c.requires)
 
 pub returns : goal.returns
 returns g c = ready_kept _ _ _ _ c.requires c.open-answer.ensures.kept

@@ -3,7 +3,6 @@ use Rattle.history.specs.History.{History}
 use Rattle.history.specs.Chunks.{Chunk, chunk_key}
 use Rattle.state_laws.specs.Fetches.{IsChunkOf}
 use Rattle.state_laws.specs.Log.{Log}
-use Rattle.state_laws.specs.Seen.{seen_of}
 use Rattle.state_laws.proofs.Laws.{looked_events}
 use Rattle.state_cases.proofs.Ready.{ready_kept}
 use Rattle.state_cases.proofs.Usable.{usable_of}
@@ -14,7 +13,7 @@ look-requires-clause-agrees g c = (c.requires.ready.opening, c.requires.ready.ag
 
 pub settle_look-requires-clause-ready : goal.settle_look-requires-clause-ready
 settle_look-requires-clause-ready g c =
-    let seen = seen_of g.K.KvStore.contents g.K.KvStore.faults g.K.KvStore.prefixes g.K.KvStore.names g.K.KvStore.standing g.K.KvStore.change_count in
+    let seen = g.K.KvStore.seen in
     let chunk : Chunk = record { array = c.args.array; index = c.args.chunk.now } in
     let log = c.args.state.now.log in
     let r = c.requires.ready in

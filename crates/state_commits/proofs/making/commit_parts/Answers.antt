@@ -7,14 +7,13 @@ use Rattle.run_records.specs.Recorded.{done_event}
 use Rattle.state_laws.specs.declared.deed.HeldCells.{HeldCells}
 use Rattle.state_laws.specs.Changing.{IsDeed, KeepsByDeed}
 use Rattle.state_laws.specs.Log.{Log, StateOf}
-use Rattle.state_laws.specs.Seen.{seen_of}
 use Rattle.state_commits.specs.Plans.{deed_of}
 use Rattle.state_commits.proofs.HeldLaws.{plans_deed, cells_known}
 use Rattle.state_commits.proofs.making.commit_parts.Goals as goal
 
 pub commit-requires-clause-deed : goal.commit-requires-clause-deed
 commit-requires-clause-deed g c =
-    let seen = seen_of g.K.KvStore.contents g.K.KvStore.faults g.K.KvStore.prefixes g.K.KvStore.names g.K.KvStore.standing g.K.KvStore.change_count in
+    let seen = g.K.KvStore.seen in
     let parts = c.requires.parts in
     let same = ap (λ (st : StateOf g.row.K.Denot). st.log) c.make_room.ensures.same in
     subst (λ (log : Log). IsDeed log c.args.owner (deed_of c.args.mount c.args.commit c.args.parts)) (sym same)
@@ -29,7 +28,7 @@ commit-requires-clause-known g c =
 
 pub returns-clause-kept : goal.returns-clause-kept
 returns-clause-kept g c =
-    let seen = seen_of g.K.KvStore.contents g.K.KvStore.faults g.K.KvStore.prefixes g.K.KvStore.names g.K.KvStore.standing g.K.KvStore.change_count in
+    let seen = g.K.KvStore.seen in
     let deed = deed_of c.args.mount c.args.commit c.args.parts in
     let next = seen c.commit.new.self.store in
     let later = c.commit.new.self.log in

@@ -1,13 +1,12 @@
 use Rattle.std.proofs.Common.{sym, subst}
 use Rattle.state_laws.specs.Changing.{IsRightBy}
-use Rattle.state_laws.specs.Seen.{seen_of}
 use Rattle.state_commits.specs.Plans.{deed_of}
 use Rattle.state_commits.proofs.HeldLaws.{plans_right}
 use Rattle.state_commits.proofs.making.commit_planned.Goals as goal
 
 pub returns-in-Ok-clause-kept : goal.returns-in-Ok-clause-kept
 returns-in-Ok-clause-kept g c = λ opening agrees right.
-    let seen = seen_of g.K.KvStore.contents g.K.KvStore.faults g.K.KvStore.prefixes g.K.KvStore.names g.K.KvStore.standing g.K.KvStore.change_count in
+    let seen = g.K.KvStore.seen in
     let log = c.args.state.now.log in
     let deed = deed_of c.args.mount c.args.commit c.in-Ok.parts in
     let parts = c.in-Ok.ensures in

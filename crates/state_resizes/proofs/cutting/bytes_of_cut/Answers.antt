@@ -1,5 +1,4 @@
 use Rattle.std.proofs.Common.{◌∙◌, [], Some, sym, subst}
-use Rattle.cells.specs.Dense.{IsDense}
 use Rattle.cells.specs.Numbers.{IsWord}
 use Rattle.chunk_forms.specs.Metadata.{shape_of, dtype_of}
 use Rattle.chunk_laying.specs.Laid.{IsChunkOf}
@@ -24,4 +23,4 @@ pub returns : goal.returns
 returns c =
     is_left c.args.form.now c.args.chunk.now [] (Some c.args.base.now) c.in_ok-cells.cells c.fill-2.result c.encode_form.result
     (laid_cut c.args.form.now c.args.chunk.now c.args.base.now c.in_ok-cells.cells c.shape.result.now c.fill.result c.shape.ensures c.fill.ensures c.requires.shape c.in_ok-cells.ensures.words)
-    (c.in_ok-cells.ensures.shape ∙ c.requires.shape) c.fill-2.ensures (subst IsDense c.cells.view_is c.cells.invariant).full c.encode_form.ensures.absent c.encode_form.ensures.written
+    (c.in_ok-cells.ensures.shape ∙ c.requires.shape) c.fill-2.ensures c.count.ensures.well_formed.full c.encode_form.ensures.absent c.encode_form.ensures.written

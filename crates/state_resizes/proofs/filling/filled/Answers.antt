@@ -2,7 +2,6 @@ use Rattle.std.proofs.Common.{[], sym, ap, subst, ◌∙◌, arith}
 use Rattle.std.specs.Prelude.{slice_index_or}
 use Rattle.history.specs.Arrays.{known_after, chunk_shape}
 use Rattle.history.specs.Resizes.{is_cut}
-use Rattle.state_laws.specs.Seen.{seen_of}
 use Rattle.state_laws.specs.declared.deed.NewShape.{NewShape}
 use Rattle.state_laws.proofs.Laws.{read_then}
 use Rattle.state_resizes.specs.Cuts.{IsLeftBy}
@@ -26,7 +25,7 @@ left_of_cut-requires-clause-cut g c k known =
 
 pub returns-in-Err-clause-refused : goal.returns-in-Err-clause-refused
 returns-in-Err-clause-refused g c =
-    let seen = seen_of g.K.KvStore.contents g.K.KvStore.faults g.K.KvStore.prefixes g.K.KvStore.names g.K.KvStore.standing g.K.KvStore.change_count in
+    let seen = g.K.KvStore.seen in
     let was = c.loop-place.invariant in
     unfilled_before (seen c.args.state.now.store) (seen c.loop-place.state.store) c.args.state.now.log c.loop-place.state.log was.same was.kept c.args.owner c.args.asked.plan (seen c.left_of_cut.new.state.store) c.left_of_cut.new.state.log c.in-Err.error was.read.frame
     (subst (λ p. IsUnfilled c.args.owner p (seen c.loop-place.state.store) (seen c.left_of_cut.new.state.store) c.loop-place.state.log c.left_of_cut.new.state.log c.in-Err.error) was.new c.in-Err.ensures.refused)
@@ -36,7 +35,7 @@ returns-in-Err-clause-kept g c = λ opening agrees. c.left_of_cut.ensures.kept o
 
 pub loop-place-preserved : goal.loop-place-preserved
 loop-place-preserved g c =
-    let seen = seen_of g.K.KvStore.contents g.K.KvStore.faults g.K.KvStore.prefixes g.K.KvStore.names g.K.KvStore.standing g.K.KvStore.change_count in
+    let seen = g.K.KvStore.seen in
     let was = c.loop-place.invariant in
     let first = c.args.asked.plan in
     let there = c.items.ensures ∙ c.index-chunks-place.is ∙ any_at c.args.chunks.now c.loop-place.place c.index-chunks-place.result [] c.loop-place-test.true in

@@ -2,14 +2,14 @@ use Rattle.std.proofs.Common.{◌≡◌}
 use Rattle.kv_face.specs.Store.{keys_of}
 use Rattle.chunk_plans.specs.Writes.{IsSameButCache}
 use Rattle.state_laws.specs.Agreement.{KeepsAgreement}
-use Rattle.state_laws.specs.Seen.{IsRead, seen_of}
+use Rattle.state_laws.specs.Seen.{IsRead}
 use Rattle.state_resizes.specs.Cuts.{AreFilled, bytes_at}
 use Rattle.state_resizes.proofs.filling.filled.Given as goal
 
 -- the first chunks are filled in, and nothing but the cache has changed
 abbrev pub invariant-loop-place : goal.invariant-loop-place
 invariant-loop-place g l =
-    let seen = seen_of g.K.KvStore.contents g.K.KvStore.faults g.K.KvStore.prefixes g.K.KvStore.names g.K.KvStore.standing g.K.KvStore.change_count in record {
+    let seen = g.K.KvStore.seen in record {
       new : l.asked.plan ≡ l.fn.asked.plan;
       keys : keys_of l.asked.changes.items ≡ keys_of l.fn.asked.changes.items;
       metadata : bytes_at l.asked.changes.items 0 ≡ bytes_at l.fn.asked.changes.items 0;

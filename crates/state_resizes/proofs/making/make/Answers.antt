@@ -2,7 +2,6 @@ use Rattle.std.proofs.Common.{sym, ap, subst, List}
 use Rattle.kv_face.specs.declared.change.Change.{Change}
 use Rattle.state_laws.specs.Changing.{IsNewShape, KeepsByShape}
 use Rattle.state_laws.specs.Log.{Log, StateOf}
-use Rattle.state_laws.specs.Seen.{seen_of}
 use Rattle.state_resizes.proofs.making.make.Goals as goal
 
 pub reshape-requires-clause-shape : goal.reshape-requires-clause-shape
@@ -13,7 +12,7 @@ reshape-requires-clause-shape g c =
 
 pub returns-clause-kept : goal.returns-clause-kept
 returns-clause-kept g c =
-    let seen = seen_of g.K.KvStore.contents g.K.KvStore.faults g.K.KvStore.prefixes g.K.KvStore.names g.K.KvStore.standing g.K.KvStore.change_count in
+    let seen = g.K.KvStore.seen in
     let next = seen c.reshape.new.self.store in
     let later = c.reshape.new.self.log in
     subst (λ (changes : List Change). KeepsByShape (seen c.args.state.now.store) c.args.state.now.log c.args.owner c.args.asked.plan changes next later) c.deref-2.ensures.value

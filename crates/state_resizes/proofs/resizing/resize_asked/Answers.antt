@@ -1,7 +1,6 @@
 use Rattle.std.proofs.Common.{Err, length, sym, ap, subst, ◌∙◌}
 use Rattle.kv_face.specs.Store.{keys_of}
 use Rattle.history.specs.Commit.{are_together}
-use Rattle.state_laws.specs.Seen.{seen_of}
 use Rattle.state_resizes.specs.Answers.{IsResize}
 use Rattle.state_resizes.specs.declared.error.ResizeError.TheVariants as error
 use Rattle.state_resizes.proofs.Outcome.{split_keys}
@@ -9,7 +8,7 @@ use Rattle.state_resizes.proofs.resizing.resize_asked.Goals as goal
 
 pub returns-then-not-together : goal.returns-then-not-together
 returns-then-not-together g c =
-    let seen = seen_of g.K.KvStore.contents g.K.KvStore.faults g.K.KvStore.prefixes g.K.KvStore.names g.K.KvStore.standing g.K.KvStore.change_count in
+    let seen = g.K.KvStore.seen in
     let store = seen c.args.state.now.store in
     let log = c.args.state.now.log in
     let plan = c.args.asked.plan in

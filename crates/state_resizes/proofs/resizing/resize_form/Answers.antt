@@ -1,7 +1,6 @@
 use Rattle.std.proofs.Common.{Err, length, sym, ap, subst, ◌∙◌}
 use Rattle.cells.specs.Shapes.{IsChunkShape}
 use Rattle.history.specs.History.{History}
-use Rattle.state_laws.specs.Seen.{seen_of}
 use Rattle.state_resizes.specs.Answers.{IsResize}
 use Rattle.state_resizes.specs.declared.error.ResizeError.TheVariants as error
 use Rattle.state_resizes.proofs.Begin.{counted, few_cut, many_cut, may_count, not_counted}
@@ -19,7 +18,7 @@ count_cut-requires-clause-new g c = (may_count c.args.array c.args.shape.now c.a
 
 pub returns-then-is_none : goal.returns-then-is_none
 returns-then-is_none g c =
-    let seen = seen_of g.K.KvStore.contents g.K.KvStore.faults g.K.KvStore.prefixes g.K.KvStore.names g.K.KvStore.standing g.K.KvStore.change_count in
+    let seen = g.K.KvStore.seen in
     let store = seen c.args.state.now.store in
     let log = c.args.state.now.log in
     let shape = c.args.shape.now in

@@ -1,6 +1,5 @@
 use Rattle.std.proofs.Common.{Err, sym, ap, subst, ◌∙◌}
 use Rattle.state_laws.specs.Changing.{IsNewShape}
-use Rattle.state_laws.specs.Seen.{seen_of}
 use Rattle.state_resizes.specs.Answers.{IsResize}
 use Rattle.history.specs.Commit.{are_together}
 use Rattle.state_resizes.proofs.Made.{made_later, made_together, new_shape, shape_later}
@@ -12,21 +11,21 @@ make-requires-clause-agrees g c = (c.requires.agrees.0, c.filled.ensures.kept c.
 
 pub make-requires-clause-shape : goal.make-requires-clause-shape
 make-requires-clause-shape g c =
-    let seen = seen_of g.K.KvStore.contents g.K.KvStore.faults g.K.KvStore.prefixes g.K.KvStore.names g.K.KvStore.standing g.K.KvStore.change_count in
+    let seen = g.K.KvStore.seen in
     subst (λ p. IsNewShape c.filled.new.state.log c.args.owner p c.in-Ok.asked.changes.items) (sym c.in-Ok.ensures.plan)
     (shape_later c.args.state.now.log c.filled.new.state.log c.args.owner c.args.asked.plan c.in-Ok.asked.changes.items c.in-Ok.ensures.same.events
     (new_shape (seen c.args.state.now.store) c.args.state.now.log c.args.chunks.now c.args.asked c.requires.agrees c.requires.asked c.requires.cut c.in-Ok.asked.changes.items c.in-Ok.ensures.keys c.args.owner))
 
 pub make-requires-clause-made : goal.make-requires-clause-made
 make-requires-clause-made g c =
-    let seen = seen_of g.K.KvStore.contents g.K.KvStore.faults g.K.KvStore.prefixes g.K.KvStore.names g.K.KvStore.standing g.K.KvStore.change_count in
+    let seen = g.K.KvStore.seen in
     made_later (seen c.args.state.now.store) (seen c.filled.new.state.store) c.in-Ok.asked.changes.items c.filled.ensures.read.frame
     (made_together (seen c.args.state.now.store) c.args.state.now.log c.args.chunks.now c.args.asked c.requires.agrees c.requires.asked c.requires.cut c.in-Ok.asked.changes.items c.in-Ok.ensures.keys
     (ap (are_together (seen c.args.state.now.store).prefixes) c.in-Ok.ensures.keys ∙ c.requires.together))
 
 pub returns-in-Ok : goal.returns-in-Ok
 returns-in-Ok g c =
-    let seen = seen_of g.K.KvStore.contents g.K.KvStore.faults g.K.KvStore.prefixes g.K.KvStore.names g.K.KvStore.standing g.K.KvStore.change_count in
+    let seen = g.K.KvStore.seen in
     let plan = c.args.asked.plan in
     subst (IsResize c.args.owner plan.array plan.shape (seen c.args.state.now.store) (seen c.make.new.state.store) c.args.state.now.log c.make.new.state.log) (sym c.answer_of.ensures)
     (made_or_not c.args.owner (seen c.args.state.now.store) c.args.state.now.log c.args.chunks.now c.args.asked c.requires.agrees c.requires.asked c.requires.cut c.requires.together (seen c.filled.new.state.store) c.filled.new.state.log c.in-Ok.asked
@@ -35,7 +34,7 @@ returns-in-Ok g c =
 
 pub returns-in-Err : goal.returns-in-Err
 returns-in-Err g c =
-    let seen = seen_of g.K.KvStore.contents g.K.KvStore.faults g.K.KvStore.prefixes g.K.KvStore.names g.K.KvStore.standing g.K.KvStore.change_count in
+    let seen = g.K.KvStore.seen in
     let plan = c.args.asked.plan in
     subst (λ e. IsResize c.args.owner plan.array plan.shape (seen c.args.state.now.store) (seen c.filled.new.state.store) c.args.state.now.log c.filled.new.state.log (Err e)) (sym c.refusal_of.ensures)
     (not_read c.args.owner (seen c.args.state.now.store) c.args.state.now.log c.args.chunks.now c.args.asked c.requires.agrees c.requires.asked c.requires.cut c.requires.together (seen c.filled.new.state.store) c.filled.new.state.log c.in-Err.error

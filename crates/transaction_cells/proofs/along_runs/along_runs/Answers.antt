@@ -7,11 +7,8 @@ use Rattle.index_transform.specs.Cells.{cells_of}
 use Rattle.index_transform.specs.Transforms.{DomainAndMaps}
 use Rattle.index_transform.specs.Values.{value_at}
 use Rattle.transaction_cells.specs.Along.{numbered, targets_along}
-use Rattle.transaction_cells.proofs.AlongCells.{cells_along, few_leaves, sites_within}
+use Rattle.transaction_cells.proofs.AlongCells.{cells_along, sites_within}
 use Rattle.transaction_cells.proofs.along_runs.along_runs.Goals as goal
-
-pub lanes_of-requires-clause-few : goal.lanes_of-requires-clause-few
-lanes_of-requires-clause-few c = few_leaves c.args.v.now c.args.array.now c.requires.within
 
 pub pieces_along-requires-clause-inside : goal.pieces_along-requires-clause-inside
 pieces_along-requires-clause-inside c =

@@ -5,7 +5,6 @@ use Rattle.commits.specs.Prepared.{AreWrites}
 use Rattle.history.specs.Commit.{Transaction}
 use Rattle.kv_face.specs.Store.{Contents}
 use Rattle.state_laws.specs.Agreement.{Agrees}
-use Rattle.state_laws.specs.Seen.{seen_of}
 use Rattle.turn_book.specs.History.{Continues}
 use Rattle.transactions.specs.Turns.{owner_of}
 use Rattle.transactions.proofs.CommitTurns.{commit_turn}
@@ -15,7 +14,7 @@ use Rattle.transactions.proofs.commit_turns.commit_in_turn.Goals as goal
 
 pub commit_now-committed-requires-clause-agrees : goal.commit_now-committed-requires-clause-agrees
 commit_now-committed-requires-clause-agrees c d =
-    let seen = seen_of c.K.KvStore.contents c.K.KvStore.faults c.K.KvStore.prefixes c.K.KvStore.names c.K.KvStore.standing c.K.KvStore.change_count in
+    let seen = c.K.KvStore.seen in
     let fixed = d.args.book.now.fixed in
     let state = d.state.result.now in
     let agrees : Agrees fixed (seen state.store) state.log = rw d.state.ensures.value d.take-held.ensures.agrees in
@@ -27,7 +26,7 @@ commit_now-committed-requires-clause-agrees c d =
 
 pub commit_now-committed-requires-clause-writes : goal.commit_now-committed-requires-clause-writes
 commit_now-committed-requires-clause-writes c d =
-    let seen = seen_of c.K.KvStore.contents c.K.KvStore.faults c.K.KvStore.prefixes c.K.KvStore.names c.K.KvStore.standing c.K.KvStore.change_count in
+    let seen = c.K.KvStore.seen in
     let fixed = d.args.book.now.fixed in
     let state = d.state.result.now in
     let agrees : Agrees fixed (seen state.store) state.log = rw d.state.ensures.value d.take-held.ensures.agrees in
@@ -37,7 +36,7 @@ commit_now-committed-requires-clause-writes c d =
 
 pub give-requires-clause-agrees : goal.give-requires-clause-agrees
 give-requires-clause-agrees c d =
-    let seen = seen_of c.K.KvStore.contents c.K.KvStore.faults c.K.KvStore.prefixes c.K.KvStore.names c.K.KvStore.standing c.K.KvStore.change_count in
+    let seen = c.K.KvStore.seen in
     let fixed = d.args.book.now.fixed in
     let state = d.state.result.now in
     let agrees : Agrees fixed (seen state.store) state.log = rw d.state.ensures.value d.take-held.ensures.agrees in
@@ -47,7 +46,7 @@ give-requires-clause-agrees c d =
 
 pub give-requires-clause-added : goal.give-requires-clause-added
 give-requires-clause-added c d =
-    let seen = seen_of c.K.KvStore.contents c.K.KvStore.faults c.K.KvStore.prefixes c.K.KvStore.names c.K.KvStore.standing c.K.KvStore.change_count in
+    let seen = c.K.KvStore.seen in
     let state = d.state.result.now in
     let later = d.commit_now-committed.new.state in
     let has = told_added d.number-owner.result (seen state.store) (seen later.store) state.log later.log d.args.p d.commit_now-committed.result d.commit_now-committed.ensures.told in
@@ -56,7 +55,7 @@ give-requires-clause-added c d =
 
 pub returns : goal.returns
 returns c d t may =
-    let seen = seen_of c.K.KvStore.contents c.K.KvStore.faults c.K.KvStore.prefixes c.K.KvStore.names c.K.KvStore.standing c.K.KvStore.change_count in
+    let seen = c.K.KvStore.seen in
     let fixed = d.args.book.now.fixed in
     let state = d.state.result.now in
     let later = d.commit_now-committed.new.state in

@@ -1,5 +1,4 @@
 use Rattle.std.proofs.Common.{drop}
-use Rattle.state_laws.specs.Seen.{seen_of}
 use Rattle.transactions.specs.Sources.{new_pieces}
 use Rattle.transactions.proofs.LooksLaws.{AreLookedUpTo}
 use Rattle.transactions.proofs.looking.look_all.Given as goal
@@ -7,5 +6,5 @@ use Rattle.transactions.proofs.looking.look_all.Given as goal
 -- the chunks so far have been looked at, and no event was added
 abbrev pub invariant-loop-k : goal.invariant-loop-k
 invariant-loop-k c l =
-    let seen = seen_of c.K.KvStore.contents c.K.KvStore.faults c.K.KvStore.prefixes c.K.KvStore.names c.K.KvStore.standing c.K.KvStore.change_count in
+    let seen = c.K.KvStore.seen in
     AreLookedUpTo (seen l.initial.state.store) (seen l.state.store) l.initial.state.log l.state.log (new_pieces (drop l.k l.sources) (drop l.k l.pieces)) (new_pieces l.sources l.pieces) l.looks.items

@@ -6,10 +6,10 @@ use Rattle.zarr_chunks.proofs.Laws.{All-from_chunk}
 use Rattle.zarr3_chunks.specs.Chunk.{as_zarr}
 use Rattle.zarr3_chunks.proofs.chunk.decode.Goals as goal
 
-pub new-requires : goal.new-requires
-new-requires c =
+pub of_words-requires : goal.of_words-requires
+of_words-requires c =
     let shape : c.wrap.result ≡ c.m.inside.chunks = c.wrap.ensures ∙ c.in-Ok-from_slice.ensures.items ∙ c.items.ensures in
-    let words : c.wrap-2.result ≡ c.in-Ok.words.items = c.wrap-2.ensures in
+    let words : c.deref.result.now ≡ c.in-Ok.words.items = c.deref.ensures.value in
     let of_dtype : All (IsWord c.m.inside.dtype) c.in-Ok.words.items =
     subst (λ m. All (IsWord m.dtype) c.in-Ok.words.items) (sym c.m.view_is) (All-from_chunk (as_zarr c.args.m.now) c.args.bytes.now c.in-Ok.words.items c.in-Ok.ensures.0 c.in-Ok.ensures.1) in
     record {

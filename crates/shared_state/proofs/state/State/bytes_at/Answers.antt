@@ -8,7 +8,7 @@ get-requires g c =
     let named = c.requires.named in
     let k = named.array in
     let on : mount_of k.info.home ≡ Some c.in_ok-mount.mount = c.in_ok-mount.ensures k named.known in
-    takes_chunk (g.K.KvStore.names c.args.self.now.store) k c.args.chunk.now c.in_ok-mount.mount c.args.key.now on (c.requires.agrees.1.mounts c.args.array k c.in_ok-mount.mount named.known on) named.named
+    takes_chunk ((g.K.KvStore.seen c.args.self.now.store).names) k c.args.chunk.now c.in_ok-mount.mount c.args.key.now on (c.requires.agrees.1.mounts c.args.array k c.in_ok-mount.mount named.known on) named.named
 
 pub returns-clause-kept : goal.returns-clause-kept
 returns-clause-kept g c = λ opening agrees.

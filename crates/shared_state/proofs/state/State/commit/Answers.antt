@@ -1,10 +1,9 @@
-use Rattle.state_laws.specs.Seen.{seen_of}
 use Rattle.state_laws.proofs.Laws.{agrees_deed}
 use Rattle.shared_state.proofs.state.State.commit.Goals as goal
 
 pub returns-clause-kept : goal.returns-clause-kept
 returns-clause-kept g c = λ opening agrees right.
-    let seen = seen_of g.K.KvStore.contents g.K.KvStore.faults g.K.KvStore.prefixes g.K.KvStore.names g.K.KvStore.standing g.K.KvStore.change_count in
+    let seen = g.K.KvStore.seen in
     let made = c.make_deed.ensures in
     agrees_deed opening (seen c.args.self.now.store) (seen c.make_deed.new.self.store) c.args.self.now.log c.make_deed.new.self.log c.args.owner c.args.deed c.args.changes.now c.make_deed.result made.after made.done made.one_more made.none
     made.quiet made.failed made.memory made.frame c.requires.deed right agrees

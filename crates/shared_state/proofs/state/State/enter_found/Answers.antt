@@ -9,7 +9,6 @@ use Rattle.history.specs.declared.array.ArrayInfo.{ArrayInfo}
 use Rattle.history.specs.Places.{IsFree}
 use Rattle.state_laws.specs.declared.place.Place.{Place}
 use Rattle.state_laws.specs.Agreement.{Agrees}
-use Rattle.state_laws.specs.Seen.{seen_of}
 use Rattle.state_laws.specs.Log.{StateOf}
 use Rattle.state_laws.specs.Placed.{entered}
 use Rattle.shared_state.proofs.Cases.{either_way}
@@ -19,7 +18,7 @@ use Rattle.shared_state.proofs.state.State.enter_found.Goals as goal
 pub returns-clause-kept : goal.returns-clause-kept
 returns-clause-kept g c = λ opening agrees.
     let log = c.args.self.now.log in
-    let seen = seen_of g.K.KvStore.contents g.K.KvStore.faults g.K.KvStore.prefixes g.K.KvStore.names g.K.KvStore.standing g.K.KvStore.change_count in
+    let seen = g.K.KvStore.seen in
     let store = seen c.args.self.now.store in
     let place = c.args.place.now in
     let leaf = leaf_at place.names.mount place.names.path c.args.want.now true true in

@@ -4,7 +4,6 @@ use Rattle.history.specs.OpenRows.{next_array, given_info}
 use Rattle.state_laws.specs.Agreement.{Agrees}
 use Rattle.state_laws.specs.Log.{StateOf, log_of}
 use Rattle.state_laws.specs.Placed.{entered}
-use Rattle.state_laws.specs.Seen.{seen_of}
 use Rattle.state_laws.proofs.Laws.{agrees_given}
 use Rattle.shared_state.proofs.state.State.enter_given.Goals as goal
 
@@ -12,7 +11,7 @@ pub returns-clause-kept : goal.returns-clause-kept
 returns-clause-kept g c = λ opening agrees.
     let log = c.args.self.now.log in
     let given = c.requires.given in
-    let seen = seen_of g.K.KvStore.contents g.K.KvStore.faults g.K.KvStore.prefixes g.K.KvStore.names g.K.KvStore.standing g.K.KvStore.change_count in
+    let seen = g.K.KvStore.seen in
     let store : seen c.self.inside.store ≡ seen c.args.self.now.store = ap (λ (st : StateOf g.row.K.Denot). seen st.store) c.self.view_is in
     let cells : SnapshotCells = record { generation = length log.events + 1; cells = c.args.cells.cells } in
     let same : c.args.cells ≡ cells = ap (λ n. record { generation = n; cells = c.args.cells.cells }) given.generation in

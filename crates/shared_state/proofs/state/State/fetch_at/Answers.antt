@@ -4,7 +4,6 @@ use Rattle.chunk_cache.specs.Cache.{kept}
 use Rattle.history.specs.Arrays.{Known, known_after, is_local}
 use Rattle.history.specs.Chunks.{Chunk}
 use Rattle.state_laws.specs.Agreement.{Agrees}
-use Rattle.state_laws.specs.Seen.{seen_of}
 use Rattle.state_laws.specs.Log.{StateOf}
 use Rattle.state_laws.specs.Fetches.{IsDamagedThere, kept_of}
 use Rattle.shared_state.proofs.Looked.{unkept_by}
@@ -19,13 +18,13 @@ load-requires-clause-unkept g c =
 
 pub returns-in-Ok-None-clause-damaged : goal.returns-in-Ok-None-clause-damaged
 returns-in-Ok-None-clause-damaged g c = λ name cause e.
-    let seen = seen_of g.K.KvStore.contents g.K.KvStore.faults g.K.KvStore.prefixes g.K.KvStore.names g.K.KvStore.standing g.K.KvStore.change_count in
+    let seen = g.K.KvStore.seen in
     let chunk : Chunk = record { array = c.args.array; index = c.args.chunk.now } in
     let same = c.kept_at.ensures.missed (c.in-Ok-None.is ∙ ap Ok c.in-Ok-None.field-0-is) in
     subst (λ (st : StateOf g.row.K.Denot). (c.load.new.self.log ≡ st.log) × IsDamagedThere (seen st.store) st.log chunk name cause) same (c.load.ensures.damaged name cause e)
 
 pub returns-in-Ok-None-clause-kept : goal.returns-in-Ok-None-clause-kept
 returns-in-Ok-None-clause-kept g c = λ opening agrees.
-    let seen = seen_of g.K.KvStore.contents g.K.KvStore.faults g.K.KvStore.prefixes g.K.KvStore.names g.K.KvStore.standing g.K.KvStore.change_count in
+    let seen = g.K.KvStore.seen in
     let same = c.kept_at.ensures.missed (c.in-Ok-None.is ∙ ap Ok c.in-Ok-None.field-0-is) in
     c.load.ensures.kept opening (subst (λ (st : StateOf g.row.K.Denot). Agrees opening (seen st.store) st.log) (sym same) agrees)

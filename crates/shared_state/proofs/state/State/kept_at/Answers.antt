@@ -5,7 +5,6 @@ use Rattle.history.specs.Arrays.{is_local}
 use Rattle.history.specs.Chunks.{Chunk}
 use Rattle.state_laws.specs.Agreement.{Agrees}
 use Rattle.state_laws.specs.Log.{Log, StateOf, log_of, cells_held}
-use Rattle.state_laws.specs.Seen.{seen_of}
 use Rattle.state_laws.specs.Fetches.{looked_at}
 use Rattle.state_laws.proofs.Laws.{agrees_looked, answered_some}
 use Rattle.shared_state.proofs.Cases.{either_way}
@@ -42,7 +41,7 @@ returns-clause-kept g c = λ opening agrees.
     let k = named.array in
     let key = c.args.key.now in
     let same : log_of c.self.inside.records ≡ log = ap (λ (st : StateOf g.row.K.Denot). st.log) c.self.view_is in
-    let store = seen_of g.K.KvStore.contents g.K.KvStore.faults g.K.KvStore.prefixes g.K.KvStore.names g.K.KvStore.standing g.K.KvStore.change_count in
+    let store = g.K.KvStore.seen in
     let kept_store = ap (λ (st : StateOf g.row.K.Denot). store st.store) c.self.view_is in
     let stored : is_local k.info.home ≡ false = sym (c.is_local.ensures k named.known) ∙ c.if-is_local.false in
     let hit = λ (l : Log). record l { cache = record l.cache { entries = after_hit key l.cache.entries } } in

@@ -4,7 +4,6 @@ use Rattle.std.proofs.lemmas.Result.{IfOk-weaker}
 use Rattle.chunk_cache.specs.Cache.{kept}
 use Rattle.history.specs.Arrays.{Known, known_after, is_local}
 use Rattle.history.specs.Chunks.{Chunk}
-use Rattle.state_laws.specs.Seen.{seen_of}
 use Rattle.state_laws.specs.Log.{Log}
 use Rattle.state_laws.specs.Fetches.{IsAnswered, IsDamagedThere, HasFailed}
 use Rattle.shared_state.proofs.Looked.{answered_back, damaged_back, stored_mount, kept_none}
@@ -20,7 +19,7 @@ decoded-requires-clause-unkept g c =
 pub returns-in-Ok-clause-answered : goal.returns-in-Ok-clause-answered
 returns-in-Ok-clause-answered g c =
     let chunk : Chunk = record { array = c.args.array; index = c.args.chunk.now } in
-    let seen = seen_of g.K.KvStore.contents g.K.KvStore.faults g.K.KvStore.prefixes g.K.KvStore.names g.K.KvStore.standing g.K.KvStore.change_count in
+    let seen = g.K.KvStore.seen in
     IfOk-weaker c.decoded.result _ _
     (λ f is. answered_back (seen c.args.self.now.store) (seen c.bytes_at.new.self.store) c.args.self.now.log chunk f.snapshot c.bytes_at.ensures.read
     (subst (λ log. IsAnswered (seen c.bytes_at.new.self.store) log chunk f.snapshot) c.in-Ok.ensures.ok is))
@@ -29,7 +28,7 @@ returns-in-Ok-clause-answered g c =
 pub returns-in-Ok-clause-damaged : goal.returns-in-Ok-clause-damaged
 returns-in-Ok-clause-damaged g c = λ name cause e.
     let chunk : Chunk = record { array = c.args.array; index = c.args.chunk.now } in
-    let seen = seen_of g.K.KvStore.contents g.K.KvStore.faults g.K.KvStore.prefixes g.K.KvStore.names g.K.KvStore.standing g.K.KvStore.change_count in
+    let seen = g.K.KvStore.seen in
     let is = c.decoded.ensures.damaged name cause e in (
       is.0 ∙ c.in-Ok.ensures.ok,
       damaged_back (seen c.args.self.now.store) (seen c.bytes_at.new.self.store) c.args.self.now.log chunk name cause c.bytes_at.ensures.read

@@ -3,7 +3,6 @@ use Rattle.chunk_cache.specs.Cache.{kept}
 use Rattle.history.specs.Arrays.{Known, known_after, is_local}
 use Rattle.history.specs.Chunks.{Chunk}
 use Rattle.state_laws.specs.Agreement.{Agrees, IsState}
-use Rattle.state_laws.specs.Seen.{seen_of}
 use Rattle.state_laws.specs.Log.{StateOf}
 use Rattle.state_laws.specs.Looks.{HasBounds, IsFailedLook}
 use Rattle.state_laws.specs.Fetches.{IsNamed}
@@ -12,7 +11,7 @@ use Rattle.shared_state.proofs.state.State.look_at.Goals as goal
 
 pub stored_look-requires-clause-agrees : goal.stored_look-requires-clause-agrees
 stored_look-requires-clause-agrees g c =
-    let seen = seen_of g.K.KvStore.contents g.K.KvStore.faults g.K.KvStore.prefixes g.K.KvStore.names g.K.KvStore.standing g.K.KvStore.change_count in
+    let seen = g.K.KvStore.seen in
     let same = c.kept_at.ensures.missed (c.in-Ok-None.is ∙ ap Ok c.in-Ok-None.field-0-is) in
     subst (λ (st : StateOf g.row.K.Denot). IsState (seen st.store) st.log) (sym same) c.requires.agrees
 
@@ -37,7 +36,7 @@ stored_look-requires-clause-bounds g c =
 
 pub returns-in-Ok-None-clause-failed : goal.returns-in-Ok-None-clause-failed
 returns-in-Ok-None-clause-failed g c = λ event e.
-    let seen = seen_of g.K.KvStore.contents g.K.KvStore.faults g.K.KvStore.prefixes g.K.KvStore.names g.K.KvStore.standing g.K.KvStore.change_count in
+    let seen = g.K.KvStore.seen in
     let chunk : Chunk = record { array = c.args.array; index = c.args.chunk.now } in
     let same = c.kept_at.ensures.missed (c.in-Ok-None.is ∙ ap Ok c.in-Ok-None.field-0-is) in
     subst (λ (st : StateOf g.row.K.Denot). IsFailedLook c.args.owner chunk (seen st.store) (seen c.stored_look.new.self.store) st.log c.stored_look.new.self.log event) same (c.stored_look.ensures.failed event e)
@@ -49,6 +48,6 @@ returns-in-Ok-None-clause-memory g c = λ e.
 
 pub returns-in-Ok-None-clause-kept : goal.returns-in-Ok-None-clause-kept
 returns-in-Ok-None-clause-kept g c = λ opening agrees.
-    let seen = seen_of g.K.KvStore.contents g.K.KvStore.faults g.K.KvStore.prefixes g.K.KvStore.names g.K.KvStore.standing g.K.KvStore.change_count in
+    let seen = g.K.KvStore.seen in
     let same = c.kept_at.ensures.missed (c.in-Ok-None.is ∙ ap Ok c.in-Ok-None.field-0-is) in
     c.stored_look.ensures.kept opening (subst (λ (st : StateOf g.row.K.Denot). Agrees opening (seen st.store) st.log) (sym same) agrees)

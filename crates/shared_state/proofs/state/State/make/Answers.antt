@@ -13,7 +13,6 @@ use Rattle.history.specs.Legal.{is_opening}
 use Rattle.history.specs.Places.{IsFree}
 use Rattle.state_laws.specs.declared.place.Place.{Place}
 use Rattle.state_laws.specs.Agreement.{Agrees}
-use Rattle.state_laws.specs.Seen.{seen_of}
 use Rattle.state_laws.specs.Log.{StateOf}
 use Rattle.state_laws.specs.Placed.{entered}
 use Rattle.state_laws.proofs.Laws.{agrees_made}
@@ -28,7 +27,7 @@ write_new-requires-clause-keys g c =
     let rest = place.names.path ++ 47 ∷ metadata_name_asked c.args.want.now in
     let at = ap (λ (p : Place). p.key) c.requires.place ∙ append_assoc mount (47 ∷ place.names.path) (47 ∷ metadata_name_asked c.args.want.now) in
     let changes = c.deref.ensures.value ∙ c.in_ok-changes.ensures in
-    one_taken (g.K.KvStore.names c.args.self.now.store) c.deref.result.now (record { key = c.items.result.now; bytes = Some (metadata_text c.args.form) }) mount rest changes (c.items.ensures ∙ at) c.requires.taken
+    one_taken ((g.K.KvStore.seen c.args.self.now.store).names) c.deref.result.now (record { key = c.items.result.now; bytes = Some (metadata_text c.args.form) }) mount rest changes (c.items.ensures ∙ at) c.requires.taken
 
 pub write_new-requires-clause-distinct : goal.write_new-requires-clause-distinct
 write_new-requires-clause-distinct g c = one_distinct c.deref.result.now _ (c.deref.ensures.value ∙ c.in_ok-changes.ensures)
@@ -36,7 +35,7 @@ write_new-requires-clause-distinct g c = one_distinct c.deref.result.now _ (c.de
 pub returns-clause-kept : goal.returns-clause-kept
 returns-clause-kept g c = λ opening agrees.
     let log = c.args.self.now.log in
-    let seen = seen_of g.K.KvStore.contents g.K.KvStore.faults g.K.KvStore.prefixes g.K.KvStore.names g.K.KvStore.standing g.K.KvStore.change_count in
+    let seen = g.K.KvStore.seen in
     let store = seen c.args.self.now.store in
     let next = seen c.write_new.new.self.store in
     let place = c.args.place.now in

@@ -6,7 +6,6 @@ use Rattle.kv_face.specs.Store.{Contents}
 use Rattle.array_homes.specs.Opening.{leaf_at, Tells}
 use Rattle.history.specs.Places.{IsFree}
 use Rattle.state_laws.specs.declared.place.Place.{Place}
-use Rattle.state_laws.specs.Seen.{seen_of}
 use Rattle.state_laws.specs.Log.{Log, StateOf}
 use Rattle.state_laws.specs.Openings.{IsOutcomeOf, IsRefusalOf}
 use Rattle.history.specs.History.{History}
@@ -19,7 +18,7 @@ use Rattle.shared_state.proofs.state.State.open_stored.Goals as goal
 pub returns-in-Ok-Found-clause-answer : goal.returns-in-Ok-Found-clause-answer
 returns-in-Ok-Found-clause-answer g c = λ opening agrees.
     let log = c.args.self.now.log in
-    let seen = seen_of g.K.KvStore.contents g.K.KvStore.faults g.K.KvStore.prefixes g.K.KvStore.names g.K.KvStore.standing g.K.KvStore.change_count in
+    let seen = g.K.KvStore.seen in
     let store = seen c.args.self.now.store in
     let place = c.args.place.now in
     let leaf = leaf_at place.names.mount place.names.path c.args.want.now c.args.may_open c.args.may_create in
@@ -37,7 +36,7 @@ returns-in-Ok-Found-clause-answer g c = λ opening agrees.
 pub returns-in-Ok-Made-clause-answer : goal.returns-in-Ok-Made-clause-answer
 returns-in-Ok-Made-clause-answer g c = λ opening agrees.
     let log = c.args.self.now.log in
-    let seen = seen_of g.K.KvStore.contents g.K.KvStore.faults g.K.KvStore.prefixes g.K.KvStore.names g.K.KvStore.standing g.K.KvStore.change_count in
+    let seen = g.K.KvStore.seen in
     let store = seen c.args.self.now.store in
     let place = c.args.place.now in
     let leaf = leaf_at place.names.mount place.names.path c.args.want.now c.args.may_open c.args.may_create in
@@ -54,7 +53,7 @@ returns-in-Ok-Made-clause-answer g c = λ opening agrees.
 pub returns-in-Err-clause-answer : goal.returns-in-Err-clause-answer
 returns-in-Err-clause-answer g c = λ opening agrees.
     let log = c.args.self.now.log in
-    let seen = seen_of g.K.KvStore.contents g.K.KvStore.faults g.K.KvStore.prefixes g.K.KvStore.names g.K.KvStore.standing g.K.KvStore.change_count in
+    let seen = g.K.KvStore.seen in
     let store = seen c.args.self.now.store in
     let place = c.args.place.now in
     let leaf = leaf_at place.names.mount place.names.path c.args.want.now c.args.may_open c.args.may_create in

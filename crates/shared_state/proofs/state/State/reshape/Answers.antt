@@ -1,4 +1,3 @@
-use Rattle.state_laws.specs.Seen.{seen_of}
 use Rattle.state_laws.proofs.Laws.{agrees_shape}
 use Rattle.shared_state.proofs.state.State.reshape.Goals as goal
 
@@ -7,7 +6,7 @@ make_shape-requires-clause-array g c = let shape = c.requires.shape in (shape.ar
 
 pub returns-clause-kept : goal.returns-clause-kept
 returns-clause-kept g c = λ opening agrees right.
-    let seen = seen_of g.K.KvStore.contents g.K.KvStore.faults g.K.KvStore.prefixes g.K.KvStore.names g.K.KvStore.standing g.K.KvStore.change_count in
+    let seen = g.K.KvStore.seen in
     let made = c.make_shape.ensures in
     agrees_shape opening (seen c.args.self.now.store) (seen c.make_shape.new.self.store) c.args.self.now.log c.make_shape.new.self.log c.args.owner c.args.new c.args.changes.now c.make_shape.result made.after made.done made.one_more made.none
     made.quiet made.failed made.memory made.frame c.requires.shape right agrees

@@ -3,7 +3,6 @@ use Rattle.std.proofs.lemmas.Result.{IfOk-weaker}
 use Rattle.chunk_cache.specs.Cache.{kept}
 use Rattle.history.specs.Arrays.{Known, known_after, is_local}
 use Rattle.history.specs.Chunks.{Chunk}
-use Rattle.state_laws.specs.Seen.{seen_of}
 use Rattle.state_laws.specs.Log.{Log}
 use Rattle.state_laws.specs.Looks.{IsLook}
 use Rattle.state_laws.specs.Fetches.{HasFailed}
@@ -17,7 +16,7 @@ described-requires-clause-unkept g c =
 pub returns-in-Ok-clause-looked : goal.returns-in-Ok-clause-looked
 returns-in-Ok-clause-looked g c =
     let chunk : Chunk = record { array = c.args.array; index = c.args.chunk.now } in
-    let seen = seen_of g.K.KvStore.contents g.K.KvStore.faults g.K.KvStore.prefixes g.K.KvStore.names g.K.KvStore.standing g.K.KvStore.change_count in
+    let seen = g.K.KvStore.seen in
     IfOk-weaker c.described.result _ _
     (λ l is. look_back (seen c.args.self.now.store) (seen c.bytes_at.new.self.store) c.args.self.now.log chunk l c.bytes_at.ensures.read (subst (λ log. IsLook (seen c.bytes_at.new.self.store) log chunk l) c.in-Ok.ensures.ok is)) c.described.ensures.looked
 
