@@ -9,8 +9,8 @@ use Rattle.history.specs.declared.event.Kind.TheVariants.{Done}
 use Rattle.history.specs.Commit.{are_together}
 use Rattle.history.specs.Counting.{is_change}
 use Rattle.history.specs.Legal.{IsLegalDone}
-use Rattle.run_records.specs.declared.commit.Commit.{Commit}
-use Rattle.run_records.specs.Recorded.{done_event}
+use Rattle.state_laws.specs.declared.commit.Commit.{Commit}
+use Rattle.state_laws.specs.Recorded.{done_event}
 use Rattle.state_laws.specs.Agreement.{Opening, Agrees, IsState}
 use Rattle.state_laws.specs.Changing.{AreMade}
 use Rattle.state_laws.specs.Log.{Log}

@@ -13,7 +13,7 @@ use Rattle.history.specs.declared.event.Op.{Op}
 use Rattle.history.specs.Arrays.{is_local}
 use Rattle.history.specs.Legal.{IsLegal}
 use Rattle.history.specs.ReadRows.{mount_of}
-use Rattle.run_records.specs.declared.commit.Commit.{Commit}
+use Rattle.state_laws.specs.declared.commit.Commit.{Commit}
 use Rattle.state_laws.specs.Agreement.{IsState}
 use Rattle.state_laws.specs.Changing.{AreMade}
 use Rattle.state_laws.specs.Log.{Log}

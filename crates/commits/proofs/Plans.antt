@@ -23,8 +23,8 @@ use Rattle.std.proofs.lemmas.Bool.Decides.{nat_tests}
 use Rattle.std.proofs.lemmas.List.{length-map}
 use Rattle.history.proofs.Laws.{chunk_array, else_word, last_put, known_good, local_shape, one_key, same_chunks, some_inj, written-is}
 use Rattle.chunk_laying.proofs.Laws.{IsStagedBy}
-use Rattle.run_records.specs.declared.commit.Commit.{Commit}
-use Rattle.run_records.specs.Recorded.{done_event}
+use Rattle.state_laws.specs.declared.commit.Commit.{Commit}
+use Rattle.state_laws.specs.Recorded.{done_event}
 use Rattle.state_laws.specs.Agreement.{Opening, Agrees}
 use Rattle.state_laws.specs.Kept.{IsCurrent}
 use Rattle.state_laws.specs.Log.{Log}

@@ -21,8 +21,8 @@ use crate::way::{Way, way_of};
 use crate::writes::writes_only;
 use cells::List;
 use kv_face::KvStore;
-use run_records::Commit;
 use shared_state::State;
+use state_laws::Commit;
 use std::alloc::Global;
 
 /// As one event.

@@ -19,9 +19,9 @@ use cells::{List, Name};
 use chunk_plans::ChunkWrite;
 use history::{Mode, Ops};
 use kv_face::KvStore;
-use run_records::Commit;
 use shared_state::{ChangeError, State};
 use state_commits::{Planned, commit_planned};
+use state_laws::Commit;
 use state_parts::copy_name;
 use std::alloc::{AllocError, Global};
 

@@ -2,7 +2,7 @@
 ghost use Rattle.std.specs.Prelude.{◌≡◌, ◌⊎◌, ◌∷◌, [], length, None, true};
 ghost use Rattle.std.specs.List.{AllByRecursion};
 ghost use Rattle.history.specs.Commit.{are_together};
-ghost use Rattle.run_records.specs.Recorded.{done_event};
+ghost use Rattle.state_laws.specs.Recorded.{done_event};
 ghost use Rattle.state_laws.specs.Seen.{IsFrame};
 ghost use Rattle.state_laws.specs.Agreement.{IsState};
 ghost use Rattle.state_laws.specs.Changing.{AreMade};
@@ -21,9 +21,9 @@ use crate::refused::{CommitRefused, unmade, unplanned};
 use cells::{List, Name};
 use chunk_plans::ChunkWrite;
 use kv_face::KvStore;
-use run_records::Commit;
 use shared_state::State;
 use state_commits::{Planned, commit_planned};
+use state_laws::Commit;
 use std::alloc::Global;
 
 /// Makes the commit by its plans. Room for the answer is made before.

@@ -47,11 +47,11 @@ use Rattle.stack_driver.proofs.view.View.TheLaws.TheKnot as knot
 use Rattle.stack_driver.specs.contracts.view.View as view
 use Rattle.history.specs.contracts.event.Event as event
 use Rattle.chunk_cache.proofs.cache.ChunkCache.TheSendSync as cache
-use Rattle.run_records.proofs.arrays.Entry.TheSendSync as entry
-use Rattle.run_records.proofs.generations.KeyNumbers.TheSendSync as numbers
-use Rattle.run_records.specs.contracts.arrays.Entry as entry_type
-use Rattle.run_records.specs.contracts.records.Records as records
-use Rattle.run_records.specs.contracts.records.Records.TheInside as records_inside
+use Rattle.state_laws.proofs.arrays.Entry.TheSendSync as entry
+use Rattle.state_laws.proofs.generations.KeyNumbers.TheSendSync as numbers
+use Rattle.state_laws.specs.contracts.arrays.Entry as entry_type
+use Rattle.state_laws.specs.contracts.records.Records as records
+use Rattle.state_laws.specs.contracts.records.Records.TheInside as records_inside
 use Rattle.locations.proofs.table.Locations.TheSendSync as locations
 use Rattle.shared_state.specs.contracts.state.State as state
 use Rattle.shared_state.specs.contracts.state.State.TheInside as state_inside

@@ -5,7 +5,7 @@ ghost use Rattle.state_laws.specs.Agreement.{Agrees};
 use history::Event;
 use kv_face::KvStore;
 use locations::Locations;
-use run_records::Records;
+use state_laws::Records;
 use std::alloc::{AllocError, Global};
 use std::marker::Model;
 
@@ -21,7 +21,7 @@ pub struct State<K: KvStore> {
 impl<K: KvStore> Model for State<K> {
     ghost use Rattle.std.specs.Coded.{codes};
     ghost use Rattle.stack_driver.specs.contracts.view.View as view_type;
-    ghost use Rattle.run_records.specs.Numbers.{generations_code};
+    ghost use Rattle.state_laws.specs.Numbers.{generations_code};
     ghost use Rattle.history.specs.Places.{IsTable};
     ghost use Rattle.state_laws.specs.Log.{StateOf, log_of, spare_of};
 

@@ -16,7 +16,7 @@ use Rattle.history.specs.Arrays.{Known, known_after, is_local, chunk_shape}
 use Rattle.history.specs.Chunks.{Chunk, IsIndexOf, AreStarts, IsWholeIfLocal, chunk_key}
 use Rattle.history.specs.Touch.{touches}
 use Rattle.history.proofs.Laws.{some_inj}
-use Rattle.run_records.specs.Recorded.{done_event}
+use Rattle.state_laws.specs.Recorded.{done_event}
 use Rattle.state_laws.specs.declared.deed.Deed.{Deed}
 use Rattle.state_laws.specs.declared.deed.HeldCells.{HeldCells}
 use Rattle.state_laws.specs.Seen.{StoreSeen}

@@ -14,8 +14,8 @@ use Rattle.history.specs.Store.{IsChanged, IsChunkKept, shape_when_touched}
 use Rattle.history.specs.Stored.{HasBytes, AreChangesOf}
 use Rattle.history.specs.Touch.{touches}
 use Rattle.history.proofs.Laws.{known_after-more, some_inj, opened_le, length-more, generation_touched}
-use Rattle.run_records.specs.declared.commit.Commit.{Commit}
-use Rattle.run_records.specs.Recorded.{done_event}
+use Rattle.state_laws.specs.declared.commit.Commit.{Commit}
+use Rattle.state_laws.specs.Recorded.{done_event}
 use Rattle.state_laws.specs.Changing.{IsOneOf, AreTouched}
 use Rattle.state_laws.specs.Log.{Log}
 use Rattle.state_commits.specs.declared.plan.Left.{Left}

@@ -13,8 +13,8 @@ use Rattle.history.specs.Legal.{IsLegalDone}
 use Rattle.history.specs.Store.{IsChunkKept, shape_when_touched}
 use Rattle.history.specs.Stored.{with_event}
 use Rattle.history.specs.Touch.{touches}
-use Rattle.run_records.specs.declared.commit.Commit.{Commit}
-use Rattle.run_records.specs.Recorded.{with_numbers, without_all, done_event}
+use Rattle.state_laws.specs.declared.commit.Commit.{Commit}
+use Rattle.state_laws.specs.Recorded.{with_numbers, without_all, done_event}
 use Rattle.state_laws.specs.declared.deed.HeldCells.{HeldCells}
 use Rattle.state_laws.specs.Agreement.{Opening, Agrees}
 use Rattle.state_laws.specs.Changing.{with_cells}

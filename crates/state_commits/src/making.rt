@@ -1,7 +1,7 @@
 // Making a commit by its plans.
 ghost use Rattle.std.specs.Prelude.{◌≡◌, ◌<◌, ◌+◌, ℕ, List, length, Some, Ok, Err, IfOk, OnOk, OnErr};
 ghost use Rattle.kv_face.specs.Store.{Contents, after};
-ghost use Rattle.run_records.specs.Recorded.{done_event};
+ghost use Rattle.state_laws.specs.Recorded.{done_event};
 ghost use Rattle.state_laws.specs.Seen.{IsFrame, IsQuiet};
 ghost use Rattle.state_laws.specs.Agreement.{IsState};
 ghost use Rattle.state_laws.specs.Changing.{AreMade, KeepsByDeed, committed};
@@ -13,8 +13,8 @@ use crate::parts::{Parts, parted};
 use crate::plan::Planned;
 use cells::Name;
 use kv_face::KvStore;
-use run_records::Commit;
 use shared_state::{ChangeError, Deed, State};
+use state_laws::Commit;
 use std::alloc::Global;
 
 /// Makes a commit, or one key of it, by what it leaves of each chunk that it touches: in one call of the store, or in none where no

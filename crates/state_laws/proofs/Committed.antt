@@ -31,7 +31,7 @@ use Rattle.history.proofs.Laws.{some_inj, opened_le, snapshot_longer, generation
 use Rattle.std.specs.FinMap.{get-insert}
 use Rattle.std.specs.Cmp.Lexicographic.{nat_list_cmp_total}
 use Rattle.std.proofs.lemmas.Map.Text.{is_eq-slice_cmp}
-use Rattle.run_records.specs.Recorded.{with_numbers, without_all, done_event}
+use Rattle.state_laws.specs.Recorded.{with_numbers, without_all, done_event}
 use Rattle.state_laws.specs.declared.deed.Deed.{Deed}
 use Rattle.state_laws.specs.declared.deed.HeldCells.{HeldCells}
 use Rattle.state_laws.specs.Seen.{StoreSeen, IsFrame, IsQuiet}

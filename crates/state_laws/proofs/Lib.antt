@@ -1,3 +1,7 @@
+pub mod Indexing
+pub mod LookUps
+pub mod Held
+pub mod Reshaping
 pub mod Outline
 pub mod Later
 pub mod Got

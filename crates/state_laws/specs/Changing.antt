@@ -17,7 +17,7 @@ use Rattle.history.specs.Own.{resized_event}
 use Rattle.chunk_forms.specs.Metadata.{with_shape}
 use Rattle.history.specs.Stored.{AreChangesOf}
 use Rattle.history.specs.Touch.{touches}
-use Rattle.run_records.specs.Recorded.{with_numbers, without_all, done_event}
+use Rattle.state_laws.specs.Recorded.{with_numbers, without_all, done_event}
 use Rattle.state_laws.specs.declared.deed.Deed.{Deed}
 use Rattle.state_laws.specs.declared.deed.HeldCells.{HeldCells}
 use Rattle.state_laws.specs.declared.deed.NewShape.{NewShape}

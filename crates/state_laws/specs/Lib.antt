@@ -1,3 +1,6 @@
+pub mod Indexed
+pub mod Numbers
+pub mod Recorded
 pub mod Seen
 pub mod Log
 pub mod Outline

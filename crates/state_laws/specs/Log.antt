@@ -6,7 +6,7 @@ use Rattle.chunk_cache.specs.Cache.{CacheList}
 use Rattle.chunk_cache.specs.Snapshot.{SnapshotCells}
 use Rattle.history.specs.History.{History}
 use Rattle.history.specs.Generations.{Generations}
-use Rattle.run_records.specs.Recorded.{RecordsOf}
+use Rattle.state_laws.specs.Recorded.{RecordsOf}
 
 -- the events; a table of generations; the chunks that were used last; and by the arrays' numbers the cells of each that the run holds
 pub record Log : Type 0 where

@@ -5,15 +5,14 @@ ghost use Rattle.chunk_forms.specs.Metadata.{with_shape};
 ghost use Rattle.history.specs.Arrays.{form_of, known_after, Known, is_local};
 ghost use Rattle.history.specs.Legal.{is_opening};
 ghost use Rattle.history.specs.Own.{opened_event, resized_event};
-ghost use Rattle.run_records.specs.Numbers.{IsPrepared, KeepsPrepared};
-ghost use Rattle.run_records.specs.Recorded.{with_numbers, without_all, done_event};
+ghost use Rattle.state_laws.specs.Numbers.{IsPrepared, KeepsPrepared};
+ghost use Rattle.state_laws.specs.Recorded.{with_numbers, without_all, done_event};
 ghost use Rattle.state_laws.specs.declared.deed.HeldCells.{HeldCells as HeldCellsOf};
 ghost use Rattle.state_laws.specs.Changing.{with_cells};
 
 use cells::Name;
 use chunk_cache::Snapshot;
-use run_records::Records;
-use state_laws::{Deed, HeldCells, NewArray, NewShape, Opened};
+use state_laws::{Deed, HeldCells, NewArray, NewShape, Opened, Records};
 use std::alloc::{AllocError, Global};
 
 /// Adds the opening of a new array where there is room.

@@ -21,8 +21,7 @@ use crate::entering::add_new;
 use cells::Name;
 use kv_face::{Change, KvError, KvStore};
 use locations::Locations;
-use run_records::Records;
-use state_laws::{NewArray, OpenError, Opened};
+use state_laws::{NewArray, OpenError, Opened, Records};
 use std::alloc::{AllocError, Global};
 
 /// Makes room for an event and puts a new array's place into the table of locations.

@@ -17,7 +17,7 @@ use Rattle.history.specs.ResizeRows.{MayResize, HasNoDamagedPart}
 use Rattle.history.specs.Resizes.{cut_chunks}
 use Rattle.history.specs.Stored.{AreChangesOf}
 use Rattle.history.proofs.Laws.{some_inj}
-use Rattle.run_records.specs.Recorded.{with_numbers}
+use Rattle.state_laws.specs.Recorded.{with_numbers}
 use Rattle.chunk_plans.specs.Writes.{IsSameButCache}
 use Rattle.chunk_plans.proofs.Laws.{valid_ranks}
 use Rattle.state_laws.specs.Agreement.{Opening, Agrees, IsState, KeepsAgreement}

@@ -9,7 +9,7 @@ use Rattle.history.specs.Own.{fault, resized_event}
 use Rattle.history.specs.ReadRows.{IsOnMount}
 use Rattle.history.specs.Refusals.{HasTooManyCut, IsNotAtomicResize, IsDamagedResize, resized_keys}
 use Rattle.history.specs.ResizeRows.{MayResize, HasNoDamagedPart}
-use Rattle.run_records.specs.Recorded.{with_numbers}
+use Rattle.state_laws.specs.Recorded.{with_numbers}
 use Rattle.state_laws.specs.Agreement.{Opening, Agrees, KeepsAgreement}
 use Rattle.state_laws.specs.Log.{Log}
 use Rattle.state_laws.specs.Seen.{StoreSeen, IsFrame, IsQuiet}

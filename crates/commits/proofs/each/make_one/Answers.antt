@@ -1,6 +1,6 @@
 use Rattle.std.proofs.Common.{List, sym, subst}
-use Rattle.run_records.specs.declared.commit.Commit.{Commit}
-use Rattle.run_records.specs.Recorded.{done_event}
+use Rattle.state_laws.specs.declared.commit.Commit.{Commit}
+use Rattle.state_laws.specs.Recorded.{done_event}
 use Rattle.state_laws.specs.Changing.{AreMade}
 use Rattle.state_commits.specs.declared.plan.Planned.{Planned}
 use Rattle.state_commits.specs.Plans.{ArePlans, AreRightBy, changes_of}

@@ -3,7 +3,7 @@ use Rattle.std.specs.Prelude.{IsSome}
 use Rattle.std.specs.List.{AllByRecursion}
 use Rattle.kv_face.specs.declared.change.Change.{Change}
 use Rattle.history.specs.Arrays.{known_after}
-use Rattle.run_records.specs.Recorded.{done_event}
+use Rattle.state_laws.specs.Recorded.{done_event}
 use Rattle.state_laws.specs.declared.deed.HeldCells.{HeldCells}
 use Rattle.state_laws.specs.Changing.{IsDeed, KeepsByDeed}
 use Rattle.state_laws.specs.Log.{Log, StateOf}

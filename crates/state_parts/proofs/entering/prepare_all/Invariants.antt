@@ -1,6 +1,6 @@
 use Rattle.std.proofs.Common.{◌≡◌, take}
 use Rattle.std.specs.List.{AllByRecursion}
-use Rattle.run_records.specs.Numbers.{IsPrepared, KeepsPrepared}
+use Rattle.state_laws.specs.Numbers.{IsPrepared, KeepsPrepared}
 use Rattle.state_parts.proofs.entering.prepare_all.Given as goal
 
 -- the keys so far are prepared

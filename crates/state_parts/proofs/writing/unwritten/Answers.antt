@@ -3,7 +3,7 @@ use Rattle.std.specs.FinMap as finmap
 use Rattle.history.specs.Own.{fault}
 use Rattle.history.specs.Places.{IsTable}
 use Rattle.history.proofs.Laws.{table_same}
-use Rattle.run_records.specs.Recorded.{RecordsOf}
+use Rattle.state_laws.specs.Recorded.{RecordsOf}
 use Rattle.state_parts.proofs.Tables.{table_back}
 use Rattle.state_parts.proofs.writing.unwritten.Goals as goal
 

@@ -2,7 +2,7 @@ use Rattle.std.proofs.Common.{◌++◌, ◌∷◌, [], refl, sym, ap, subst}
 use Rattle.history.specs.Own.{opened_event}
 use Rattle.history.specs.Places.{IsTable}
 use Rattle.history.proofs.Laws.{table_opened}
-use Rattle.run_records.specs.Recorded.{RecordsOf}
+use Rattle.state_laws.specs.Recorded.{RecordsOf}
 use Rattle.state_parts.proofs.writing.write_array.Goals as goal
 
 pub returns-in-Ok-clause-table : goal.returns-in-Ok-clause-table

@@ -2,7 +2,7 @@ use Rattle.std.proofs.Common.{◌++◌, ◌∷◌, [], refl, sym, ap, subst, ◌
 use Rattle.history.specs.Own.{opened_event}
 use Rattle.history.specs.Places.{IsTable}
 use Rattle.history.proofs.Laws.{table_opened}
-use Rattle.run_records.specs.Recorded.{RecordsOf}
+use Rattle.state_laws.specs.Recorded.{RecordsOf}
 use Rattle.shared_state.proofs.state.State.enter_new.Goals as goal
 
 pub invariant_of-self-2 : goal.invariant_of-self-2

@@ -1,6 +1,6 @@
 use Rattle.std.proofs.Common.{sym, ap, subst}
 use Rattle.history.specs.Places.{IsTable}
-use Rattle.run_records.specs.Recorded.{RecordsOf}
+use Rattle.state_laws.specs.Recorded.{RecordsOf}
 use Rattle.shared_state.proofs.state.State.write_new.Goals as goal
 
 pub write_array-requires-clause-table : goal.write_array-requires-clause-table

@@ -1,4 +1,0 @@
-pub mod Indexing
-pub mod LookUps
-pub mod Held
-pub mod Reshaping

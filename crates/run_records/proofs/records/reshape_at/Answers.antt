@@ -1,8 +1,0 @@
-use Rattle.run_records.proofs.Reshaping.{locals_at, arrays_at}
-use Rattle.run_records.proofs.records.reshape_at.Goals as goal
-
-pub returns-clause-locals : goal.returns-clause-locals
-returns-clause-locals c = locals_at c.args.entries.now c.args.place _ c.args.form c.args.number c.requires
-
-pub returns-clause-arrays : goal.returns-clause-arrays
-returns-clause-arrays c = arrays_at c.args.entries.now c.args.place _ c.args.form c.args.number c.requires

@@ -1,3 +1,0 @@
-pub mod Indexed
-pub mod Numbers
-pub mod Recorded
