@@ -17,3 +17,11 @@ pub use Rattle.chunk_plans.proofs.Forms.{dtype_told, kept_as, valid_chunks, vali
 pub use Rattle.chunk_plans.proofs.LeftLaws.{IsLaidBy, laid_of, may_write, is_left}
 -- a chunk that was fetched changes the cache alone
 pub use Rattle.chunk_plans.proofs.Same.{same_log, same_by, fetched_same}
+-- of two bytes, or two keys, one stands before the other, or they are the same
+pub use Rattle.chunk_plans.proofs.KeyOrder.{same_byte, same_text}
+-- prepared bytes that a later commit may use are what it leaves of the chunk
+pub use Rattle.chunk_plans.proofs.ReadyLaws.{ready_right}
+-- what was told of a chunk is what preparing its bytes asks
+pub use Rattle.chunk_plans.proofs.UnderLaws.{may_ready}
+-- what stands in the order of distinct keys rises
+pub use Rattle.chunk_plans.proofs.SortLaws.{rising_sorted}

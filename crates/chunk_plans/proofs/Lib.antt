@@ -1,9 +1,14 @@
+pub mod KeyOrder
 pub mod Reached
 pub mod LeftLaws
 pub mod Kept
 pub mod Forms
 pub mod Same
-pub mod Laws
 pub mod Plans
 pub mod Holding
 pub mod Usable
+pub mod ReadyLaws
+pub mod UnderLaws
+pub mod AskLaws
+pub mod SortLaws
+pub mod Laws

@@ -1,14 +1,25 @@
-//! What a commit leaves of each chunk that it writes, worked out of what was staged for it.
+//! What a commit leaves of each chunk that it writes: prepared before its turn, or worked out in it.
 //!
-//! Crates above rest on `IsPlanOf`: what is left of a chunk are its words with the staged ones over them, whether they were prepared
-//! before or are laid now.
+//! Crates above rest on `IsPlanOf`, what is left of a chunk are its words with the staged ones over them, whether they were prepared
+//! before or are laid now; on `IsAsked`, what a turn told of a chunk; and on `ready_right`: prepared bytes that a later commit may use are
+//! what it leaves of the chunk.
 #![tactic(auto)]
 
+mod asked;
+mod asking;
 mod held;
 mod leaving;
+mod mark;
 mod planning;
+mod readying;
+mod sorting;
 mod write;
 
+pub use asked::{Asked, Part, Under};
+pub use asking::ask_all;
 pub use leaving::left_over;
+pub use mark::Mark;
 pub use planning::plan_write;
+pub use readying::write_of;
+pub use sorting::{sort_marks, sort_writes};
 pub use write::{ChunkWrite, Ready};

@@ -13,7 +13,8 @@ use Rattle.history.proofs.Laws.{chunk_array, same_chunks, some_inj}
 use Rattle.state_laws.specs.Changing.{IsOneOf}
 use Rattle.chunk_plans.specs.declared.write.ChunkWrite.{ChunkWrite}
 use Rattle.chunk_plans.specs.Writes.{chunk_of_write}
-use Rattle.commits.specs.Prepared.{AreRising, AreWrites, HasWrite, IsPutAmong, IsStagedWrite, write_keys}
+use Rattle.commits.specs.Prepared.{AreWrites, HasWrite, IsPutAmong, IsStagedWrite, write_keys}
+use Rattle.chunk_plans.specs.Rising.{AreRising}
 use Rattle.commits.specs.Writes.{stored_write_keys}
 use Rattle.commits.proofs.KeyOrder.{in_order_is}
 

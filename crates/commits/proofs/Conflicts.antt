@@ -13,9 +13,10 @@ use Rattle.history.specs.Touch.{generation_of}
 use Rattle.history.proofs.Laws.{generation_by_table, never_itself, no_conflict_of_none, one_key, other_way}
 use Rattle.state_laws.specs.Log.{Log}
 use Rattle.commits.specs.declared.late.Late.{Late}
-use Rattle.commits.specs.declared.prepared.Mark.{Mark}
+use Rattle.chunk_plans.specs.declared.mark.Mark.{Mark}
 use Rattle.commits.specs.Late.{IsFirstLate, IsGenerationIn, IsLate, IsStill}
-use Rattle.commits.specs.Prepared.{AreMarks, AreRising, HasMark, IsMarkOf}
+use Rattle.commits.specs.Prepared.{AreMarks, HasMark, IsMarkOf}
+use Rattle.chunk_plans.specs.Rising.{AreRising}
 
 some_key : (o : Option Key) (k l : Key) → o ≡ Some k → o ≡ Some l → k ≡ l
 some_key o k l a b = let both : Some k ≡ Some l = sym a ∙ b in cc

@@ -35,7 +35,8 @@ use Rattle.chunk_plans.specs.declared.write.ChunkWrite.{ChunkWrite}
 use Rattle.chunk_plans.specs.Under.{IsUnder}
 use Rattle.chunk_plans.specs.Writes.{IsPlanOf, IsReadyWrite, chunk_of_write}
 use Rattle.commits.specs.Planning.{ArePlannedBy, IsDamagedWrite, IsFirstDamaged, IsPlannedBy}
-use Rattle.commits.specs.Prepared.{AreRising, AreWrites, HasWrite, IsPutAmong, IsStagedFor, IsStagedWrite, write_keys}
+use Rattle.commits.specs.Prepared.{AreWrites, HasWrite, IsPutAmong, IsStagedFor, IsStagedWrite, write_keys}
+use Rattle.chunk_plans.specs.Rising.{AreRising}
 use Rattle.commits.proofs.OutsideLaws.{put_some, some_put, staged_of_cell}
 
 -- a chunk that is written is among those of the puts

@@ -1,33 +1,20 @@
 -- Keys in byte order: a list of them in order is known by its members, and keys of two arrays stand as their arrays do.
-use Rattle.std.proofs.Common.{◌≡◌, ℕ, List, [], ◌∷◌, ◌++◌, Bool, true, false, cond, ◌⊎◌, inl, inr, refl, sym, ap, subst, ◌∙◌, eq-eqb, get_or}
+use Rattle.std.proofs.Common.{◌≡◌, ℕ, List, [], ◌∷◌, ◌++◌, Bool, true, false, cond, ◌⊎◌, inl, inr, refl, sym, ap, subst, ◌∙◌, eq-eqb}
 use Rattle.std.specs.Prelude.{◌&&◌, ◌==◌}
 use Rattle.std.specs.List.{AllByRecursion, IsDistinct}
 use Rattle.std.specs.Str.{bytes_eq}
 use Rattle.std.specs.declared.cmp.Ordering.{Ordering}
 use Rattle.std.specs.declared.cmp.Ordering.TheVariants.{Less, Equal, Greater}
-use Rattle.std.specs.Ordering.{is_lt, nat_cmp, ordering_reverse, ordering_then}
-use Rattle.std.specs.Cmp.Lexicographic.{nat_list_cmp_total, slice_cmp}
+use Rattle.std.specs.Ordering.{is_lt, nat_cmp, ordering_then}
+use Rattle.std.specs.Cmp.Lexicographic.{slice_cmp}
 use Rattle.std.proofs.lemmas.Slice.Eq.{bytes_eq-Decides}
 use Rattle.history.specs.Commit.{Key, is_before, with_key, in_order}
 use Rattle.history.specs.Legal.{AreApart, begins}
 use Rattle.history.proofs.Laws.{never_itself, other_way, not_under}
-use Rattle.locations.proofs.Laws.{equal_texts}
 use Rattle.cells.proofs.Laws.{true_or_false}
 use Rattle.state_laws.specs.Changing.{IsOneOf}
-use Rattle.commits.specs.Prepared.{AreRising}
-
--- of two bytes that compare as equal one is the other
-same_byte : (u v : ℕ) → nat_cmp u v ≡ Equal → u ≡ v
-same_byte u v e = ap (λ xs. get_or xs 0 u) (equal_texts (u ∷ []) (v ∷ []) (ap (λ o. ordering_then o Equal) e))
-
--- of two keys one stands before the other, or they are the same
-pub same_text : (k l : Key) → is_before k l ≡ false → is_before l k ≡ false → k ≡ l
-same_text k l a b = told (slice_cmp nat_cmp k l) refl
-  where
-    told : (o : Ordering) → slice_cmp nat_cmp k l ≡ o → k ≡ l
-    told Less e = let clash : false ≡ true = sym a ∙ ap is_lt e in absurd (cc)
-    told Equal e = equal_texts k l e
-    told Greater e = let clash : false ≡ true = sym b ∙ ap is_lt (nat_list_cmp_total.antisymm l k ∙ ap ordering_reverse e) in absurd (cc)
+use Rattle.chunk_plans.specs.Rising.{AreRising}
+use Rattle.chunk_plans.proofs.Laws.{same_byte, same_text}
 
 -- keys behind two texts of which neither begins with the other stand as the texts do
 pub apart_order : (us vs xs ys rs ss : List ℕ) → AreApart us vs → is_before (us ++ xs) (vs ++ ys) ≡ is_before (us ++ rs) (vs ++ ss)

@@ -2,7 +2,7 @@
 use Rattle.std.proofs.Common.{◌≡◌, ℕ, ◌<◌, List, ◌∷◌, Option, Some, None, inl, inr, refl, sym, subst}
 use Rattle.state_laws.specs.Log.{Log}
 use Rattle.commits.specs.declared.late.Late.{Late}
-use Rattle.commits.specs.declared.prepared.Mark.{Mark}
+use Rattle.chunk_plans.specs.declared.mark.Mark.{Mark}
 use Rattle.commits.specs.Late.{IsFirstLate, IsGenerationIn, IsStill}
 
 -- it is found behind a mark that is still

@@ -24,7 +24,8 @@ use Rattle.chunk_plans.specs.declared.write.ChunkWrite.{ChunkWrite}
 use Rattle.chunk_plans.specs.Writes.{chunk_of_write}
 use Rattle.commits.specs.declared.outside.Outside.{Outside}
 use Rattle.commits.specs.Outside.{IsFirstOutside, IsOutside, IsWithin}
-use Rattle.commits.specs.Prepared.{AreRising, AreWrites, HasWrite, IsPutAmong, IsStagedFor, IsStagedWrite, write_keys}
+use Rattle.commits.specs.Prepared.{AreWrites, HasWrite, IsPutAmong, IsStagedFor, IsStagedWrite, write_keys}
+use Rattle.chunk_plans.specs.Rising.{AreRising}
 use Rattle.commits.proofs.KeyOrder.{apart_order}
 use Rattle.commits.proofs.OutsideLaws.{HasOutside, put_within, within_or_outside}
 

@@ -5,7 +5,7 @@ use Rattle.history.specs.Generations.{HasKey}
 use Rattle.state_laws.specs.Fetches.{generation_in}
 use Rattle.state_laws.specs.Log.{Log}
 use Rattle.commits.specs.declared.late.Late.{Late}
-use Rattle.commits.specs.declared.prepared.Mark.{Mark}
+use Rattle.chunk_plans.specs.declared.mark.Mark.{Mark}
 
 -- this is the generation of the chunk that has the key, by the table
 abbrev pub IsGenerationIn : Log → List ℕ → ℕ → Type 0

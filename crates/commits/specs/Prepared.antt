@@ -9,20 +9,16 @@ use Rattle.history.specs.declared.event.Op.{Op}
 use Rattle.history.specs.History.{History}
 use Rattle.history.specs.Arrays.{Known, known_after, chunk_shape, is_local}
 use Rattle.history.specs.Chunks.{Chunk, IsIndexOf, cell_at, chunk_key, chunk_of}
-use Rattle.history.specs.Commit.{Key, Transaction, is_before, kept_ops, read_generation}
+use Rattle.history.specs.Commit.{Key, Transaction, kept_ops, read_generation}
 use Rattle.history.specs.Generations.{HasKey}
 use Rattle.history.specs.Reads.{footprint_of}
 use Rattle.history.specs.Touch.{writes_chunk}
 use Rattle.history.specs.Writes.{Put, puts_of, written}
 use Rattle.chunk_plans.specs.declared.write.ChunkWrite.{ChunkWrite}
+use Rattle.chunk_plans.specs.Rising.{AreRising}
 use Rattle.chunk_plans.specs.Writes.{chunk_of_write}
-use Rattle.commits.specs.declared.prepared.Mark.{Mark}
+use Rattle.chunk_plans.specs.declared.mark.Mark.{Mark}
 use Rattle.commits.specs.declared.prepared.Prepared.{Prepared}
-
--- each key stands before all behind it, in byte order
-abbrev pub AreRising : List Key → Type 0
-AreRising [] = Unit {0}
-AreRising (key ∷ keys) = AllByRecursion (λ other. is_before key other ≡ true) keys × AreRising keys
 
 -- the word that operations put at a cell last, if they put one
 abbrev pub word_put : List Op → Cell → Option ℕ

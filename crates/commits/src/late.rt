@@ -3,8 +3,8 @@ ghost use Rattle.std.specs.Prelude.{◌≡◌, ◌<◌, Some, IfOk};
 ghost use Rattle.state_laws.specs.Agreement.{IsState};
 ghost use Rattle.commits.specs.Late.{IsFirstLate};
 
-use crate::prepared::Mark;
 use cells::Name;
+use chunk_plans::Mark;
 use kv_face::KvStore;
 use shared_state::State;
 use state_parts::copy_name;

@@ -16,5 +16,5 @@ mod way;
 mod writes;
 
 pub use commit::commit_now;
-pub use prepared::{Mark, Prepared};
+pub use prepared::Prepared;
 pub use refused::CommitRefused;

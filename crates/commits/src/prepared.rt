@@ -1,14 +1,5 @@
-use cells::Name;
-use chunk_plans::ChunkWrite;
+use chunk_plans::{ChunkWrite, Mark};
 use history::{Mode, Ops};
-
-/// The generation at which a transaction read a chunk.
-#[derive(Debug, Drop)]
-pub struct Mark {
-    /// The chunk's key.
-    pub key: Name,
-    pub generation: u64,
-}
 
 /// A transaction as it is to be committed. Of its operations, reads are there under repeatable read alone.
 #[derive(Drop)]

@@ -11,7 +11,7 @@ use Rattle.chunk_plans.specs.Writes.{IsReadyWrite}
 use Rattle.chunk_plans.specs.declared.write.ChunkWrite.{ChunkWrite}
 use Rattle.commits.specs.Answers.{IsCommitted}
 use Rattle.commits.specs.Prepared.{AreWrites, IsPreparedFor}
-use Rattle.commits.specs.declared.prepared.Mark.{Mark}
+use Rattle.chunk_plans.specs.declared.mark.Mark.{Mark}
 use Rattle.commits.specs.declared.prepared.Prepared.{Prepared}
 use Rattle.history.specs.Arrays.{Known, known_after}
 use Rattle.history.specs.Commit.{kept_ops}
@@ -19,12 +19,12 @@ use Rattle.history.specs.History.{History}
 use Rattle.history.specs.Legal.{IsLegal}
 use Rattle.history.specs.declared.event.Event.{Event}
 use Rattle.kv_face.specs.Store.{Contents}
-use Rattle.prepared_writes.specs.Asking.{IsAsked, IsPart, part_in}
-use Rattle.prepared_writes.specs.Readying.{IsWriteFor}
-use Rattle.prepared_writes.specs.Sorting.{key_of_mark, key_of_write}
-use Rattle.prepared_writes.specs.declared.asked.Asked.{Asked}
-use Rattle.prepared_writes.specs.declared.asked.Part.{Part}
-use Rattle.prepared_writes.proofs.Laws.{may_ready, ready_right}
+use Rattle.chunk_plans.specs.Asking.{IsAsked, IsPart, part_in}
+use Rattle.chunk_plans.specs.Readying.{IsWriteFor}
+use Rattle.chunk_plans.specs.Sorting.{key_of_mark, key_of_write}
+use Rattle.chunk_plans.specs.declared.asked.Asked.{Asked}
+use Rattle.chunk_plans.specs.declared.asked.Part.{Part}
+use Rattle.chunk_plans.proofs.Laws.{may_ready, ready_right}
 use Rattle.state_laws.specs.Agreement.{Opening, Agrees}
 use Rattle.state_laws.specs.Log.{Log}
 use Rattle.state_laws.specs.Outline.{outline}

@@ -13,7 +13,7 @@ use Rattle.std.proofs.lemmas.List.Sorted.{All-permutation, Contains-permutation,
 use Rattle.std.proofs.lemmas.Map.Keys.{IsDistinct-IsPermutation, IsDistinct-head, IsDistinct-tail}
 use Rattle.std.proofs.lemmas.Slice.Eq.{bytes_eq-Decides}
 use Rattle.commits.specs.Prepared.{AreMarks, HasMark, IsMarkOf}
-use Rattle.commits.specs.declared.prepared.Mark.{Mark}
+use Rattle.chunk_plans.specs.declared.mark.Mark.{Mark}
 use Rattle.history.specs.Arrays.{Known, known_after}
 use Rattle.history.specs.Chunks.{Chunk, IsIndexOf, chunk_key, is_chunk, key_in}
 use Rattle.history.specs.Generations.{HasKey}
@@ -24,8 +24,8 @@ use Rattle.history.specs.Touch.{generation_of}
 use Rattle.history.specs.declared.array.ArrayInfo.{ArrayInfo}
 use Rattle.history.proofs.Laws.{as_opened, key_is, known-longer, one_key, opened_itself, same_chunks}
 use Rattle.kv_face.specs.Store.{Contents}
-use Rattle.prepared_writes.specs.Sorting.{key_of_mark}
-use Rattle.prepared_writes.proofs.Laws.{rising_sorted}
+use Rattle.chunk_plans.specs.Sorting.{key_of_mark}
+use Rattle.chunk_plans.proofs.Laws.{rising_sorted}
 use Rattle.state_laws.specs.Agreement.{Opening}
 use Rattle.state_laws.specs.Outline.{outline, outlined_event}
 use Rattle.state_laws.proofs.Laws.{known-outline}

@@ -29,12 +29,12 @@ use Rattle.history.specs.declared.array.ArrayInfo.{ArrayInfo}
 use Rattle.history.specs.declared.event.Op.{Op}
 use Rattle.history.specs.declared.event.Op.TheVariants.{Write, Read}
 use Rattle.history.proofs.Laws.{IsLegal-front, LiesOf, known_good, WasInside, as_opened, good_rank, known-longer, local_shape, one_chunk, opened_itself, some_inj, targets_lie}
-use Rattle.prepared_writes.specs.Asking.{IsAsked, IsPart, chunk_of_part, part_in}
-use Rattle.prepared_writes.specs.Readying.{IsWriteFor}
-use Rattle.prepared_writes.specs.Sorting.{key_of_write}
-use Rattle.prepared_writes.specs.declared.asked.Asked.{Asked}
-use Rattle.prepared_writes.specs.declared.asked.Part.{Part}
-use Rattle.prepared_writes.proofs.Laws.{rising_sorted}
+use Rattle.chunk_plans.specs.Asking.{IsAsked, IsPart, chunk_of_part, part_in}
+use Rattle.chunk_plans.specs.Readying.{IsWriteFor}
+use Rattle.chunk_plans.specs.Sorting.{key_of_write}
+use Rattle.chunk_plans.specs.declared.asked.Asked.{Asked}
+use Rattle.chunk_plans.specs.declared.asked.Part.{Part}
+use Rattle.chunk_plans.proofs.Laws.{rising_sorted}
 use Rattle.rebase_writes.specs.Staged.{AreWords, staged_at}
 use Rattle.stack_driver.specs.Targets.{Cell, Target}
 use Rattle.stack_driver.specs.Views.{targets_of}

@@ -1,5 +1,5 @@
 -- The generations of the chunks that a transaction keeps.
-use Rattle.commits.specs.declared.prepared.Mark.{Mark}
+use Rattle.chunk_plans.specs.declared.mark.Mark.{Mark}
 use Rattle.transactions.specs.declared.kept.Kept.{Kept}
 
 -- a chunk that is kept as one of the footprint

@@ -4,11 +4,11 @@ use Rattle.chunk_plans.specs.declared.write.ChunkWrite.{ChunkWrite}
 use Rattle.history.specs.Chunks.{Chunk}
 use Rattle.history.specs.declared.event.Mode.{Mode}
 use Rattle.history.specs.declared.event.Op.{Op}
-use Rattle.prepared_writes.specs.Asking.{chunk_of_part}
-use Rattle.prepared_writes.specs.Laying.{MayReady}
-use Rattle.prepared_writes.specs.Readying.{IsWriteFor}
-use Rattle.prepared_writes.specs.declared.asked.Asked.{Asked}
-use Rattle.prepared_writes.specs.declared.asked.Part.{Part}
+use Rattle.chunk_plans.specs.Asking.{chunk_of_part}
+use Rattle.chunk_plans.specs.Laying.{MayReady}
+use Rattle.chunk_plans.specs.Readying.{IsWriteFor}
+use Rattle.chunk_plans.specs.declared.asked.Asked.{Asked}
+use Rattle.chunk_plans.specs.declared.asked.Part.{Part}
 use Rattle.transaction_cells.specs.Staging.{StagedChunk}
 use Rattle.transactions.specs.Txn.{TxnSeen, chunk_at}
 use Rattle.transactions.specs.declared.kept.Kept.{Kept}

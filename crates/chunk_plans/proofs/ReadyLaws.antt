@@ -23,11 +23,11 @@ use Rattle.chunk_plans.specs.Under.{IsLeftNow}
 use Rattle.chunk_plans.specs.Writes.{IsReadyBy, IsReadyWrite, chunk_of_write, is_base, is_usable}
 use Rattle.chunk_plans.specs.declared.write.ChunkWrite.{ChunkWrite}
 use Rattle.chunk_plans.specs.declared.write.Ready.{Ready}
-use Rattle.prepared_writes.specs.Asking.{IsAsked, IsUnderAt, chunk_of_part}
-use Rattle.prepared_writes.specs.Readying.{IsReadyOf, IsWriteFor, cells_under, generation_under, is_told}
-use Rattle.prepared_writes.specs.declared.asked.Asked.{Asked}
-use Rattle.prepared_writes.specs.declared.asked.Under.{Under}
-use Rattle.prepared_writes.specs.declared.asked.Under.TheVariants.{Covered, Kept, Unknown}
+use Rattle.chunk_plans.specs.Asking.{IsAsked, IsUnderAt, chunk_of_part}
+use Rattle.chunk_plans.specs.Readying.{IsReadyOf, IsWriteFor, cells_under, generation_under, is_told}
+use Rattle.chunk_plans.specs.declared.asked.Asked.{Asked}
+use Rattle.chunk_plans.specs.declared.asked.Under.{Under}
+use Rattle.chunk_plans.specs.declared.asked.Under.TheVariants.{Covered, Kept, Unknown}
 
 module _ (opening : Opening) (start : Contents) (store : StoreSeen) (log : Log) (early more : History) (a : Asked) (agrees : Agrees opening store log)
     (told : opening.store.contents ≡ Some start) (grown : log.events ≡ early ++ more) (asked : IsAsked opening early a) where

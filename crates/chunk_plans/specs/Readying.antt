@@ -4,9 +4,9 @@ use Rattle.cells.specs.Dense.{DenseCells}
 use Rattle.chunk_plans.specs.Left.{IsLeft}
 use Rattle.chunk_plans.specs.declared.write.ChunkWrite.{ChunkWrite}
 use Rattle.chunk_plans.specs.declared.write.Ready.{Ready}
-use Rattle.prepared_writes.specs.declared.asked.Asked.{Asked}
-use Rattle.prepared_writes.specs.declared.asked.Under.{Under}
-use Rattle.prepared_writes.specs.declared.asked.Under.TheVariants.{Covered, Kept, Unknown}
+use Rattle.chunk_plans.specs.declared.asked.Asked.{Asked}
+use Rattle.chunk_plans.specs.declared.asked.Under.{Under}
+use Rattle.chunk_plans.specs.declared.asked.Under.TheVariants.{Covered, Kept, Unknown}
 
 -- the generation of the cells under the words
 abbrev pub generation_under : Under → Option ℕ

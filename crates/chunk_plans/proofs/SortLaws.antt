@@ -10,8 +10,8 @@ use Rattle.std.proofs.lemmas.List.Sorted.{ranks_by, sorted_far}
 use Rattle.std.proofs.lemmas.Slice.Eq.{bytes_eq-Decides}
 use Rattle.cells.proofs.Laws.{true_or_false}
 use Rattle.history.specs.Commit.{Key, is_before}
-use Rattle.commits.specs.Prepared.{AreRising}
-use Rattle.commits.proofs.Laws.{same_text}
+use Rattle.chunk_plans.specs.Rising.{AreRising}
+use Rattle.chunk_plans.proofs.KeyOrder.{same_text}
 
 module _ {X : Type 0} (key : X → Key) where
   abbrev stands_before : X → X → Bool

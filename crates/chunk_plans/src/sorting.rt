@@ -2,10 +2,10 @@
 ghost use Rattle.std.specs.Cmp.Lexicographic.{slice_cmp};
 ghost use Rattle.std.specs.List.Sorted.{IsPermutation, IsSortedByKey};
 ghost use Rattle.std.specs.Ordering.{nat_cmp};
-ghost use Rattle.prepared_writes.specs.Sorting.{key_of_mark, key_of_write};
+ghost use Rattle.chunk_plans.specs.Sorting.{key_of_mark, key_of_write};
 
-use chunk_plans::ChunkWrite;
-use commits::Mark;
+use crate::mark::Mark;
+use crate::write::ChunkWrite;
 
 /// Puts writes into the byte order of their keys. It takes no memory.
 pub fn sort_writes(writes: &mut [ChunkWrite<'_>])

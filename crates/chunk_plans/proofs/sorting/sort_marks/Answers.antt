@@ -3,8 +3,8 @@ use Rattle.std.specs.Cmp.Lexicographic.{slice_cmp}
 use Rattle.std.specs.Ordering.{nat_cmp, is_lt}
 use Rattle.std.proofs.lemmas.Cmp.{nat_list_cmp_total}
 use Rattle.std.proofs.lemmas.List.Sorted.{ranks_by, answers_always}
-use Rattle.prepared_writes.specs.Sorting.{key_of_mark}
-use Rattle.prepared_writes.proofs.sorting.sort_marks.Goals as goal
+use Rattle.chunk_plans.specs.Sorting.{key_of_mark}
+use Rattle.chunk_plans.proofs.sorting.sort_marks.Goals as goal
 
 pub returns-clause-sorted : goal.returns-clause-sorted
 returns-clause-sorted c =

@@ -4,8 +4,8 @@ use Rattle.chunk_forms.specs.Metadata.{chunk_shape_of, shape_of}
 use Rattle.history.specs.Chunks.{chunk_key}
 use Rattle.state_laws.specs.Log.{Log}
 use Rattle.state_laws.proofs.Laws.{looked_events}
-use Rattle.prepared_writes.proofs.UnderLaws.{chunk_is, chunk_named, covered_named, reached_from, size_is, some_holds, under_covered, under_kept}
-use Rattle.prepared_writes.proofs.asking.under_of.Goals as goal
+use Rattle.chunk_plans.proofs.UnderLaws.{chunk_is, chunk_named, covered_named, reached_from, size_is, some_holds, under_covered, under_kept}
+use Rattle.chunk_plans.proofs.asking.under_of.Goals as goal
 
 pub is_gone-requires : goal.is_gone-requires
 is_gone-requires g c =

@@ -3,12 +3,13 @@ ghost use Rattle.std.specs.Prelude.{◌≡◌, Option, IfOk, option_map};
 ghost use Rattle.std.specs.Option.{ForSome};
 ghost use Rattle.chunk_forms.specs.Metadata.{chunk_shape_of, dtype_of};
 ghost use Rattle.chunk_plans.specs.Left.{IsLeft};
-ghost use Rattle.prepared_writes.specs.Laying.{MayLay, MayReady};
-ghost use Rattle.prepared_writes.specs.Readying.{IsReadyOf, IsWriteFor, is_told};
+ghost use Rattle.chunk_plans.specs.Laying.{MayLay, MayReady};
+ghost use Rattle.chunk_plans.specs.Readying.{IsReadyOf, IsWriteFor, is_told};
 
 use crate::asked::{Asked, Under};
+use crate::leaving::left_over;
+use crate::write::{ChunkWrite, Ready};
 use cells::Dense;
-use chunk_plans::{ChunkWrite, Ready, left_over};
 use std::alloc::{AllocError, Global};
 
 impl<'a> Asked<'a> {

@@ -6,9 +6,9 @@ use Rattle.history.specs.History.{History}
 use Rattle.state_laws.specs.Agreement.{Opening, Agrees, IsState, KeepsAgreement}
 use Rattle.state_laws.specs.Log.{Log}
 use Rattle.state_laws.specs.Seen.{StoreSeen}
-use Rattle.prepared_writes.specs.Asking.{IsAsked, IsPart, part_in}
-use Rattle.prepared_writes.specs.declared.asked.Asked.{Asked}
-use Rattle.prepared_writes.specs.declared.asked.Part.{Part}
+use Rattle.chunk_plans.specs.Asking.{IsAsked, IsPart, part_in}
+use Rattle.chunk_plans.specs.declared.asked.Asked.{Asked}
+use Rattle.chunk_plans.specs.declared.asked.Part.{Part}
 
 -- this was told of the parts so far, and of the state the cache alone is another
 pub record AreAskedSo (store next : StoreSeen) (log now : Log) (done : List Part) (asked : List Asked) : Type 0 where

@@ -1,6 +1,6 @@
 use Rattle.std.proofs.Common.{◌≡◌, ◌++◌}
-use Rattle.prepared_writes.proofs.AskLaws.{AreAskedSo}
-use Rattle.prepared_writes.proofs.asking.ask_all.Given as goal
+use Rattle.chunk_plans.proofs.AskLaws.{AreAskedSo}
+use Rattle.chunk_plans.proofs.asking.ask_all.Given as goal
 
 -- what was told of the parts so far, and the parts that are left
 abbrev pub invariant-loop-part : goal.invariant-loop-part

@@ -7,7 +7,8 @@ use Rattle.chunk_forms.specs.declared.form.Form.{Form}
 use Rattle.chunk_forms.specs.Metadata as meta
 use Rattle.chunk_forms.specs.Metadata.{chunk_shape_of, dtype_of, shape_of, with_shape}
 use Rattle.chunk_laying.specs.Laid.{IsChunkOf, IsCovered}
-use Rattle.chunk_plans.proofs.Laws.{chunk_told, dtype_told, kept_as, shape_told, valid_chunks, valid_ranks}
+use Rattle.chunk_plans.proofs.Kept.{chunk_told, shape_told}
+use Rattle.chunk_plans.proofs.Forms.{dtype_told, kept_as, valid_chunks, valid_ranks}
 use Rattle.history.specs.Arrays.{Known, chunk_shape, chunk_shape_in, form_of, is_local, known_after}
 use Rattle.history.specs.History.{History}
 use Rattle.history.specs.Resizes.{reaches_into}
@@ -21,12 +22,12 @@ use Rattle.state_laws.specs.Fetches.{IsAnswered}
 use Rattle.state_laws.specs.Log.{Log}
 use Rattle.state_laws.specs.Seen.{StoreSeen}
 use Rattle.state_laws.proofs.Laws.{form_fill, good_in}
-use Rattle.prepared_writes.specs.Asking.{IsAsked, IsPart, IsUnderAt, chunk_of_part}
-use Rattle.prepared_writes.specs.Laying.{MayLay, MayReady}
-use Rattle.prepared_writes.specs.declared.asked.Asked.{Asked}
-use Rattle.prepared_writes.specs.declared.asked.Part.{Part}
-use Rattle.prepared_writes.specs.declared.asked.Under.{Under}
-use Rattle.prepared_writes.specs.declared.asked.Under.TheVariants.{Covered, Kept, Unknown}
+use Rattle.chunk_plans.specs.Asking.{IsAsked, IsPart, IsUnderAt, chunk_of_part}
+use Rattle.chunk_plans.specs.Laying.{MayLay, MayReady}
+use Rattle.chunk_plans.specs.declared.asked.Asked.{Asked}
+use Rattle.chunk_plans.specs.declared.asked.Part.{Part}
+use Rattle.chunk_plans.specs.declared.asked.Under.{Under}
+use Rattle.chunk_plans.specs.declared.asked.Under.TheVariants.{Covered, Kept, Unknown}
 
 ready_at : (opening : Opening) (events : History) (k : Known) (p : Part) (form : Form) (u : Under) → IsUnderAt opening events k p form u → MayReady form p.chunk.now p.staged.now u
 ready_at opening events k p form Covered under = under.0

@@ -9,8 +9,8 @@ use Rattle.chunk_forms.specs.Metadata.{shape_of, chunk_shape_of, dtype_of, fill_
 use Rattle.history.specs.Resizes.{reaches_into}
 use Rattle.rebase_writes.specs.Staged.{AreWords}
 use Rattle.chunk_laying.specs.Laid.{IsChunkOf}
-use Rattle.prepared_writes.specs.declared.asked.Under.{Under}
-use Rattle.prepared_writes.specs.declared.asked.Under.TheVariants.{Covered, Kept, Unknown}
+use Rattle.chunk_plans.specs.declared.asked.Under.{Under}
+use Rattle.chunk_plans.specs.declared.asked.Under.TheVariants.{Covered, Kept, Unknown}
 
 -- a stored chunk with a cell in the array's shape, and a word of its dtype or none for each of its cells
 pub record MayLay (form : Form) (chunk : List ℕ) (staged : List (Option ℕ)) : Type 0 where

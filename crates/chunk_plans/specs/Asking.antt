@@ -12,11 +12,11 @@ use Rattle.rebase_writes.specs.Staged.{AreWords}
 use Rattle.chunk_laying.specs.Laid.{IsCovered}
 use Rattle.state_laws.specs.Agreement.{Opening}
 use Rattle.state_laws.specs.Kept.{IsCurrent}
-use Rattle.prepared_writes.specs.Laying.{MayLay, IsBaseFor}
-use Rattle.prepared_writes.specs.declared.asked.Asked.{Asked}
-use Rattle.prepared_writes.specs.declared.asked.Part.{Part}
-use Rattle.prepared_writes.specs.declared.asked.Under.{Under}
-use Rattle.prepared_writes.specs.declared.asked.Under.TheVariants.{Covered, Kept, Unknown}
+use Rattle.chunk_plans.specs.Laying.{MayLay, IsBaseFor}
+use Rattle.chunk_plans.specs.declared.asked.Asked.{Asked}
+use Rattle.chunk_plans.specs.declared.asked.Part.{Part}
+use Rattle.chunk_plans.specs.declared.asked.Under.{Under}
+use Rattle.chunk_plans.specs.declared.asked.Under.TheVariants.{Covered, Kept, Unknown}
 
 -- the chunk for which words are staged
 abbrev pub chunk_of_part : Part → Chunk

@@ -1,6 +1,6 @@
 use Rattle.std.proofs.Common.{sym, ap}
 use Rattle.state_laws.specs.declared.reading.Bounds.{Bounds}
-use Rattle.prepared_writes.proofs.asking.ask.Goals as goal
+use Rattle.chunk_plans.proofs.asking.ask.Goals as goal
 
 pub returns-clause-asked : goal.returns-clause-asked
 returns-clause-asked g c opening agrees =

@@ -1,7 +1,7 @@
 -- Keys, by which writes and marks stand in order.
 use Rattle.std.specs.Prelude.{ℕ, List}
 use Rattle.chunk_plans.specs.declared.write.ChunkWrite.{ChunkWrite}
-use Rattle.commits.specs.declared.prepared.Mark.{Mark}
+use Rattle.chunk_plans.specs.declared.mark.Mark.{Mark}
 
 -- the key of a chunk that is written
 abbrev pub key_of_write : ChunkWrite → List ℕ

@@ -1,8 +1,8 @@
 use Rattle.std.proofs.Common.{◌∙◌, ◌∷◌, ◌++◌, [], refl, sym, ap, subst, append_assoc}
 use Rattle.std.specs.List.{AllByRecursion}
-use Rattle.prepared_writes.specs.Asking.{IsPart}
-use Rattle.prepared_writes.proofs.AskLaws.{AreAskedSo, asked_more, asked_none, part_at, state_so}
-use Rattle.prepared_writes.proofs.asking.ask_all.Goals as goal
+use Rattle.chunk_plans.specs.Asking.{IsPart}
+use Rattle.chunk_plans.proofs.AskLaws.{AreAskedSo, asked_more, asked_none, part_at, state_so}
+use Rattle.chunk_plans.proofs.asking.ask_all.Goals as goal
 
 pub loop-part-init : goal.loop-part-init
 loop-part-init g d = record {

@@ -4,7 +4,7 @@ ghost use Rattle.std.specs.List.{AllByRecursion};
 ghost use Rattle.chunk_forms.specs.Metadata as meta;
 ghost use Rattle.history.specs.Arrays.{Known, known_after, form_of};
 ghost use Rattle.state_laws.specs.Agreement.{Opening, Agrees, IsState, KeepsAgreement};
-ghost use Rattle.prepared_writes.specs.Asking.{IsAsked, IsPart, IsUnderAt, part_in};
+ghost use Rattle.chunk_plans.specs.Asking.{IsAsked, IsPart, IsUnderAt, part_in};
 
 use crate::asked::{Asked, Part, Under};
 use chunk_forms::Form;

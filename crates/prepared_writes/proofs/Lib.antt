@@ -1,5 +1,0 @@
-pub mod ReadyLaws
-pub mod UnderLaws
-pub mod AskLaws
-pub mod SortLaws
-pub mod Laws

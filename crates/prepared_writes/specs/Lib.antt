@@ -1,4 +1,0 @@
-pub mod Laying
-pub mod Asking
-pub mod Readying
-pub mod Sorting
