@@ -11,8 +11,8 @@ ghost use Rattle.state_laws.specs.Fetches.{IsAnswered, IsDamagedThere, generatio
 ghost use Rattle.state_laws.specs.Kept.{AreCellsOf};
 ghost use Rattle.state_laws.specs.Looks.{IsFailedLook};
 ghost use Rattle.std.specs.Option.{ForSome};
-ghost use Rattle.state_commits.specs.Plans.{IsLeftOf};
-ghost use Rattle.state_commits.specs.declared.plan.Left.TheVariants as left;
+ghost use Rattle.state_laws.specs.Left.{IsLeftOf};
+ghost use Rattle.state_laws.specs.declared.plan.Left.TheVariants as left;
 ghost use Rattle.chunk_plans.specs.Under.{IsLeftNow};
 ghost use Rattle.chunk_plans.specs.Writes.{is_base, IsWrite, IsPlanOf, IsReadyWrite, IsSameButCache, chunk_of_write, may_use};
 
@@ -24,7 +24,7 @@ use chunk_forms::Form;
 use chunk_laying::covers;
 use kv_face::KvStore;
 use shared_state::{FetchError, State};
-use state_commits::{Left, Planned};
+use state_laws::{Left, Planned};
 use std::alloc::{AllocError, Global};
 
 /// What a commit leaves of a chunk: prepared bytes where they may be used as they are, else the staged words over the chunk as it is,

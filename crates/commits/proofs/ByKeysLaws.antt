@@ -13,8 +13,8 @@ use Rattle.history.proofs.Laws.{done_each_legal}
 use Rattle.state_laws.specs.Agreement.{Opening, Agrees}
 use Rattle.state_laws.specs.Log.{Log}
 use Rattle.state_laws.specs.Seen.{StoreSeen}
-use Rattle.state_commits.specs.declared.plan.Planned.{Planned}
-use Rattle.state_commits.specs.Plans.{keys_of}
+use Rattle.state_laws.specs.declared.plan.Planned.{Planned}
+use Rattle.commits.specs.Plans.{keys_of}
 use Rattle.chunk_plans.specs.declared.write.ChunkWrite.{ChunkWrite}
 use Rattle.chunk_plans.specs.Writes.{IsReadyWrite, chunk_of_write}
 use Rattle.commits.specs.Keyed.{AreKeyPlans, AreRightKeys, AreRightPlans, IsKeyPlan, each_event}

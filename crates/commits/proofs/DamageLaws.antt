@@ -27,10 +27,10 @@ use Rattle.chunk_laying.specs.Laid as laid
 use Rattle.state_laws.specs.Agreement.{Opening, Agrees}
 use Rattle.state_laws.specs.Log.{Log}
 use Rattle.state_laws.specs.Seen.{StoreSeen}
-use Rattle.state_commits.specs.declared.plan.Left.{Left}
-use Rattle.state_commits.specs.declared.plan.Left.TheVariants.{Stored, Held}
-use Rattle.state_commits.specs.declared.plan.Planned.{Planned}
-use Rattle.state_commits.specs.Plans.{IsLeftOf}
+use Rattle.state_laws.specs.declared.plan.Left.{Left}
+use Rattle.state_laws.specs.declared.plan.Left.TheVariants.{Stored, Held}
+use Rattle.state_laws.specs.declared.plan.Planned.{Planned}
+use Rattle.state_laws.specs.Left.{IsLeftOf}
 use Rattle.chunk_plans.specs.declared.write.ChunkWrite.{ChunkWrite}
 use Rattle.chunk_plans.specs.Under.{IsUnder}
 use Rattle.chunk_plans.specs.Writes.{IsPlanOf, IsReadyWrite, chunk_of_write}

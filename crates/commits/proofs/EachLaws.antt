@@ -27,10 +27,11 @@ use Rattle.history.proofs.Laws.{IsLegal-front, generation_untouched, known_after
 use Rattle.state_laws.specs.Log.{Log}
 use Rattle.state_laws.specs.Outline.{outline}
 use Rattle.state_laws.proofs.Laws.{known-outline}
-use Rattle.state_commits.specs.declared.plan.Left.{Left}
-use Rattle.state_commits.specs.declared.plan.Left.TheVariants.{Stored, Held}
-use Rattle.state_commits.specs.declared.plan.Planned.{Planned}
-use Rattle.state_commits.specs.Plans.{IsLeftOf, IsRightLeft, keys_of, change_of, changes_of}
+use Rattle.state_laws.specs.declared.plan.Left.{Left}
+use Rattle.state_laws.specs.declared.plan.Left.TheVariants.{Stored, Held}
+use Rattle.state_laws.specs.declared.plan.Planned.{Planned}
+use Rattle.commits.specs.Plans.{IsRightLeft, keys_of, change_of, changes_of}
+use Rattle.state_laws.specs.Left.{IsLeftOf}
 use Rattle.chunk_plans.specs.declared.write.ChunkWrite.{ChunkWrite}
 use Rattle.chunk_plans.specs.Writes.{IsPlanOf, chunk_of_write}
 use Rattle.chunk_plans.proofs.Laws.{held_longer, held_snapshot, kept_of_left, left_longer}

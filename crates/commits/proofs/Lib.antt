@@ -1,3 +1,5 @@
+pub mod PlanLaws
+pub mod HeldLaws
 pub mod KeyOrder
 pub mod Search
 pub mod Steps

@@ -19,10 +19,11 @@ use Rattle.state_laws.specs.Changing.{AreMade}
 use Rattle.state_laws.specs.Log.{Log}
 use Rattle.state_laws.specs.Seen.{StoreSeen}
 use Rattle.state_laws.proofs.Laws.{takes_chunk}
-use Rattle.state_commits.specs.declared.plan.Left.{Left}
-use Rattle.state_commits.specs.declared.plan.Left.TheVariants.{Stored, Held}
-use Rattle.state_commits.specs.declared.plan.Planned.{Planned}
-use Rattle.state_commits.specs.Plans.{ArePlans, AreRightBy, IsLeftOf, IsPlanned, change_of, changes_of}
+use Rattle.state_laws.specs.declared.plan.Left.{Left}
+use Rattle.state_laws.specs.declared.plan.Left.TheVariants.{Stored, Held}
+use Rattle.state_laws.specs.declared.plan.Planned.{Planned}
+use Rattle.commits.specs.Plans.{ArePlans, AreRightBy, IsPlanned, change_of, changes_of}
+use Rattle.state_laws.specs.Left.{IsLeftOf}
 use Rattle.commits.specs.Keyed.{IsKeyPlan, IsRightKey, key_event}
 use Rattle.commits.proofs.EachLaws.{key_counted, one_key_in, touches_key, touches_own}
 

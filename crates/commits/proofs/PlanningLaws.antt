@@ -11,7 +11,7 @@ use Rattle.state_laws.specs.Agreement.{KeepsAgreement}
 use Rattle.state_laws.specs.Log.{Log}
 use Rattle.state_laws.specs.Looks.{IsFailedLook}
 use Rattle.state_laws.specs.Seen.{StoreSeen}
-use Rattle.state_commits.specs.declared.plan.Planned.{Planned}
+use Rattle.state_laws.specs.declared.plan.Planned.{Planned}
 use Rattle.chunk_plans.specs.declared.write.ChunkWrite.{ChunkWrite}
 use Rattle.history.specs.Damaged.{IsDamaged}
 use Rattle.chunk_plans.specs.Writes.{IsPlanOf, IsReadyBy, IsReadyWrite, IsSameButCache, chunk_of_write, is_usable, may_use}

@@ -29,10 +29,11 @@ use Rattle.state_laws.specs.Agreement.{Opening, Agrees}
 use Rattle.state_laws.specs.Kept.{IsCurrent}
 use Rattle.state_laws.specs.Log.{Log}
 use Rattle.state_laws.specs.Seen.{StoreSeen}
-use Rattle.state_commits.specs.declared.plan.Left.{Left}
-use Rattle.state_commits.specs.declared.plan.Left.TheVariants.{Stored, Held}
-use Rattle.state_commits.specs.declared.plan.Planned.{Planned}
-use Rattle.state_commits.specs.Plans.{IsLeftOf, IsPlanned, IsRightLeft, IsRightPlan, keys_of, HasPlan, ArePlans, change_of, changes_of}
+use Rattle.state_laws.specs.declared.plan.Left.{Left}
+use Rattle.state_laws.specs.declared.plan.Left.TheVariants.{Stored, Held}
+use Rattle.state_laws.specs.declared.plan.Planned.{Planned}
+use Rattle.commits.specs.Plans.{IsPlanned, IsRightLeft, IsRightPlan, keys_of, HasPlan, ArePlans, change_of, changes_of}
+use Rattle.state_laws.specs.Left.{IsLeftOf}
 use Rattle.chunk_plans.specs.declared.write.ChunkWrite.{ChunkWrite}
 use Rattle.chunk_plans.specs.Writes.{IsPlanOf, IsReadyWrite, chunk_of_write}
 use Rattle.chunk_plans.proofs.Laws.{kept_of_left, held_snapshot}

@@ -17,8 +17,9 @@ use Rattle.history.specs.Sessions.{new_transaction}
 use Rattle.state_laws.specs.Agreement.{Opening, Agrees}
 use Rattle.state_laws.specs.Log.{Log}
 use Rattle.state_laws.specs.Seen.{StoreSeen}
-use Rattle.state_commits.specs.declared.plan.Planned.{Planned}
-use Rattle.state_commits.specs.Plans.{IsLeftOf, IsRightLeft, keys_of}
+use Rattle.state_laws.specs.declared.plan.Planned.{Planned}
+use Rattle.commits.specs.Plans.{IsRightLeft, keys_of}
+use Rattle.state_laws.specs.Left.{IsLeftOf}
 use Rattle.chunk_plans.specs.declared.write.ChunkWrite.{ChunkWrite}
 use Rattle.chunk_plans.specs.Writes.{IsPlanOf}
 use Rattle.commits.specs.declared.refused.CommitRefused.{CommitRefused}

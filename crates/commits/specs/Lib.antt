@@ -1,3 +1,4 @@
+pub mod Plans
 pub mod Prepared
 pub mod Writes
 pub mod Late

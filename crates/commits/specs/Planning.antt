@@ -11,8 +11,8 @@ use Rattle.state_laws.specs.Agreement.{Opening, Agrees}
 use Rattle.state_laws.specs.Fetches.{IsDamagedThere}
 use Rattle.state_laws.specs.Log.{Log}
 use Rattle.state_laws.specs.Seen.{StoreSeen}
-use Rattle.state_commits.specs.declared.plan.Planned.{Planned}
-use Rattle.state_commits.specs.Plans.{IsLeftOf}
+use Rattle.state_laws.specs.declared.plan.Planned.{Planned}
+use Rattle.state_laws.specs.Left.{IsLeftOf}
 use Rattle.chunk_plans.specs.declared.write.ChunkWrite.{ChunkWrite}
 use Rattle.chunk_plans.specs.Writes.{IsPlanOf, IsReadyWrite, chunk_of_write}
 use Rattle.commits.specs.Writes.{stored_write_keys}

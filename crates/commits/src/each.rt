@@ -5,7 +5,7 @@ ghost use Rattle.history.specs.Arrays.{known_after};
 ghost use Rattle.history.specs.Commit.{is_write};
 ghost use Rattle.state_laws.specs.Seen.{IsFrame};
 ghost use Rattle.state_laws.specs.Agreement.{IsState};
-ghost use Rattle.state_commits.specs.Plans.{keys_of};
+ghost use Rattle.commits.specs.Plans.{keys_of};
 ghost use Rattle.chunk_plans.specs.Writes.{IsWrite};
 ghost use Rattle.commits.specs.Keyed.{AreKeyPlans, IsKeyPlan, IsMadeEach, IsMountAt, IsStateByKeys, KeepsByKey, KeepsByKeys, each_event, key_event, plan_arrays};
 ghost use Rattle.commits.specs.Made.{IsMade};
@@ -13,6 +13,7 @@ ghost use Rattle.commits.specs.Planning.{HasFailedFor};
 ghost use Rattle.commits.specs.Prepared.{AreWrites, write_keys};
 ghost use Rattle.commits.specs.Right.{IsStateByCommit, KeepsByCommit};
 
+use crate::making::commit_planned;
 use crate::planning::plan_writes;
 use crate::refused::{CommitRefused, unmade, unplanned};
 use cells::{List, Name};
@@ -20,8 +21,7 @@ use chunk_plans::ChunkWrite;
 use history::{Mode, Ops};
 use kv_face::KvStore;
 use shared_state::{ChangeError, State};
-use state_commits::{Planned, commit_planned};
-use state_laws::Commit;
+use state_laws::{Commit, Planned};
 use state_parts::copy_name;
 use std::alloc::{AllocError, Global};
 

@@ -6,7 +6,7 @@ ghost use Rattle.state_laws.specs.Recorded.{done_event};
 ghost use Rattle.state_laws.specs.Seen.{IsFrame};
 ghost use Rattle.state_laws.specs.Agreement.{IsState};
 ghost use Rattle.state_laws.specs.Changing.{AreMade};
-ghost use Rattle.state_commits.specs.Plans.{ArePlans, KeepsByPlans, changes_of};
+ghost use Rattle.commits.specs.Plans.{ArePlans, KeepsByPlans, changes_of};
 ghost use Rattle.chunk_plans.specs.Writes.{IsWrite};
 ghost use Rattle.commits.specs.Keyed.{IsMadeEach, plan_arrays};
 ghost use Rattle.commits.specs.Made.{IsMade};
@@ -15,6 +15,7 @@ ghost use Rattle.commits.specs.Prepared.{AreWrites};
 ghost use Rattle.commits.specs.Right.{KeepsByCommit};
 ghost use Rattle.commits.specs.Writes.{stored_write_keys};
 
+use crate::making::commit_planned;
 use crate::mount::mount_of_writes;
 use crate::planning::plan_writes;
 use crate::refused::{CommitRefused, unmade, unplanned};
@@ -22,8 +23,7 @@ use cells::{List, Name};
 use chunk_plans::ChunkWrite;
 use kv_face::KvStore;
 use shared_state::State;
-use state_commits::{Planned, commit_planned};
-use state_laws::Commit;
+use state_laws::{Commit, Planned};
 use std::alloc::Global;
 
 /// Makes the commit by its plans. Room for the answer is made before.

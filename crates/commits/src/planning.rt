@@ -10,7 +10,7 @@ ghost use Rattle.commits.specs.Planning.{ArePlannedBy, HasFailedFor, IsFirstDama
 use chunk_plans::{ChunkWrite, plan_write};
 use kv_face::KvStore;
 use shared_state::{FetchError, State};
-use state_commits::Planned;
+use state_laws::Planned;
 use std::alloc::Global;
 
 /// What a commit leaves of each chunk that it writes. `number` is that of the event that puts the first of them, and `step` how many

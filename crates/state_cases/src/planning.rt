@@ -21,7 +21,7 @@ use kv_face::KvStore;
 use rebase_writes::Staged;
 use serde_json::Value;
 use shared_state::State;
-use state_commits::Left;
+use state_laws::Left;
 use std::alloc::Global;
 
 pub(crate) fn plan<K: KvStore>(

@@ -14,6 +14,7 @@ mod generations;
 mod new_array;
 mod opening;
 mod place;
+mod plan;
 mod reading;
 mod records;
 
@@ -24,5 +25,6 @@ pub use error::{FetchError, GetError};
 pub use new_array::NewArray;
 pub use opening::{OpenError, Opened};
 pub use place::{Names, Place};
+pub use plan::{Left, Planned};
 pub use reading::{Bounds, Fetched, Look};
 pub use records::Records;

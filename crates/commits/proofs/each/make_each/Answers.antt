@@ -2,8 +2,8 @@ use Rattle.std.proofs.Common.{◌≡◌, Err, List, [], length, inl, inr, refl, 
 use Rattle.std.specs.Prelude.{filter}
 use Rattle.history.specs.Commit.{is_write}
 use Rattle.state_laws.proofs.Laws.{frame_same, frame_then}
-use Rattle.state_commits.specs.declared.plan.Planned.{Planned}
-use Rattle.state_commits.specs.Plans.{keys_of}
+use Rattle.state_laws.specs.declared.plan.Planned.{Planned}
+use Rattle.commits.specs.Plans.{keys_of}
 use Rattle.commits.specs.Keyed.{AreKeyPlans, AreRightKeys, IsMadeEach, each_event, key_event, plan_arrays}
 use Rattle.commits.specs.Planning.{IsAmongOn}
 use Rattle.commits.proofs.ByKeysLaws.{each_length}

@@ -2,8 +2,8 @@ use Rattle.std.proofs.Common.{List, sym, subst}
 use Rattle.state_laws.specs.declared.commit.Commit.{Commit}
 use Rattle.state_laws.specs.Recorded.{done_event}
 use Rattle.state_laws.specs.Changing.{AreMade}
-use Rattle.state_commits.specs.declared.plan.Planned.{Planned}
-use Rattle.state_commits.specs.Plans.{ArePlans, AreRightBy, changes_of}
+use Rattle.state_laws.specs.declared.plan.Planned.{Planned}
+use Rattle.commits.specs.Plans.{ArePlans, AreRightBy, changes_of}
 use Rattle.commits.specs.Keyed.{key_event}
 use Rattle.commits.proofs.OneLaws.{commit_of, one_made, one_plan, one_right}
 use Rattle.commits.proofs.each.make_one.Goals as goal

@@ -1,7 +1,7 @@
 use Rattle.std.proofs.Common.{Err, [], ◌∷◌, sym, ap, subst, ◌∙◌}
 use Rattle.std.specs.Prelude.{length}
 use Rattle.state_laws.specs.Recorded.{done_event}
-use Rattle.state_commits.specs.Plans.{changes_of}
+use Rattle.commits.specs.Plans.{changes_of}
 use Rattle.commits.specs.Keyed.{IsMadeEach, plan_arrays}
 use Rattle.commits.specs.Refused.{unmade}
 use Rattle.commits.proofs.MadeLaws.{none_added}

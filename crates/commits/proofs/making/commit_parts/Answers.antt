@@ -7,9 +7,9 @@ use Rattle.state_laws.specs.Recorded.{done_event}
 use Rattle.state_laws.specs.declared.deed.HeldCells.{HeldCells}
 use Rattle.state_laws.specs.Changing.{IsDeed, KeepsByDeed}
 use Rattle.state_laws.specs.Log.{Log, StateOf}
-use Rattle.state_commits.specs.Plans.{deed_of}
-use Rattle.state_commits.proofs.HeldLaws.{plans_deed, cells_known}
-use Rattle.state_commits.proofs.making.commit_parts.Goals as goal
+use Rattle.commits.specs.Plans.{deed_of}
+use Rattle.commits.proofs.HeldLaws.{plans_deed, cells_known}
+use Rattle.commits.proofs.making.commit_parts.Goals as goal
 
 pub commit-requires-clause-deed : goal.commit-requires-clause-deed
 commit-requires-clause-deed g c =

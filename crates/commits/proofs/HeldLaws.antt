@@ -27,11 +27,12 @@ use Rattle.history.specs.declared.event.Kind.TheVariants.{Done}
 use Rattle.state_laws.specs.Changing.{AreTouched, IsDeed, IsRightBy, IsHeldAnew, IsHeldStill, committed, with_cells}
 use Rattle.state_laws.specs.Kept.{AreCellsOf, IsCurrent}
 use Rattle.state_laws.specs.Log.{Log, cells_held}
-use Rattle.state_commits.specs.declared.plan.Left.{Left}
-use Rattle.state_commits.specs.declared.plan.Left.TheVariants.{Stored, Held}
-use Rattle.state_commits.specs.declared.plan.Planned.{Planned}
-use Rattle.state_commits.specs.Plans.{IsLeftOf, IsPlanned, IsRightLeft, IsRightPlan, HasPlan, keys_of, ArePlans, held_of, cells_of, changes_of}
-use Rattle.state_commits.proofs.PlanLaws.{plans_touched, plans_changes}
+use Rattle.state_laws.specs.declared.plan.Left.{Left}
+use Rattle.state_laws.specs.declared.plan.Left.TheVariants.{Stored, Held}
+use Rattle.state_laws.specs.declared.plan.Planned.{Planned}
+use Rattle.commits.specs.Plans.{IsPlanned, IsRightLeft, IsRightPlan, HasPlan, keys_of, ArePlans, held_of, cells_of, changes_of}
+use Rattle.state_laws.specs.Left.{IsLeftOf}
+use Rattle.commits.proofs.PlanLaws.{plans_touched, plans_changes}
 
 -- the one index of a local array's chunk
 pub origin : List ℕ → List ℕ

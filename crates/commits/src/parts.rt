@@ -1,11 +1,11 @@
 // Plans, parted into what the state is told.
 ghost use Rattle.std.specs.Prelude.{◌≡◌, ◌++◌, ◌∷◌, [], IfOk, OnOk};
-ghost use Rattle.state_commits.specs.Plans.{ArePartsOf, change_of, held_of};
+ghost use Rattle.commits.specs.Plans.{ArePartsOf, change_of, held_of};
 
-use crate::plan::{Left, Planned};
 use cells::Name;
 use kv_face::Change;
 use shared_state::HeldCells;
+use state_laws::{Left, Planned};
 use std::alloc::{AllocError, Global};
 
 /// The changes of the store, the keys, and the cells of local arrays.

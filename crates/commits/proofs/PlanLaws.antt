@@ -18,10 +18,11 @@ use Rattle.state_laws.specs.declared.commit.Commit.{Commit}
 use Rattle.state_laws.specs.Recorded.{done_event}
 use Rattle.state_laws.specs.Changing.{IsOneOf, AreTouched}
 use Rattle.state_laws.specs.Log.{Log}
-use Rattle.state_commits.specs.declared.plan.Left.{Left}
-use Rattle.state_commits.specs.declared.plan.Left.TheVariants.{Stored, Held}
-use Rattle.state_commits.specs.declared.plan.Planned.{Planned}
-use Rattle.state_commits.specs.Plans.{IsLeftOf, IsPlanned, IsRightLeft, IsRightPlan, keys_of, HasPlan, ArePlans, change_of, changes_of}
+use Rattle.state_laws.specs.declared.plan.Left.{Left}
+use Rattle.state_laws.specs.declared.plan.Left.TheVariants.{Stored, Held}
+use Rattle.state_laws.specs.declared.plan.Planned.{Planned}
+use Rattle.commits.specs.Plans.{IsPlanned, IsRightLeft, IsRightPlan, keys_of, HasPlan, ArePlans, change_of, changes_of}
+use Rattle.state_laws.specs.Left.{IsLeftOf}
 
 -- the plan of a key
 pub record HasPlanOf (P : Planned → Type 0) (key : List ℕ) : Type 0 where

@@ -6,15 +6,14 @@ ghost use Rattle.state_laws.specs.Seen.{IsFrame, IsQuiet};
 ghost use Rattle.state_laws.specs.Agreement.{IsState};
 ghost use Rattle.state_laws.specs.Changing.{AreMade, KeepsByDeed, committed};
 ghost use Rattle.state_laws.specs.Fetches.{HasFailed};
-ghost use Rattle.state_commits.specs.Plans.{ArePlans, ArePartsOf, KeepsByPlans, changes_of, committed_by, deed_of};
-ghost use Rattle.state_commits.specs.declared.plan.Planned.{Planned as PlannedOf};
+ghost use Rattle.commits.specs.Plans.{ArePlans, ArePartsOf, KeepsByPlans, changes_of, committed_by, deed_of};
+ghost use Rattle.state_laws.specs.declared.plan.Planned.{Planned as PlannedOf};
 
 use crate::parts::{Parts, parted};
-use crate::plan::Planned;
 use cells::Name;
 use kv_face::KvStore;
 use shared_state::{ChangeError, Deed, State};
-use state_laws::Commit;
+use state_laws::{Commit, Planned};
 use std::alloc::Global;
 
 /// Makes a commit, or one key of it, by what it leaves of each chunk that it touches: in one call of the store, or in none where no
@@ -22,7 +21,7 @@ use std::alloc::Global;
 ///
 /// # Errors
 /// `StoreFailed` where the store failed, which one event more tells; `Memory` where memory was wanting. Nothing was changed then.
-pub fn commit_planned<K: KvStore>(
+pub(crate) fn commit_planned<K: KvStore>(
     alloc: Global,
     state: &mut State<K>,
     owner: u32,

@@ -1,8 +1,8 @@
 use Rattle.std.proofs.Common.{sym, subst}
 use Rattle.state_laws.specs.Changing.{IsRightBy}
-use Rattle.state_commits.specs.Plans.{deed_of}
-use Rattle.state_commits.proofs.HeldLaws.{plans_right}
-use Rattle.state_commits.proofs.making.commit_planned.Goals as goal
+use Rattle.commits.specs.Plans.{deed_of}
+use Rattle.commits.proofs.HeldLaws.{plans_right}
+use Rattle.commits.proofs.making.commit_planned.Goals as goal
 
 pub returns-in-Ok-clause-kept : goal.returns-in-Ok-clause-kept
 returns-in-Ok-clause-kept g c = λ opening agrees right.

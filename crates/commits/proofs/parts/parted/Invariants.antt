@@ -1,6 +1,6 @@
 use Rattle.std.proofs.Common.{◌≡◌, ◌++◌}
-use Rattle.state_commits.specs.Plans.{keys_of, changes_of, cells_of}
-use Rattle.state_commits.proofs.parts.parted.Given as goal
+use Rattle.commits.specs.Plans.{keys_of, changes_of, cells_of}
+use Rattle.commits.proofs.parts.parted.Given as goal
 
 -- the plans that are left
 abbrev pub invariant-loop-plan : goal.invariant-loop-plan

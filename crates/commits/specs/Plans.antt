@@ -1,12 +1,12 @@
 -- What a commit, or one key of it, leaves of each chunk that it touches.
-use Rattle.std.specs.Prelude.{◌≡◌, ◌⊎◌, ℕ, ◌+◌, nat_lt, length, List, [], ◌∷◌, ◌++◌, map, Some, true, false}
+use Rattle.std.specs.Prelude.{◌≡◌, ◌⊎◌, ℕ, ◌+◌, nat_lt, length, List, [], ◌∷◌, ◌++◌, map, Some, true}
 use Rattle.std.specs.List.{AllByRecursion, IsDistinct}
 use Rattle.std.specs.Str.{bytes_eq}
 use Rattle.kv_face.specs.Store.{Contents}
 use Rattle.kv_face.specs.declared.change.Change.{Change}
 use Rattle.history.specs.declared.event.Event.{Event}
 use Rattle.history.specs.declared.event.Kind.TheVariants.{Done}
-use Rattle.history.specs.Arrays.{Known, known_after, is_local}
+use Rattle.history.specs.Arrays.{Known, known_after}
 use Rattle.history.specs.Chunks.{Chunk, IsIndexOf, chunk_key}
 use Rattle.history.specs.Counting.{is_change}
 use Rattle.history.specs.Legal.{IsLegalDone}
@@ -19,18 +19,14 @@ use Rattle.state_laws.specs.declared.deed.HeldCells.{HeldCells}
 use Rattle.state_laws.specs.Agreement.{Opening, Agrees}
 use Rattle.state_laws.specs.Changing.{with_cells}
 use Rattle.state_laws.specs.Seen.{StoreSeen}
-use Rattle.state_laws.specs.Kept.{AreCellsOf, IsCurrent}
+use Rattle.state_laws.specs.Kept.{IsCurrent}
+use Rattle.state_laws.specs.Left.{IsLeftOf}
 use Rattle.state_laws.specs.Log.{Log}
-use Rattle.state_commits.specs.declared.plan.Left.{Left}
-use Rattle.state_commits.specs.declared.plan.Left.TheVariants.{Stored, Held}
-use Rattle.state_commits.specs.declared.plan.Planned.{Planned}
-use Rattle.state_commits.specs.declared.parts.Parts.{Parts}
+use Rattle.state_laws.specs.declared.plan.Left.{Left}
+use Rattle.state_laws.specs.declared.plan.Left.TheVariants.{Stored, Held}
+use Rattle.state_laws.specs.declared.plan.Planned.{Planned}
+use Rattle.commits.specs.declared.parts.Parts.{Parts}
 use Rattle.state_laws.specs.declared.deed.Deed.{Deed}
-
--- bytes are left of a stored chunk, and of a local one cells of its dtype and shape
-abbrev pub IsLeftOf : Known → Chunk → Left → Type 0
-IsLeftOf k c (Stored bytes) = is_local k.info.home ≡ false
-IsLeftOf k c (Held a cells) = (is_local k.info.home ≡ true) × (a ≡ c.array) × AreCellsOf k cells
 
 -- the plan of a chunk that the event touches
 pub record IsPlanned (log : Log) (e : Event) (p : Planned) : Type 0 where
