@@ -13,3 +13,5 @@ pub use Rattle.line_meanings.proofs.Sound.{line_on, line_sound}
 pub use Rattle.line_meanings.proofs.KnownForms.{known_leaf, known_cast, known_stack}
 -- steps leave a transform as many outputs as it had
 pub use Rattle.line_meanings.proofs.Outputs.{applied-outputs}
+-- where one mount has a name, the bytes of a line ask for stored arrays of that mount alone, and bring in no array that they weren't given
+pub use Rattle.line_meanings.proofs.Forms.{bytes_of_mount}

@@ -5,4 +5,6 @@ pub mod KnownBuilt
 pub mod KnownJoined
 pub mod Outputs
 pub mod Sound
+pub mod Given
+pub mod Forms
 pub mod Laws

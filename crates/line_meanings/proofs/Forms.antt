@@ -23,8 +23,10 @@ use Rattle.line_parts.specs.Within.{transform_in}
 use Rattle.line_parts.specs.declared.error.LineError.{LineError}
 use Rattle.line_answers.specs.Refusals.{form_error}
 use Rattle.line_meanings.specs.Meanings.{line_of, line_in, line_of_bytes, refused_by}
-use Rattle.line_meanings.proofs.Laws.{line_on, line_within, changes_within, join_within}
-use Rattle.mount_lines.proofs.Given.{Gives, one, nothing, then, sound, inside, either}
+use Rattle.line_meanings.proofs.Sound.{line_on, line_within}
+use Rattle.line_meanings.proofs.KnownUnder.{changes_within}
+use Rattle.line_meanings.proofs.KnownJoined.{join_within}
+use Rattle.line_meanings.proofs.Given.{Gives, one, nothing, then, sound, inside, either}
 
 module _ (mount : List ℕ) where
   -- what the form asks is on the mount, and within what it is given
