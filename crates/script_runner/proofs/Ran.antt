@@ -6,8 +6,8 @@ use Rattle.kv_mounts.specs.Parts.{Part, names_of}
 use Rattle.kv_mounts.specs.Union.{faults_of}
 use Rattle.line_answers.specs.Bodies.{answer_of}
 use Rattle.made_scripts.specs.Scripts.{made}
-use Rattle.mount_runs.specs.Finished.{IsRun, IsWhole}
-use Rattle.mount_runs.specs.Runs.{IsEmptyMount, IsSingleRun}
+use Rattle.session_workers.specs.Finished.{IsRun, IsWhole}
+use Rattle.session_workers.specs.MountRuns.{IsEmptyMount, IsSingleRun}
 use Rattle.run_words.specs.Options.{Text}
 use Rattle.script_runner.specs.Asked.{AskFor, AskToMake}
 use Rattle.script_runner.proofs.Single.{none_of, all_good, as_many}

@@ -8,10 +8,10 @@ use Rattle.kv_mounts.specs.Parts.{Part, names_of}
 use Rattle.kv_mounts.specs.Union.{faults_of}
 use Rattle.line_answers.specs.Bodies.{answer_of}
 use Rattle.made_scripts.specs.Summary.{summary_text}
-use Rattle.mount_runs.specs.Finished.{IsRun, AreWhole, asked_by}
-use Rattle.mount_runs.specs.Runs.{IsSerialRun}
+use Rattle.session_workers.specs.Finished.{IsRun, AreWhole, asked_by}
+use Rattle.session_workers.specs.MountRuns.{IsSerialRun}
 -- what a run's mounts are asked for: one, whose store is empty and makes all its changes together
-pub use Rattle.mount_runs.specs.Runs.{IsEmptyMount}
+pub use Rattle.session_workers.specs.MountRuns.{IsEmptyMount}
 use Rattle.run_words.specs.declared.settings.Input.{Input}
 use Rattle.run_words.specs.declared.settings.Input.TheVariants.{Files, Made}
 use Rattle.script_runner.specs.Asked.{AreAskedFor, AreOfFiles}

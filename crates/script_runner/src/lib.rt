@@ -9,7 +9,7 @@ mod top;
 mod writing;
 
 pub use kv_face::{KvStore, MemoryKv};
-pub use mount_runs::{BoxedStore, Gate, Mount};
 pub use outcome::Outcome;
 pub use script_streams::{FileScripts, MemoryScripts, MemorySink, Scripts, Sink, StdoutSink};
+pub use session_workers::{BoxedStore, Gate, Mount};
 pub use top::run;

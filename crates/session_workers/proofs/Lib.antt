@@ -6,4 +6,8 @@ pub mod Logs
 pub mod Mounts
 pub mod Sends
 pub mod Worked
+pub mod NamesCopied
+pub mod Finishing
+pub mod Alone
+pub mod RunLaws
 pub mod Laws

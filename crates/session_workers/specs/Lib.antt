@@ -1,2 +1,5 @@
 pub mod Workers
 pub mod Runs
+pub mod Alone
+pub mod MountRuns
+pub mod Finished

@@ -23,7 +23,7 @@ use turn_book::{Pass, TurnBook};
 
 /// What a run of scripts leaves: the state, and the log of each session.
 #[derive(Drop)]
-pub struct Ended<K: KvStore> {
+pub(crate) struct Ended<K: KvStore> {
     pub state: State<K>,
     pub logs: Vec<List<Answer>>,
     /// True only where each session answered all its lines, or those up to an answer that memory was wanting.
@@ -36,7 +36,7 @@ pub struct Ended<K: KvStore> {
 ///
 /// # Errors
 /// There was no memory before the first session was started. The store comes back.
-pub fn run_scripts<K: KvStore + Send, R: Threads + Wait + Sync, G: Gate + Sync>(
+pub(crate) fn run_scripts<K: KvStore + Send, R: Threads + Wait + Sync, G: Gate + Sync>(
     alloc: Global,
     rt: &R,
     store: K,

@@ -3,12 +3,12 @@ use Rattle.std.specs.List.{AllByRecursion}
 use Rattle.history.specs.Legal.{IsMount}
 use Rattle.kv_mounts.specs.Finish.{failed_places}
 use Rattle.kv_mounts.specs.Parts.{names_of}
-use Rattle.mount_runs.specs.Finished.{IsRun}
-use Rattle.mount_runs.proofs.NamesCopied.{valid_names, taken_names}
-use Rattle.mount_runs.proofs.Running.{seen_over, opening_over, run_is}
+use Rattle.session_workers.specs.Finished.{IsRun}
+use Rattle.session_workers.proofs.NamesCopied.{valid_names, taken_names}
+use Rattle.session_workers.proofs.RunLaws.{seen_over, opening_over, run_is}
 use Rattle.session_workers.specs.Workers.{AreSessionLogs, AreWhole}
 use Rattle.state_laws.specs.Agreement.{Agrees, TakesMount}
-use Rattle.mount_runs.proofs.runs.run_over.Goals as goal
+use Rattle.session_workers.proofs.runs.run_over.Goals as goal
 
 pub run_scripts-requires-clause-valid : goal.run_scripts-requires-clause-valid
 run_scripts-requires-clause-valid g c κs within = subst (λ ns. AllByRecursion IsMount ns) (sym (c.as_slice-2.ensures.value ∙ c.in-Ok-names_of.ensures ∙ ap names_of c.as_slice.ensures.value)) (valid_names c.args.mounts.items c.requires.mounts)

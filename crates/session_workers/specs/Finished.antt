@@ -9,7 +9,7 @@ use Rattle.kv_face.specs.Store.{Contents, opened}
 use Rattle.kv_mounts.specs.Finish.{failed_places}
 use Rattle.kv_mounts.specs.Parts.{Part, AreMounts, names_of}
 use Rattle.kv_mounts.specs.Union.{faults_of, prefixes_of, union_of}
-use Rattle.mount_runs.specs.Runs.{IsPrintedRun, IsEmptyMount, IsSerialRun, IsSingleRun}
+use Rattle.session_workers.specs.MountRuns.{IsPrintedRun, IsEmptyMount, IsSerialRun, IsSingleRun}
 use Rattle.state_laws.specs.Agreement.{is_fault}
 -- what a script asks, and that a log has its answers
 pub use Rattle.session_workers.specs.Workers.{AreWhole, IsWhole, ends_in_want, asked_by, numbers_from}

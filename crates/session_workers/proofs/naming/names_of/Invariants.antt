@@ -1,6 +1,6 @@
 use Rattle.std.proofs.Common.{◌≡◌, take}
 use Rattle.kv_mounts.specs.Parts.{names_of}
-use Rattle.mount_runs.proofs.naming.names_of.Given as goal
+use Rattle.session_workers.proofs.naming.names_of.Given as goal
 
 -- the names of the first mounts
 abbrev pub invariant-loop-mount : goal.invariant-loop-mount

@@ -14,16 +14,17 @@ use Rattle.kv_mounts.specs.Finish.{AreFinished, failed_places}
 use Rattle.history.specs.Store.{RepresentsHistory}
 use Rattle.kv_mounts.specs.Parts.{Part, AreMounts, below, names_of}
 use Rattle.kv_mounts.specs.Union.{union_of, faults_of, prefixes_of, standing_of, change_count_of}
-use Rattle.mount_runs.specs.Finished.{AreBack, IsRun}
-use Rattle.mount_runs.specs.Runs.{fixed_over, IsPrintedRun, IsEmptyMount, IsSerialRun, IsSingleRun}
-use Rattle.mount_runs.proofs.Alone.{alone_where, alone_run}
-use Rattle.mount_runs.proofs.Finishing.{names_stay, union_stays, prefixes_stay, count_stays, faults_rise, listed_rise, all_closed}
+use Rattle.session_workers.specs.Finished.{AreBack, IsRun}
+use Rattle.session_workers.specs.MountRuns.{fixed_over, IsPrintedRun, IsEmptyMount, IsSerialRun, IsSingleRun}
+use Rattle.session_workers.proofs.Alone.{alone_where, alone_run}
+use Rattle.session_workers.proofs.Finishing.{names_stay, union_stays, prefixes_stay, count_stays, faults_rise, listed_rise, all_closed}
 use Rattle.serial_runs.specs.Runs.{IsRunOf, AreLogs, AreOfMount}
 use Rattle.serial_runs.specs.Serial.{IsSerial}
 use Rattle.serial_runs.proofs.Laws.{serial}
 use Rattle.session_workers.specs.Workers.{AreSessionLogs, AreWhole, asked_by, numbers_from}
 use Rattle.session_workers.specs.Runs.{ArePrinted}
-use Rattle.session_workers.proofs.Laws.{run_logs, of_mount}
+use Rattle.session_workers.proofs.Logs.{run_logs}
+use Rattle.session_workers.proofs.Mounts.{of_mount}
 use Rattle.state_laws.specs.Agreement.{Opening, Agrees, IsTrueTo, is_fault}
 use Rattle.state_laws.specs.Log.{Log}
 use Rattle.state_laws.specs.Seen.{StoreSeen}

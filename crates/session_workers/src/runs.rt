@@ -2,18 +2,19 @@
 ghost use Rattle.std.specs.Prelude.{◌≡◌, ◌≤◌, ◌<◌, ◌^◌, [], length, map, All, IfOk, IfErr};
 ghost use Rattle.kv_mounts.specs.Finish.{AreFinished, failed_places};
 ghost use Rattle.kv_mounts.specs.Parts.{AreMounts};
-ghost use Rattle.mount_runs.specs.Finished.{IsRun};
+ghost use Rattle.session_workers.specs.Finished.{IsRun};
 
 use crate::naming::names_of;
+use crate::running::{Ended, run_scripts};
 use answer_text::Answer;
 use cells::List;
 use history::Event;
 use kv_face::KvStore;
 use kv_mounts::{FinishList, Mount, Mounts};
-use session_workers::{Ended, Gate, run_scripts};
 use std::alloc::Global;
 use std::sync::Wait;
 use std::thread::Threads;
+use transactions::Gate;
 
 /// What a run over mounts hands back.
 #[derive(Drop)]

@@ -22,7 +22,7 @@ use Rattle.history.proofs.Alone.{own_all, alone_drop}
 use Rattle.history.proofs.AloneEnds.{AreFirst, run_begins_single}
 use Rattle.history.proofs.AloneRuns.{run_is_single}
 use Rattle.history.proofs.AloneWanting.{run_grows}
-use Rattle.mount_runs.specs.Alone.{IsBegunBy, IsAloneRun}
+use Rattle.session_workers.specs.Alone.{IsBegunBy, IsAloneRun}
 use Rattle.serial_runs.specs.Runs.{Script, IsLog}
 use Rattle.state_laws.specs.Agreement.{fails, is_fault}
 

@@ -1,4 +1,0 @@
-pub mod NamesCopied
-pub mod Finishing
-pub mod Alone
-pub mod Running
