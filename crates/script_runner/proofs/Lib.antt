@@ -2,3 +2,4 @@ mod Asking
 mod Single
 mod Ran
 mod Written
+mod PartLaws

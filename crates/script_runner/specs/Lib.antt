@@ -1,2 +1,4 @@
 pub mod Asked
 pub mod Promises
+pub mod Stores
+pub mod Parts

@@ -1,15 +1,20 @@
 //! The top call: words, scripts, sessions on workers over mounts, answers.
 //!
 //! Others rest on one call, `run`. Its clause `serial` is what the project is for: over one empty store that makes all changes of a commit
-//! together, the transactions of all sessions are serial, in the order of the numbers that their commits print.
+//! together, the transactions of all sessions are serial, in the order of the numbers that their commits print. `new_mounts` makes the mounts
+//! of a program.
 #![tactic(auto)]
 
+mod mounts;
 mod outcome;
+mod store;
 mod top;
 mod writing;
 
 pub use kv_face::{KvStore, MemoryKv};
+pub use mounts::new_mounts;
 pub use outcome::Outcome;
 pub use script_streams::{FileScripts, MemoryScripts, MemorySink, Scripts, Sink, StdoutSink};
 pub use session_workers::{BoxedStore, Gate, Mount};
+pub use store::Store;
 pub use top::run;

@@ -5,8 +5,7 @@ ghost use Rattle.script_runner.specs.Promises.{IsEmptyMount};
 
 use crate::gate::Open;
 use crate::said::{say, say_unfinished};
-use program_mounts::{Mount, Store, new_mounts};
-use script_runner::{FileScripts, Outcome, StdoutSink, run};
+use script_runner::{FileScripts, Mount, Outcome, StdoutSink, Store, new_mounts, run};
 use std::alloc::AllocError;
 use std::sync::Wait;
 use std::thread::Threads;

@@ -1,5 +1,5 @@
 // What standard error says.
-use program_mounts::{Mount, Store};
+use script_runner::{Mount, Store};
 
 /// Says what went wrong, if anything did, and tells the status. Scripts are counted from 1.
 pub(crate) fn say(rt: &impl Eprint, status: u8, script: Option<u32>) -> u8 {

@@ -1,5 +1,5 @@
 use Rattle.std.proofs.Common.{refl, sym, subst}
-use Rattle.program_mounts.specs.Parts.{memory_part}
+use Rattle.script_runner.specs.Parts.{memory_part}
 use Rattle.script_runner.specs.Promises.{IsEmptyMount}
 use Rattle.tensor_run.proofs.runs.memory_alone.Goals as goal
 

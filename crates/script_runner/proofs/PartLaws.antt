@@ -4,7 +4,7 @@ use Rattle.std.specs.Prelude.{All}
 use Rattle.std.specs.List.{IsDistinct}
 use Rattle.std.specs.Str.{bytes_eq}
 use Rattle.kv_mounts.specs.Parts.{Part, IsMountName, AreMounts}
-use Rattle.program_mounts.specs.Parts.{memory_part, file_part, parts_of}
+use Rattle.script_runner.specs.Parts.{memory_part, file_part, parts_of}
 
 all_one : {X : Type 0} (P : X → Type 0) (a : X) → P a → All P (a ∷ [])
 all_one P a p zero d h = p

@@ -11,7 +11,7 @@ pub enum Store<R: Files + AllocGlobal + Drop> {
 }
 
 impl<R: Files + AllocGlobal + Drop> KvStore for Store<R> {
-    ghost use Rattle.program_mounts.specs.Stores.{seen_of};
+    ghost use Rattle.script_runner.specs.Stores.{seen_of};
 
     ghost seen = { seen_of };
 

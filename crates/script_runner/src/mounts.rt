@@ -2,8 +2,8 @@
 ghost use Rattle.std.specs.Prelude.{◌≡◌, IfOk, is_some, true, false};
 ghost use Rattle.kv_face.specs.Memory.{new_store};
 ghost use Rattle.kv_mounts.specs.Parts.{AreMounts};
-ghost use Rattle.program_mounts.specs.Parts.{memory_part, file_part, parts_of};
-ghost use Rattle.program_mounts.specs.declared.store.Store.TheVariants.{Memory, Files as InFiles};
+ghost use Rattle.script_runner.specs.Parts.{memory_part, file_part, parts_of};
+ghost use Rattle.script_runner.specs.declared.store.Store.TheVariants.{Memory, Files as InFiles};
 
 use crate::store::Store;
 use cells::Name;
