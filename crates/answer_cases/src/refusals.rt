@@ -3,6 +3,7 @@ use crate::args::{half, name, number, numbers, small, word};
 use crate::fault::Fault;
 use crate::printing::printed;
 use cells::Name;
+use chunk_elements::ChunkError;
 use chunk_forms::Damage;
 use line_answers::{bad_metadata, damaged, refusal};
 use line_forms::{LineError, read_command};
@@ -10,7 +11,6 @@ use meta_forms::MetaError;
 use n5_blocks::BlockError;
 use serde_json::Value;
 use std::alloc::Global;
-use zarr_chunks::ChunkError;
 
 /// The answer to a line of a script that is no command; the mounts are `memory` and `file`.
 pub(crate) fn of_script(alloc: Global, line: u64, text: &str) -> Result<String, Fault> {

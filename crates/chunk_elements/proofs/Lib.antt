@@ -1,4 +1,5 @@
 pub mod BlockLaws
+pub mod ChunkLaws
 pub mod ElementLaws
 pub mod FitLaws
 pub mod Laws

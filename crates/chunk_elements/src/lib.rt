@@ -1,12 +1,14 @@
 //! Elements of chunks: words of the eight dtypes as bytes, in either byte order, one after another or as a block of which some
 //! cells are stored with the first index fastest.
 //!
-//! Other crates rest on two relations. `SpellsWords` ties bytes to the words that they are one after another; `StoresWords` ties
-//! the bytes of stored cells to the words of their block in C order.
+//! Other crates rest on three relations. `SpellsWords` ties bytes to the words that they are one after another; `StoresWords` ties
+//! the bytes of stored cells to the words of their block in C order; `SpellsChunk` ties a chunk's bytes to the word at each index
+//! vector, by the layout that a format states.
 #![tactic(auto)]
 
 mod block;
 mod element;
+mod error;
 mod long;
 mod row;
 mod rows;
@@ -14,4 +16,5 @@ mod whole;
 mod words;
 
 pub use block::{put_block, words_of_block};
+pub use error::ChunkError;
 pub use words::{bytes_of, words_of};

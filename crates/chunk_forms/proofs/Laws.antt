@@ -10,17 +10,18 @@ use Rattle.chunk_forms.specs.Grammar.{SpellsChunk, WritesChunk, cut_sizes}
 use Rattle.chunk_forms.specs.Metadata.{chunk_shape_of, is_local, IsMetadata}
 use Rattle.chunk_forms.specs.Words.{is_inside, zarr_fault, n5_fault, chunk_fault, spelled_word, block_word, unless_damaged, word_in}
 use Rattle.zarr_chunks.specs.Metadata as zarr
-use Rattle.zarr_chunks.specs.Chunk as chunk
-use Rattle.zarr_chunks.specs.declared.chunk.ChunkError.TheVariants.{WrongLength}
+use Rattle.zarr_chunks.specs.Chunk as zarr_chunk
+use Rattle.chunk_elements.specs.Chunk as chunk
+use Rattle.chunk_elements.specs.declared.error.ChunkError.TheVariants.{WrongLength}
 use Rattle.n5_blocks.specs.Metadata as n5
 use Rattle.n5_blocks.specs.Block as block
-use Rattle.zarr_chunks.proofs.Laws.{SpellsChunk-from_len}
+use Rattle.chunk_elements.proofs.Laws.{SpellsChunk-from_len}
 use Rattle.n5_blocks.specs.Faults.{header_len, block_fault}
 use Rattle.n5_blocks.specs.declared.chunk.BlockError.{BlockError}
 use Rattle.n5_blocks.proofs.Laws.{SpellsBlock-from_no_fault, no_fault-SpellsBlock, parsed}
 use Rattle.std.proofs.lemmas.List.{get_or-replicate}
 use Rattle.zarr3_chunks.specs.Metadata as zarr3
-use Rattle.zarr3_chunks.specs.Chunk.{as_zarr}
+use Rattle.zarr3_chunks.specs.Chunk as zarr3_chunk
 
 -- what is written for a chunk spells its words
 pub spells_of_writes : (form : Form) (index shape bytes : List ℕ) (word : List ℕ → ℕ) → WritesChunk form index shape bytes word → SpellsChunk form bytes word
@@ -29,17 +30,17 @@ spells_of_writes (N5 meta) index shape bytes word w = record { stored = (cut_siz
 spells_of_writes (Zarr3 meta) index shape bytes word w = w
 spells_of_writes Local index shape bytes word w = w
 
-zarr_no_fault : (m : zarr.Metadata) (bytes : List ℕ) (word : List ℕ → ℕ) → chunk.SpellsChunk m bytes word → zarr_fault m bytes ≡ None
+zarr_no_fault : (m : chunk.Layout) (bytes : List ℕ) (word : List ℕ → ℕ) → chunk.SpellsChunk m bytes word → zarr_fault m bytes ≡ None
 zarr_no_fault m bytes word p = ap (λ b. cond b None (Some (damage.Zarr (WrongLength (length bytes) (chunk.chunk_len m))))) (eq-eqb (length bytes) (chunk.chunk_len m) p.count)
 
 -- bytes that spell words are a chunk
 pub no_fault_of_spells : (form : Form) (bytes : List ℕ) (word : List ℕ → ℕ) → IsMetadata form → SpellsChunk form bytes word → chunk_fault form bytes ≡ None
-no_fault_of_spells (Zarr meta) bytes word valid p = zarr_no_fault meta bytes word p
+no_fault_of_spells (Zarr meta) bytes word valid p = zarr_no_fault (zarr_chunk.layout_of meta) bytes word p
 no_fault_of_spells (N5 meta) bytes word valid p = ap (λ o. elim o [ None ↦ None | Some cause ↦ Some (damage.N5 cause) ]) (no_fault-SpellsBlock meta bytes word valid p)
-no_fault_of_spells (Zarr3 meta) bytes word valid p = zarr_no_fault (as_zarr meta) bytes word p
+no_fault_of_spells (Zarr3 meta) bytes word valid p = zarr_no_fault (zarr3_chunk.layout_of meta) bytes word p
 no_fault_of_spells Local bytes word valid p = absurd p
 
-zarr_word : (m : zarr.Metadata) (bytes : List ℕ) (word : List ℕ → ℕ) (index : List ℕ) → chunk.SpellsChunk m bytes word → IsInside m.chunks index → chunk.chunk_word m bytes index ≡ word index
+zarr_word : (m : chunk.Layout) (bytes : List ℕ) (word : List ℕ → ℕ) (index : List ℕ) → chunk.SpellsChunk m bytes word → IsInside m.chunks index → chunk.chunk_word m bytes index ≡ word index
 zarr_word m bytes word index p inside = ap (word_of_bytes m.dtype m.big) (p.elements index inside) ∙ word_of_bytes-word_bytes m.dtype m.big (word index) (p.are_words index inside)
 
 n5_word : (m : n5.Metadata) (bytes : List ℕ) (word : List ℕ → ℕ) (index : List ℕ) → n5.IsMetadata m → block.SpellsBlock m bytes word → IsInside m.block index → block_word m bytes index ≡ word index
@@ -63,9 +64,9 @@ n5_word m bytes word index valid p inside =
 
 -- bytes that spell words have these words
 pub spelled_word_of_spells : (form : Form) (bytes : List ℕ) (word : List ℕ → ℕ) (index : List ℕ) → IsMetadata form → SpellsChunk form bytes word → IsInside (chunk_shape_of form) index → spelled_word form bytes index ≡ word index
-spelled_word_of_spells (Zarr meta) bytes word index valid p inside = zarr_word meta bytes word index p inside
+spelled_word_of_spells (Zarr meta) bytes word index valid p inside = zarr_word (zarr_chunk.layout_of meta) bytes word index p inside
 spelled_word_of_spells (N5 meta) bytes word index valid p inside = n5_word meta bytes word index valid p inside
-spelled_word_of_spells (Zarr3 meta) bytes word index valid p inside = zarr_word (as_zarr meta) bytes word index p inside
+spelled_word_of_spells (Zarr3 meta) bytes word index valid p inside = zarr_word (zarr3_chunk.layout_of meta) bytes word index p inside
 spelled_word_of_spells Local bytes word index valid p inside = absurd p
 
 pub word_in_of_spells : (form : Form) (bytes : List ℕ) (word : List ℕ → ℕ) (index : List ℕ) → IsMetadata form → SpellsChunk form bytes word → IsInside (chunk_shape_of form) index → word_in form bytes index ≡ Some (word index)
@@ -76,12 +77,12 @@ word_in_of_spells form bytes word index valid p inside =
 pub in_zarr : (form : Form) (m : zarr.Metadata) (bytes : List ℕ) (word : List ℕ → ℕ) (index : List ℕ) → form ≡ Zarr m → SpellsChunk form bytes word → IsInside (chunk_shape_of form) index → word_in form bytes index ≡ Some (word index)
 in_zarr form m bytes word index is =
     subst (λ f. SpellsChunk f bytes word → IsInside (chunk_shape_of f) index → word_in f bytes index ≡ Some (word index)) (sym is)
-    (λ p inside. ap (λ o. unless_damaged o (spelled_word (Zarr m) bytes index)) (zarr_no_fault m bytes word p) ∙ ap Some (zarr_word m bytes word index p inside))
+    (λ p inside. ap (λ o. unless_damaged o (spelled_word (Zarr m) bytes index)) (zarr_no_fault (zarr_chunk.layout_of m) bytes word p) ∙ ap Some (zarr_word (zarr_chunk.layout_of m) bytes word index p inside))
 
 pub in_zarr3 : (form : Form) (m : zarr3.Metadata) (bytes : List ℕ) (word : List ℕ → ℕ) (index : List ℕ) → form ≡ Zarr3 m → SpellsChunk form bytes word → IsInside (chunk_shape_of form) index → word_in form bytes index ≡ Some (word index)
 in_zarr3 form m bytes word index is =
     subst (λ f. SpellsChunk f bytes word → IsInside (chunk_shape_of f) index → word_in f bytes index ≡ Some (word index)) (sym is)
-    (λ p inside. ap (λ o. unless_damaged o (spelled_word (Zarr3 m) bytes index)) (zarr_no_fault (as_zarr m) bytes word p) ∙ ap Some (zarr_word (as_zarr m) bytes word index p inside))
+    (λ p inside. ap (λ o. unless_damaged o (spelled_word (Zarr3 m) bytes index)) (zarr_no_fault (zarr3_chunk.layout_of m) bytes word p) ∙ ap Some (zarr_word (zarr3_chunk.layout_of m) bytes word index p inside))
 
 pub in_n5 : (form : Form) (m : n5.Metadata) (bytes : List ℕ) (word : List ℕ → ℕ) (index : List ℕ) → n5.IsMetadata m → form ≡ N5 m → SpellsChunk form bytes word → IsInside (chunk_shape_of form) index → word_in form bytes index ≡ Some (word index)
 in_n5 form m bytes word index valid is =
@@ -92,7 +93,7 @@ in_n5 form m bytes word index valid is =
 pub filled_word : (shape : List ℕ) (fill : ℕ) (index : List ℕ) → IsInside shape index → get_or (replicate (cell_count shape) fill) (c_place shape index) 0 ≡ fill
 filled_word shape fill index inside = get_or-replicate (cell_count shape) (c_place shape index) fill 0 (c_place-lt shape index inside)
 
-zarr_len : (m : zarr.Metadata) (bytes : List ℕ) → zarr_fault m bytes ≡ None → length bytes ≡ chunk.chunk_len m
+zarr_len : (m : chunk.Layout) (bytes : List ℕ) → zarr_fault m bytes ≡ None → length bytes ≡ chunk.chunk_len m
 zarr_len m bytes none =
     elim (true_or_false (eqb (length bytes) (chunk.chunk_len m))) [
       | inl same ↦ eqb-true (length bytes) (chunk.chunk_len m) same
@@ -111,7 +112,7 @@ n5_sound m bytes none = by_fault (block_fault m bytes) refl
 
 -- bytes with nothing wrong spell a chunk
 pub spells_of_no_fault : (form : Form) (bytes : List ℕ) → is_local form ≡ false → ((i : ℕ) → get_or bytes i 0 < 256) → chunk_fault form bytes ≡ None → (word : List ℕ → ℕ) × SpellsChunk form bytes word
-spells_of_no_fault (Zarr meta) bytes stored small none = (chunk.chunk_word meta bytes, SpellsChunk-from_len meta bytes small (zarr_len meta bytes none))
+spells_of_no_fault (Zarr meta) bytes stored small none = (chunk.chunk_word (zarr_chunk.layout_of meta) bytes, SpellsChunk-from_len (zarr_chunk.layout_of meta) bytes small (zarr_len (zarr_chunk.layout_of meta) bytes none))
 spells_of_no_fault (N5 meta) bytes stored small none = SpellsBlock-from_no_fault meta bytes small (n5_sound meta bytes none)
-spells_of_no_fault (Zarr3 meta) bytes stored small none = (chunk.chunk_word (as_zarr meta) bytes, SpellsChunk-from_len (as_zarr meta) bytes small (zarr_len (as_zarr meta) bytes none))
+spells_of_no_fault (Zarr3 meta) bytes stored small none = (chunk.chunk_word (zarr3_chunk.layout_of meta) bytes, SpellsChunk-from_len (zarr3_chunk.layout_of meta) bytes small (zarr_len (zarr3_chunk.layout_of meta) bytes none))
 spells_of_no_fault Local bytes stored small none = absurd (let no_such : ⊥ = cc in no_such)

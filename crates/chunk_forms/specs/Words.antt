@@ -7,16 +7,16 @@ use Rattle.chunk_forms.specs.declared.form.Form.{Form}
 use Rattle.chunk_forms.specs.declared.form.Form.TheVariants.{Zarr, N5, Zarr3, Local}
 use Rattle.chunk_forms.specs.declared.form.Damage.{Damage}
 use Rattle.chunk_forms.specs.declared.form.Damage.TheVariants as damage
-use Rattle.zarr_chunks.specs.Metadata as zarr
-use Rattle.zarr_chunks.specs.Chunk as chunk
-use Rattle.zarr_chunks.specs.declared.chunk.ChunkError.TheVariants.{WrongLength}
+use Rattle.chunk_elements.specs.Chunk as chunk
+use Rattle.zarr_chunks.specs.Chunk as zarr
+use Rattle.chunk_elements.specs.declared.error.ChunkError.TheVariants.{WrongLength}
 use Rattle.n5_blocks.specs.Metadata as n5
 use Rattle.n5_blocks.specs.Block as block
 use Rattle.n5_blocks.specs.Faults.{block_fault, sizes_in, header_len}
-use Rattle.zarr3_chunks.specs.Chunk.{as_zarr}
+use Rattle.zarr3_chunks.specs.Chunk as zarr3
 
 -- bytes of another length than the elements have are no chunk
-abbrev pub zarr_fault : zarr.Metadata → List ℕ → Option Damage
+abbrev pub zarr_fault : chunk.Layout → List ℕ → Option Damage
 zarr_fault m bytes = if length bytes == chunk.chunk_len m then None else Some (damage.Zarr (WrongLength (length bytes) (chunk.chunk_len m)))
 
 abbrev pub n5_fault : n5.Metadata → List ℕ → Option Damage
@@ -24,9 +24,9 @@ n5_fault m bytes = elim (block_fault m bytes) [ None ↦ None | Some cause ↦ S
 
 -- the first thing wrong with a chunk's bytes
 abbrev pub chunk_fault : Form → List ℕ → Option Damage
-chunk_fault (Zarr meta) bytes = zarr_fault meta bytes
+chunk_fault (Zarr meta) bytes = zarr_fault (zarr.layout_of meta) bytes
 chunk_fault (N5 meta) bytes = n5_fault meta bytes
-chunk_fault (Zarr3 meta) bytes = zarr_fault (as_zarr meta) bytes
+chunk_fault (Zarr3 meta) bytes = zarr_fault (zarr3.layout_of meta) bytes
 chunk_fault Local bytes = None
 
 -- the word that a block's bytes have at an index vector; 0 where a smaller block lacks it
@@ -37,9 +37,9 @@ block_word m bytes index =
     else 0
 
 abbrev pub spelled_word : Form → List ℕ → List ℕ → ℕ
-spelled_word (Zarr meta) bytes index = chunk.chunk_word meta bytes index
+spelled_word (Zarr meta) bytes index = chunk.chunk_word (zarr.layout_of meta) bytes index
 spelled_word (N5 meta) bytes index = block_word meta bytes index
-spelled_word (Zarr3 meta) bytes index = chunk.chunk_word (as_zarr meta) bytes index
+spelled_word (Zarr3 meta) bytes index = chunk.chunk_word (zarr3.layout_of meta) bytes index
 spelled_word Local bytes index = 0
 
 -- the word that a chunk's bytes have at an index vector of the chunk; none where the bytes are no chunk

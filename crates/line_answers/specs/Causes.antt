@@ -18,8 +18,8 @@ use Rattle.n5_blocks.specs.declared.chunk.BlockError.{BlockError}
 use Rattle.n5_blocks.specs.declared.chunk.BlockError.TheVariants as block
 use Rattle.spec_open.specs.declared.error.BuildCause.{BuildCause}
 use Rattle.spec_open.specs.declared.error.BuildCause.TheVariants as build
-use Rattle.zarr_chunks.specs.declared.chunk.ChunkError.{ChunkError}
-use Rattle.zarr_chunks.specs.declared.chunk.ChunkError.TheVariants as chunk
+use Rattle.chunk_elements.specs.declared.error.ChunkError.{ChunkError}
+use Rattle.chunk_elements.specs.declared.error.ChunkError.TheVariants as chunk
 
 -- why a step isn't done
 abbrev pub step_cause : StepCause → Cause

@@ -4,10 +4,10 @@ ghost use Rattle.line_answers.specs.Causes.{metadata_body, damage_body, chunk_bo
 
 use answer_text::{Body, MetaWhy, Why};
 use cells::{List, Name};
+use chunk_elements::ChunkError;
 use chunk_forms::Damage;
 use meta_forms::MetaError;
 use n5_blocks::BlockError;
-use zarr_chunks::ChunkError;
 
 /// The answer to an `open` whose array has such metadata under a key, by the events that the line added.
 pub fn bad_metadata(key: Name, cause: MetaError, events: List<u64>) -> Body

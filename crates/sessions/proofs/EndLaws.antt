@@ -25,10 +25,10 @@ use Rattle.n5_blocks.specs.Faults.{size_fault, length_fault, cells_fault, block_
 use Rattle.n5_blocks.specs.Metadata as n5
 use Rattle.n5_blocks.specs.declared.chunk.BlockError.{BlockError}
 use Rattle.n5_blocks.specs.declared.chunk.BlockError.TheVariants as block
-use Rattle.zarr_chunks.specs.Chunk.{chunk_len}
-use Rattle.zarr_chunks.specs.Metadata as zarr
-use Rattle.zarr_chunks.specs.declared.chunk.ChunkError.TheVariants as chunk
-use Rattle.zarr3_chunks.specs.Chunk.{as_zarr}
+use Rattle.chunk_elements.specs.Chunk.{Layout, chunk_len}
+use Rattle.zarr_chunks.specs.Chunk as zarr
+use Rattle.chunk_elements.specs.declared.error.ChunkError.TheVariants as chunk
+use Rattle.zarr3_chunks.specs.Chunk as zarr3
 
 -- the fault is one of the bytes
 abbrev IsOfBlock : Option BlockError → Type 0
@@ -76,7 +76,7 @@ block_of_bytes m bytes =
     (cond (mode_in bytes == 0) (cond (rank_in bytes == length m.block) (cells_fault m.dtype m.block bytes) (Some (block.WrongRank (rank_in bytes)))) (Some (block.WrongMode (mode_in bytes))))
     (λ e. let no_such : ⊥ = cc in no_such) (mode_of_block m bytes)
 
-zarr_of_bytes : (m : zarr.Metadata) (bytes : List ℕ) → IsOfBytes (zarr_fault m bytes)
+zarr_of_bytes : (m : Layout) (bytes : List ℕ) → IsOfBytes (zarr_fault m bytes)
 zarr_of_bytes m bytes = by (length bytes == chunk_len m)
   where
     by : (b : Bool) → IsOfBytes (cond b None (Some (damage.Zarr (chunk.WrongLength (length bytes) (chunk_len m)))))
@@ -101,9 +101,9 @@ n5_of_bytes m bytes = by (block_fault m bytes) (block_of_bytes m bytes)
     by (Some fault) of cause e key printed = let same : damage.N5 fault ≡ cause = cc in told fault (λ is. of (ap Some is)) key (ap (damage_body key) same ∙ printed)
 
 fault_of_bytes : (form : Form) (bytes : List ℕ) → IsOfBytes (chunk_fault form bytes)
-fault_of_bytes (Zarr meta) bytes cause e key printed = zarr_of_bytes meta bytes cause e key printed
+fault_of_bytes (Zarr meta) bytes cause e key printed = zarr_of_bytes (zarr.layout_of meta) bytes cause e key printed
 fault_of_bytes (N5 meta) bytes cause e key printed = n5_of_bytes meta bytes cause e key printed
-fault_of_bytes (Zarr3 meta) bytes cause e key printed = zarr_of_bytes (as_zarr meta) bytes cause e key printed
+fault_of_bytes (Zarr3 meta) bytes cause e key printed = zarr_of_bytes (zarr3.layout_of meta) bytes cause e key printed
 fault_of_bytes Local bytes cause e key printed = let no_such : ⊥ = cc in no_such
 
 -- so it is of a commit

@@ -1,16 +1,15 @@
 ghost use Rattle.std.specs.Prelude.{◌≡◌, ◌≢◌, ◌↔◌, ◌<◌, ◌≤◌, ◌^◌, ℕ, Err, IfOk, IfErr, length, slice_index};
 ghost use Rattle.cells.specs.Numbers.{IsWord};
 ghost use Rattle.cells.specs.Places.{cell_count, c_place};
-ghost use Rattle.zarr_chunks.specs.Chunk.{chunk_len, word_at};
-ghost use Rattle.zarr_chunks.specs.declared.chunk.ChunkError.{ChunkError};
-ghost use Rattle.zarr_chunks.specs.declared.chunk.ChunkError.TheVariants as error;
-ghost use Rattle.zarr3_chunks.specs.Chunk.{SpellsChunk, as_zarr};
+ghost use Rattle.chunk_elements.specs.Chunk.{word_at};
+ghost use Rattle.chunk_elements.specs.declared.error.ChunkError.{ChunkError};
+ghost use Rattle.chunk_elements.specs.declared.error.ChunkError.TheVariants as error;
+ghost use Rattle.zarr3_chunks.specs.Chunk.{SpellsChunk, chunk_len};
 
 use crate::metadata::Zarr3Meta;
 use cells::{Dense, MOST_CHUNK_CELLS, Sizes, count_cells};
-use chunk_elements::{bytes_of, words_of};
+use chunk_elements::{ChunkError, bytes_of, words_of};
 use std::alloc::{AllocError, Global};
-use zarr_chunks::ChunkError;
 
 /// The numbers that a chunk's bytes spell: the elements in C order in the stated byte order, and nothing else.
 ///
@@ -22,10 +21,10 @@ pub fn decode(alloc: Global, m: &Zarr3Meta, bytes: &[u8]) -> Result<Dense, Chunk
     ensures dtype { IfOk result (λ d. d.dtype ≡ m.now.dtype) }
     ensures shape { IfOk result (λ d. d.shape ≡ m.now.chunks) }
     ensures spells { IfOk result (λ d. SpellsChunk m.now bytes.now (word_at d)) }
-    ensures wrong_length { (result ≡ Err (error.WrongLength (length bytes.now) (chunk_len (as_zarr m.now))))
-        ↔ (length bytes.now ≢ chunk_len (as_zarr m.now)) }
+    ensures wrong_length { (result ≡ Err (error.WrongLength (length bytes.now) (chunk_len m.now)))
+        ↔ (length bytes.now ≢ chunk_len m.now) }
     ensures causes { IfErr result (λ e. e ≢ error.Memory
-        → e ≡ error.WrongLength (length bytes.now) (chunk_len (as_zarr m.now))) }
+        → e ≡ error.WrongLength (length bytes.now) (chunk_len m.now)) }
 {
     let count = cells_of(m);
     let want = count * m.dtype.byte_count();
@@ -81,7 +80,7 @@ fn read_words(
     bytes: &[u8],
 ) -> Result<Vec<u64>, AllocError>
     requires count { count ≡ cell_count m.now.chunks }
-    requires full { length bytes.now ≡ chunk_len (as_zarr m.now) }
+    requires full { length bytes.now ≡ chunk_len m.now }
     requires small { count ≤ 2 ^ 24 }
     ensures { IfOk result (λ words. (length words.items ≡ cell_count m.now.chunks)
         × SpellsChunk m.now bytes.now (λ index. slice_index words.items (c_place m.now.chunks index))) }

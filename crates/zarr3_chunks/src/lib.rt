@@ -14,10 +14,10 @@ mod read;
 mod write;
 
 pub use chunk::{decode, encode};
+pub use chunk_elements::ChunkError;
 pub use key::key_of;
 pub use members::{grid_sizes, judged_codecs, judged_dtype, judged_keys, judged_node};
 pub use meta_forms::MetaError;
 pub use metadata::{Zarr3Meta, Zarr3Want};
 pub use read::read_meta;
 pub use write::write_meta;
-pub use zarr_chunks::ChunkError;

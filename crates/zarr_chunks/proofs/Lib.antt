@@ -1,5 +1,3 @@
-pub mod ChunkLaws
 pub mod MetadataLaws
 pub mod TypeLaws
 pub mod ReadLaws
-pub mod Laws

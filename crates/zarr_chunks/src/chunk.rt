@@ -8,20 +8,8 @@ ghost use Rattle.zarr_chunks.specs.Chunk.{SpellsChunk, chunk_len, word_at};
 
 use crate::metadata::ZarrMeta;
 use cells::{Dense, Dtype, MOST_CHUNK_CELLS, Order, Sizes, count_cells};
-use chunk_elements::{bytes_of, put_block, words_of, words_of_block};
+use chunk_elements::{ChunkError, bytes_of, put_block, words_of, words_of_block};
 use std::alloc::{AllocError, Global};
-use thiserror::Error;
-
-/// Why bytes are no chunk.
-#[derive(Clone, Copy, Debug, PartialEq, Eq, Error)]
-pub enum ChunkError {
-    /// There are `have` bytes; the chunk shape and the dtype want `want`.
-    #[error("a chunk of {want} bytes has {have}")]
-    WrongLength { have: u64, want: u64 },
-    /// An allocation failed.
-    #[error("out of memory")]
-    Memory,
-}
 
 /// The numbers that a chunk's bytes spell: the elements in the stated order and byte order, and nothing else.
 ///

@@ -13,7 +13,8 @@ mod read;
 mod write;
 
 pub use cells::{is_chunk_shape, is_shape};
-pub use chunk::{ChunkError, decode, encode};
+pub use chunk::{decode, encode};
+pub use chunk_elements::ChunkError;
 pub use key::key_of;
 pub use members::{
     ElementType, judged_compressor, judged_fill, judged_filters, judged_order, judged_separator,

@@ -2,8 +2,8 @@ use Rattle.std.proofs.Common.{◌≡◌, length, sym, ap, subst, ◌∙◌, arit
 use Rattle.std.specs.Prelude.{All}
 use Rattle.cells.specs.Numbers.{IsWord}
 use Rattle.cells.specs.Places.{cell_count}
-use Rattle.zarr_chunks.proofs.Laws.{All-from_chunk}
-use Rattle.zarr3_chunks.specs.Chunk.{as_zarr}
+use Rattle.chunk_elements.proofs.Laws.{All-from_chunk}
+use Rattle.zarr3_chunks.specs.Chunk.{layout_of}
 use Rattle.zarr3_chunks.proofs.chunk.decode.Goals as goal
 
 pub of_words-requires : goal.of_words-requires
@@ -11,7 +11,7 @@ of_words-requires c =
     let shape : c.wrap.result ≡ c.m.inside.chunks = c.wrap.ensures ∙ c.in-Ok-from_slice.ensures.items ∙ c.items.ensures in
     let words : c.deref.result.now ≡ c.in-Ok.words.items = c.deref.ensures.value in
     let of_dtype : All (IsWord c.m.inside.dtype) c.in-Ok.words.items =
-    subst (λ m. All (IsWord m.dtype) c.in-Ok.words.items) (sym c.m.view_is) (All-from_chunk (as_zarr c.args.m.now) c.args.bytes.now c.in-Ok.words.items c.in-Ok.ensures.0 c.in-Ok.ensures.1) in
+    subst (λ m. All (IsWord m.dtype) c.in-Ok.words.items) (sym c.m.view_is) (All-from_chunk (layout_of c.args.m.now) c.args.bytes.now c.in-Ok.words.items c.in-Ok.ensures.0 c.in-Ok.ensures.1) in
     record {
       rank = omega (arith, ap length shape, c.m.invariant.ranks, c.m.invariant.shape.rank);
       small = rw shape c.m.invariant.chunks.volume;

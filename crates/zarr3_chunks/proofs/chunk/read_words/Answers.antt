@@ -1,8 +1,8 @@
 use Rattle.std.proofs.Common.{◌≡◌, get_or, refl, sym, ap, subst, ◌∙◌}
 use Rattle.std.proofs.lemmas.Result.{IfOk-weaker}
 use Rattle.cells.specs.Places.{cell_count, c_place}
-use Rattle.zarr3_chunks.specs.Chunk.{SpellsChunk, as_zarr}
-use Rattle.zarr_chunks.proofs.Laws.{SpellsChunk-from_c}
+use Rattle.zarr3_chunks.specs.Chunk.{SpellsChunk}
+use Rattle.chunk_elements.proofs.Laws.{SpellsChunk-from_c}
 use Rattle.zarr3_chunks.proofs.chunk.read_words.Goals as goal
 
 pub returns : goal.returns
@@ -12,6 +12,6 @@ returns c =
     (λ v s. (
       s.full ∙ c.requires.count,
       subst (λ m. SpellsChunk m c.args.bytes.now (λ index. get_or v.items (c_place m.chunks index) 0)) c.m.view_is
-          (SpellsChunk-from_c (as_zarr _) c.args.bytes.now v.items refl (s.full ∙ full) s.are_words s.spelled),
+          (SpellsChunk-from_c _ c.args.bytes.now v.items refl (s.full ∙ full) s.are_words s.spelled),
     ))
     c.words_of.ensures

@@ -1,4 +1,4 @@
-use Rattle.zarr_chunks.proofs.ChunkLaws.{chunk_cells}
+use Rattle.chunk_elements.proofs.Laws.{chunk_cells}
 use Rattle.zarr_chunks.proofs.chunk.bytes_of_block.Goals as goal
 
 pub put_block-requires-clause-cells : goal.put_block-requires-clause-cells

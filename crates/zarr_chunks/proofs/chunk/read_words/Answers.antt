@@ -3,7 +3,7 @@ use Rattle.std.proofs.lemmas.Result.{IfOk-weaker}
 use Rattle.cells.specs.Places.{cell_count, c_place}
 use Rattle.chunk_elements.specs.Blocks.{AreStored}
 use Rattle.zarr_chunks.specs.Chunk.{SpellsChunk}
-use Rattle.zarr_chunks.proofs.ChunkLaws.{chunk_cells, SpellsChunk-from_c, SpellsChunk-from_f}
+use Rattle.chunk_elements.proofs.Laws.{chunk_cells, SpellsChunk-from_c, SpellsChunk-from_f}
 use Rattle.zarr_chunks.proofs.chunk.read_words.Goals as goal
 
 pub words_of_block-requires-clause-cells : goal.words_of_block-requires-clause-cells

@@ -4,7 +4,7 @@ use Rattle.cells.specs.Numbers.{IsWord}
 use Rattle.cells.specs.Places.{cell_count, c_place}
 use Rattle.chunk_elements.specs.Blocks.{StoresWords}
 use Rattle.zarr_chunks.specs.Chunk.{SpellsChunk}
-use Rattle.zarr_chunks.proofs.ChunkLaws.{All-from_each, SpellsChunk-from_c, SpellsChunk-from_f}
+use Rattle.chunk_elements.proofs.Laws.{All-from_each, SpellsChunk-from_c, SpellsChunk-from_f}
 use Rattle.zarr_chunks.proofs.chunk.write_words.Goals as goal
 
 pub returns-in-C : goal.returns-in-C

@@ -1,30 +1,29 @@
 -- A chunk is its words in the stored order, one after another.
-use Rattle.std.proofs.Common.{◌≡◌, ℕ, zero, suc, ◌+◌, ◌*◌, ◌<◌, ◌≤◌, Bool, false, List, [], ◌∷◌, length, take, drop, get_or, sym, ap, subst, ◌∙◌, arith}
+use Rattle.std.proofs.Common.{◌≡◌, ℕ, ◌+◌, ◌*◌, ◌<◌, ◌≤◌, Bool, false, List, [], length, take, drop, get_or, sym, ap, subst, ◌∙◌, arith}
 use Rattle.std.specs.Prelude.{All}
 use Rattle.std.proofs.Math.Nat.{mul-le-mul_left}
-use Rattle.std.proofs.lemmas.List.{length-take-le, length-drop, get_or-drop}
+use Rattle.std.proofs.lemmas.List.{length-take-le, length-drop}
 use Rattle.std.proofs.lemmas.List.Elements.{All-from_get_or, All-get_or}
 use Rattle.cells.specs.Numbers.{IsWord}
 use Rattle.cells.specs.Bytes.{byte_count, word_bytes, word_of_bytes}
-use Rattle.cells.specs.Places.{cell_count, IsInside, place_of, c_place, f_place, c_index, f_index}
+use Rattle.cells.specs.Places.{cell_count, IsInside, place_of, c_place, c_index}
 use Rattle.cells.specs.declared.dtype.Dtype.{Dtype}
 use Rattle.cells.specs.declared.order.Order.TheVariants.{C, F}
-use Rattle.cells.proofs.Laws.{word_of_bytes-word_bytes, word_bytes-word_of_bytes, IsWord-word_of_bytes, place_of-lt, c_place-lt, IsInside-c_index, c_place-c_index, IsInside-f_index, f_place-f_index, cell_count-pos}
+use Rattle.cells.proofs.Laws.{word_of_bytes-word_bytes, word_bytes-word_of_bytes, IsWord-word_of_bytes, place_of-lt, c_place-lt, IsInside-c_index, c_place-c_index, cell_count-pos}
 use Rattle.cells.specs.Dense.{DenseCells, IsDense}
 use Rattle.cells.specs.Items.{SpellsItems}
 use Rattle.cells.specs.Shapes.{IsChunkShape}
-use Rattle.zarr_chunks.specs.Metadata.{Metadata}
-use Rattle.zarr_chunks.specs.Chunk.{element_bytes, word_at, SpellsChunk, chunk_len, chunk_word}
 use Rattle.chunk_elements.specs.Blocks.{StoresWords}
+use Rattle.chunk_elements.specs.Chunk.{Layout, element_bytes, word_at, SpellsChunk, chunk_len, chunk_word}
 use Rattle.chunk_elements.specs.Words.{SpellsWords}
-use Rattle.chunk_elements.proofs.Laws.{small-drop, small-take}
+use Rattle.chunk_elements.proofs.PartLaws.{small-drop, small-take}
 
 -- a chunk has a cell
 pub chunk_cells : (chunks : List ℕ) → IsChunkShape chunks → 0 < cell_count chunks
 chunk_cells chunks is = cell_count-pos chunks is.least
 
 -- words one after another in C order are a chunk in C order
-pub SpellsChunk-from_c : (m : Metadata) (bytes words : List ℕ) → m.order ≡ C → length words ≡ cell_count m.chunks → All (IsWord m.dtype) words → SpellsWords m.dtype m.big bytes words
+pub SpellsChunk-from_c : (m : Layout) (bytes words : List ℕ) → m.order ≡ C → length words ≡ cell_count m.chunks → All (IsWord m.dtype) words → SpellsWords m.dtype m.big bytes words
     → SpellsChunk m bytes (λ index. get_or words (c_place m.chunks index) 0)
 SpellsChunk-from_c m bytes words is full are spells = record {
   count = spells.count ∙ ap (λ n. n * byte_count m.dtype) full;
@@ -37,7 +36,7 @@ SpellsChunk-from_c m bytes words is full are spells = record {
 }
 
 -- items are a chunk in C order with the lowest byte first
-pub SpellsChunk-from_items : (m : Metadata) (bytes : List ℕ) (d : DenseCells) → m.order ≡ C → m.big ≡ false → d.dtype ≡ m.dtype → d.shape ≡ m.chunks → IsDense d → SpellsItems d.dtype bytes d.words
+pub SpellsChunk-from_items : (m : Layout) (bytes : List ℕ) (d : DenseCells) → m.order ≡ C → m.big ≡ false → d.dtype ≡ m.dtype → d.shape ≡ m.chunks → IsDense d → SpellsItems d.dtype bytes d.words
     → SpellsChunk m bytes (word_at d)
 SpellsChunk-from_items m bytes d order little same shape dense spells =
     let spelled : SpellsWords m.dtype m.big bytes d.words = record {
@@ -49,7 +48,7 @@ SpellsChunk-from_items m bytes d order little same shape dense spells =
     subst (λ (s : List ℕ). SpellsChunk m bytes (λ index. get_or d.words (c_place s index) 0)) (sym shape) base
 
 -- a whole block of words is a chunk in F order
-pub SpellsChunk-from_f : (m : Metadata) (bytes words : List ℕ) → m.order ≡ F → length words ≡ cell_count m.chunks → All (IsWord m.dtype) words → StoresWords m.dtype m.big m.chunks m.chunks bytes words
+pub SpellsChunk-from_f : (m : Layout) (bytes words : List ℕ) → m.order ≡ F → length words ≡ cell_count m.chunks → All (IsWord m.dtype) words → StoresWords m.dtype m.big m.chunks m.chunks bytes words
     → SpellsChunk m bytes (λ index. get_or words (c_place m.chunks index) 0)
 SpellsChunk-from_f m bytes words is full are stores = record {
   count = stores.count;
@@ -64,14 +63,14 @@ pub All-from_each : (dtype : Dtype) (words : List ℕ) → ((p : ℕ) → p < le
 All-from_each dtype words each = All-from_get_or (IsWord dtype) words 0 each
 
 -- the words that a chunk's bytes spell are words of its dtype
-pub All-from_chunk : (m : Metadata) (bytes words : List ℕ) → length words ≡ cell_count m.chunks → SpellsChunk m bytes (λ index. get_or words (c_place m.chunks index) 0) → All (IsWord m.dtype) words
+pub All-from_chunk : (m : Layout) (bytes words : List ℕ) → length words ≡ cell_count m.chunks → SpellsChunk m bytes (λ index. get_or words (c_place m.chunks index) 0) → All (IsWord m.dtype) words
 All-from_chunk m bytes words full spells =
     All-from_get_or (IsWord m.dtype) words 0
     (λ p less. let below : p < cell_count m.chunks = omega arith in
     subst (λ q. IsWord m.dtype (get_or words q 0)) (c_place-c_index m.chunks p below) (spells.are_words (c_index m.chunks p) (IsInside-c_index m.chunks p below)))
 
 -- a chunk's bytes spell no other words
-pub SpellsChunk-unique : (m : Metadata) (bytes : List ℕ) (word : List ℕ → ℕ) → SpellsChunk m bytes word → (index : List ℕ) → IsInside m.chunks index → word index ≡ chunk_word m bytes index
+pub SpellsChunk-unique : (m : Layout) (bytes : List ℕ) (word : List ℕ → ℕ) → SpellsChunk m bytes word → (index : List ℕ) → IsInside m.chunks index → word index ≡ chunk_word m bytes index
 SpellsChunk-unique m bytes word spells index within =
     sym (ap (word_of_bytes m.dtype m.big) (spells.elements index within) ∙ word_of_bytes-word_bytes m.dtype m.big (word index) (spells.are_words index within))
 
@@ -83,7 +82,7 @@ length-element size count p bytes full less =
     length-take-le size (drop (p * size) bytes) (rw length-drop (omega (arith, element_fits size count p less, full)))
 
 -- bytes of a chunk's length spell a chunk
-pub SpellsChunk-from_len : (m : Metadata) (bytes : List ℕ) → ((i : ℕ) → get_or bytes i 0 < 256) → length bytes ≡ chunk_len m → SpellsChunk m bytes (chunk_word m bytes)
+pub SpellsChunk-from_len : (m : Layout) (bytes : List ℕ) → ((i : ℕ) → get_or bytes i 0 < 256) → length bytes ≡ chunk_len m → SpellsChunk m bytes (chunk_word m bytes)
 SpellsChunk-from_len m bytes small full = record {
   count = full;
   elements = λ index within. sym (word_bytes-word_of_bytes m.dtype m.big _
