@@ -26,7 +26,7 @@ use Rattle.session_openings.proofs.RefusalLaws.{memory_with, unseen_with, unseen
 use Rattle.session_turns.specs.Opening.{IsLeafTurn, IsGivenTurn, AreOpenedBy, open_answer, IsUnseen}
 use Rattle.session_turns.specs.Turns.{IsRested, IsTurn, HasPassed, added_by}
 use Rattle.session_turns.proofs.Laws.{passed_of_turn, passed_then, opens_stored, opens_given, refused_row, wanting_before, wanting_behind, adds_none}
-use Rattle.sessions.specs.Standing.{session_state, transaction_in}
+use Rattle.session_turns.specs.Standing.{session_state, transaction_in}
 use Rattle.stack_driver.specs.References.{Reference}
 use Rattle.state_laws.specs.Agreement.{Opening}
 use Rattle.state_laws.specs.Openings.{IsOpening, IsOpenedBy, HasFailedLeaf}

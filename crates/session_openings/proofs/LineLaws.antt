@@ -30,10 +30,9 @@ use Rattle.session_openings.proofs.PlanLaws.{length-leaves, build-full}
 use Rattle.session_openings.proofs.RefusalLaws.{memory_with}
 use Rattle.session_turns.specs.Opening.{AreOpenedBy}
 use Rattle.session_turns.specs.Turns.{IsRested, HasPassed, added_by}
-use Rattle.session_turns.proofs.Laws.{none_added, passed_alone}
-use Rattle.sessions.specs.Standing.{session_state, transaction_in}
-use Rattle.sessions.specs.Told.{IsTold, IsBoundAs, IsToldBy}
-use Rattle.sessions.proofs.Laws.{kept_bound, outside_none}
+use Rattle.session_turns.proofs.Laws.{none_added, passed_alone, kept_bound, outside_none}
+use Rattle.session_turns.specs.Standing.{session_state, transaction_in}
+use Rattle.session_turns.specs.Told.{IsTold, IsBoundAs, IsToldBy}
 use Rattle.spec_open.specs.Built.{built}
 use Rattle.spec_open.specs.Conditions.{IsTree}
 use Rattle.spec_open.specs.declared.error.BuildCause as build_causes

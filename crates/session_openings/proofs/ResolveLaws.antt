@@ -24,10 +24,9 @@ use Rattle.history.proofs.Laws.{array_known}
 use Rattle.line_answers.specs.Bodies.{body_of}
 use Rattle.session_openings.specs.Renewing.{IsBoundAnew, IsRenewed}
 use Rattle.session_turns.specs.Turns.{IsRested, IsTurn, HasPassed, added_by}
-use Rattle.session_turns.proofs.Laws.{IsThere, ref_there, new_shape, own_of_turn, passed_of_turn, view_then}
-use Rattle.sessions.specs.Standing.{session_state, transaction_in}
-use Rattle.sessions.specs.Told.{IsTold, IsAnswerTo, IsBoundAs}
-use Rattle.sessions.proofs.Laws.{told_wanting, kept_bound}
+use Rattle.session_turns.proofs.Laws.{IsThere, ref_there, new_shape, own_of_turn, passed_of_turn, view_then, told_wanting, kept_bound}
+use Rattle.session_turns.specs.Standing.{session_state, transaction_in}
+use Rattle.session_turns.specs.Told.{IsTold, IsAnswerTo, IsBoundAs}
 use Rattle.stack_driver.specs.Conditions.{IsView}
 use Rattle.stack_driver.specs.References.{Reference, IsReference}
 use Rattle.stack_driver.specs.Renewed.{array_of, renewed, IsNewShape}

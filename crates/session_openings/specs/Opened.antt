@@ -16,8 +16,8 @@ use Rattle.line_answers.specs.Bodies.{body_of}
 use Rattle.line_meanings.specs.Openings.{leaves_of, build_of}
 use Rattle.session_openings.specs.Events.{AreTold}
 use Rattle.session_turns.specs.Turns.{HasPassed, added_by}
-use Rattle.sessions.specs.Standing.{session_state, transaction_in}
-use Rattle.sessions.specs.Told.{IsBoundAs}
+use Rattle.session_turns.specs.Standing.{session_state, transaction_in}
+use Rattle.session_turns.specs.Told.{IsBoundAs}
 use Rattle.spec_open.specs.Built.{built}
 use Rattle.spec_open.specs.declared.error.BuildError.{BuildError}
 use Rattle.spec_open.specs.declared.error.BuildError.TheVariants as build_error

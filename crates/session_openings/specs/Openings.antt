@@ -15,7 +15,7 @@ use Rattle.session_openings.specs.Events.{IsArrayOpened, AreTold}
 use Rattle.session_openings.specs.declared.opening.OpenedArrays.{OpenedArrays}
 use Rattle.session_turns.specs.Opening.{AreOpenedBy}
 use Rattle.session_turns.specs.Turns.{HasPassed, added_by}
-use Rattle.sessions.specs.Standing.{session_state, transaction_in}
+use Rattle.session_turns.specs.Standing.{session_state, transaction_in}
 use Rattle.stack_driver.specs.References.{Reference}
 use Rattle.state_laws.specs.Agreement.{Opening}
 use Rattle.state_resizes.specs.Answers.{fixed_by}

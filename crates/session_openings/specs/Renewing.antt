@@ -4,7 +4,7 @@ use Rattle.answer_text.specs.declared.answer.Body.{Body}
 use Rattle.answer_text.specs.declared.answer.Body.TheVariants.{Resolved, RefusedView, Memory}
 use Rattle.history.specs.Answers.{Text}
 use Rattle.history.specs.Sessions.{Names}
-use Rattle.sessions.specs.Told.{IsBoundAs}
+use Rattle.session_turns.specs.Told.{IsBoundAs}
 use Rattle.stack_driver.specs.Conditions.{IsView}
 use Rattle.stack_driver.specs.Renewed.{renewed}
 use Rattle.stack_driver.specs.Views.{look_of, own_transform}

@@ -1,6 +1,6 @@
 //! The lines of a session that open a Spec or take a view's bounds anew.
 //!
-//! Crates above rest on the relation of `sessions`, `IsToldBy`: what a line is answered is the printed answer of a row of the history's
+//! Crates above rest on the relation of `session_turns`, `IsToldBy`: what a line is answered is the printed answer of a row of the history's
 //! session. Of every store there is `AreTold`: the answer tells the events that the line added.
 #![tactic(auto)]
 

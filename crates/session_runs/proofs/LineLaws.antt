@@ -20,12 +20,12 @@ use Rattle.line_parts.specs.declared.error.LineError.{LineError}
 use Rattle.line_parts.specs.declared.error.LineError.TheVariants as line
 use Rattle.session_runs.specs.Session.{MayGoOn, IsLineTold}
 use Rattle.session_turns.specs.Turns.{IsRested, HasPassed}
-use Rattle.session_turns.proofs.Laws.{passed_alone, names_then}
+use Rattle.session_turns.proofs.Laws.{passed_alone, names_then, told_alone, told_without, refusal}
 use Rattle.sessions.specs.Commits.{HasSoundTxn, IsCommitTold}
 use Rattle.sessions.specs.Reads.{IsReadTold}
-use Rattle.sessions.specs.Standing.{session_state, transaction_in, AreViews}
-use Rattle.sessions.specs.Told.{IsToldAlone, IsToldBy, IsAnswerTo}
-use Rattle.sessions.proofs.Laws.{told_alone, told_without, refusal, sound_later}
+use Rattle.session_turns.specs.Standing.{session_state, transaction_in, AreViews}
+use Rattle.session_turns.specs.Told.{IsToldAlone, IsToldBy, IsAnswerTo}
+use Rattle.sessions.proofs.Laws.{sound_later}
 use Rattle.spec_forms.specs.declared.error.SpecError.TheVariants as spec
 use Rattle.state_laws.specs.Agreement.{Opening}
 use Rattle.state_laws.specs.Outline.{outline}

@@ -24,8 +24,8 @@ use Rattle.session_runs.specs.Session.{SessionSeen, numbers_from, MayGoOn, IsLin
 use Rattle.session_runs.proofs.EndRows.{IsWanting, answer_wants}
 use Rattle.session_turns.specs.Turns.{IsRested, HasPassed}
 use Rattle.sessions.specs.Commits.{HasSoundTxn}
-use Rattle.sessions.specs.Standing.{session_state, transaction_in}
-use Rattle.sessions.specs.Told.{IsTold}
+use Rattle.session_turns.specs.Standing.{session_state, transaction_in}
+use Rattle.session_turns.specs.Told.{IsTold}
 use Rattle.state_laws.specs.Agreement.{Opening}
 use Rattle.state_resizes.specs.Answers.{fixed_by}
 use Rattle.transactions.specs.Txn.{TxnSeen}

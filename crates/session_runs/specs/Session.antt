@@ -16,8 +16,8 @@ use Rattle.kv_face.specs.Store.{Contents}
 use Rattle.line_answers.specs.Bodies.{answer_of}
 use Rattle.session_turns.specs.Turns.{IsRested}
 use Rattle.sessions.specs.Commits.{HasSoundTxn}
-use Rattle.sessions.specs.Standing.{session_state, transaction_in, AreViews}
-use Rattle.sessions.specs.Told.{IsToldBy}
+use Rattle.session_turns.specs.Standing.{session_state, transaction_in, AreViews}
+use Rattle.session_turns.specs.Told.{IsToldBy}
 use Rattle.state_laws.specs.Agreement.{Opening, TakesMount}
 use Rattle.state_resizes.specs.Answers.{fixed_by}
 use Rattle.transactions.specs.Txn.{TxnSeen}

@@ -15,7 +15,7 @@ use answer_text::{Answer, Body};
 use cells::Name;
 use indexmap::IndexMap;
 use kv_face::KvStore;
-use sessions::Names;
+use session_turns::Names;
 use shared_state::State;
 use std::alloc::{AllocError, Global};
 use std::sync::Wait;

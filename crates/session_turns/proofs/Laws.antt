@@ -13,3 +13,15 @@ pub use Rattle.session_turns.proofs.OpenLaws.{opens_stored, opens_given}
 pub use Rattle.session_turns.proofs.RefusedLaws.{refused_row, wanting_before, wanting_behind, adds_none}
 -- names of views of known arrays stay such behind a turn, and so is a view with its array's present bounds
 pub use Rattle.session_turns.proofs.NameLaws.{view_then, names_then, renewed_known}
+-- want of memory, and a refusal, are rows of each line, over whatever events; so is a name that is bound to what the line asks
+pub use Rattle.session_turns.proofs.ToldLaws.{told_wanting, told_refused, told_bound}
+-- so is a refusal of a line that may take turns, where it takes none
+pub use Rattle.session_turns.proofs.AloneLaws.{told_alone, told_without}
+-- what every name's view keeps, names keep once one of them is bound to a view that does
+pub use Rattle.session_turns.proofs.ToldLaws.{kept_bound}
+-- what is asked outside of a transaction, and of a name that isn't bound; an answer to what is the same
+pub use Rattle.session_turns.proofs.ToldLaws.{refusal, outside_some, outside_none, named_none, answer_at}
+-- what holds of an answer, by what holds of another
+pub use Rattle.session_turns.proofs.AnswerLaws.{if_ok_map, if_ok_both, if_err_map, changed_known}
+-- what refuses a view by the count of its cells, and by the first cell without a target
+pub use Rattle.session_turns.proofs.FaultLaws.{found_all, out_of_range_fault, uncovered_fault, counted_view, refused_by_count, refused_by_cell, counted_sound}

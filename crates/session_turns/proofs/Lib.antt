@@ -7,4 +7,9 @@ pub mod RefusedLaws
 pub mod RefLaws
 pub mod NameLaws
 pub mod TurnLaws
+pub mod ToldLaws
+pub mod AloneLaws
+pub mod AnswerLaws
+pub mod FaultLaws
+pub mod WalkLaws
 pub mod Laws

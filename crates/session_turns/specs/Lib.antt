@@ -1,3 +1,5 @@
 pub mod Turns
 pub mod Opening
 pub mod Asked
+pub mod Standing
+pub mod Told

@@ -6,8 +6,8 @@ use Rattle.history.specs.Answers as old
 use Rattle.history.specs.Lines.{beginning, aborting}
 use Rattle.history.specs.Sessions.{Names}
 use Rattle.history.specs.Steps.{done_line, refused_line, begin_done, abort_done}
-use Rattle.sessions.specs.Standing.{session_state, transaction_in}
-use Rattle.sessions.specs.Told.{IsToldAlone}
+use Rattle.session_turns.specs.Standing.{session_state, transaction_in}
+use Rattle.session_turns.specs.Told.{IsToldAlone}
 use Rattle.transactions.specs.Txn.{TxnSeen}
 
 -- where a transaction stands none is begun

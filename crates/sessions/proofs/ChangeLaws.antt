@@ -21,8 +21,8 @@ use Rattle.history.proofs.StepsKnown.{IsActKnown, act_of-known}
 use Rattle.index_transform.specs.Transforms.{DomainAndMaps}
 use Rattle.line_answers.specs.Causes.{step_cause}
 use Rattle.line_meanings.specs.Changes.{cause_of, by_view, by_transform, under_steps, by_steps, steps_of, changes_of}
-use Rattle.sessions.specs.Told.{IsAnswerTo}
-use Rattle.sessions.proofs.ToldLaws.{refusal}
+use Rattle.session_turns.specs.Told.{IsAnswerTo}
+use Rattle.session_turns.proofs.Laws.{refusal}
 use Rattle.stack_driver.specs.Views.{own_transform}
 use Rattle.stack_driver.specs.declared.view.View.{View}
 use Rattle.step_forms.specs.declared.act.Step.{Step}

@@ -26,8 +26,8 @@ use Rattle.line_answers.specs.Bodies.{body_of}
 use Rattle.session_turns.specs.Turns.{IsRested, IsTurn, HasPassed, added_by}
 use Rattle.session_turns.proofs.Laws.{own_of_turn, none_added, same_rest, passed_of_turn, passed_alone}
 use Rattle.sessions.specs.Commits.{HasSoundTxn, left_behind, IsCommittedAs, IsCommitTold}
-use Rattle.sessions.specs.Standing.{session_state, transaction_in}
-use Rattle.sessions.specs.Told.{IsTold, IsToldBy}
+use Rattle.session_turns.specs.Standing.{session_state, transaction_in}
+use Rattle.session_turns.specs.Told.{IsTold, IsToldBy}
 use Rattle.stack_driver.specs.declared.view.View.{View}
 use Rattle.state_laws.specs.Agreement.{Opening}
 use Rattle.state_laws.specs.Outline.{outline}

@@ -13,8 +13,8 @@ use Rattle.layer_join.specs.declared.error.JoinError.{JoinError}
 use Rattle.layer_join.specs.declared.error.JoinError.TheVariants as join
 use Rattle.line_answers.specs.Bodies.{body_of}
 use Rattle.line_meanings.specs.Joins.{by_join, join_cause_of}
-use Rattle.sessions.specs.Told.{IsAnswerTo}
-use Rattle.sessions.proofs.ToldLaws.{refusal}
+use Rattle.session_turns.specs.Told.{IsAnswerTo}
+use Rattle.session_turns.proofs.Laws.{refusal}
 use Rattle.stack_driver.specs.Conditions.{IsView}
 use Rattle.stack_driver.specs.declared.view.View.{View}
 

@@ -1,12 +1,8 @@
-pub mod ToldLaws
 pub mod BeginLaws
 pub mod ChangeLaws
 pub mod JoinLaws
 pub mod ResizeLaws
 pub mod RowLaws
-pub mod AnswerLaws
-pub mod FaultLaws
-pub mod WalkLaws
 pub mod CommitRows
 pub mod WriteLaws
 pub mod StageLaws

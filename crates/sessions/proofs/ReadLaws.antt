@@ -15,7 +15,7 @@ use Rattle.line_answers.specs.Bodies.{body_of}
 use Rattle.line_forms.specs.declared.command.DownWant.{DownWant}
 use Rattle.line_meanings.specs.Numbers.{downsampling, downsampling_of}
 use Rattle.sessions.specs.Reads.{HasRank}
-use Rattle.sessions.proofs.FaultLaws.{counted_sound}
+use Rattle.session_turns.proofs.Laws.{counted_sound}
 use Rattle.stack_driver.specs.Views.{look_of}
 use Rattle.stack_driver.specs.declared.view.View.{View}
 use Rattle.transform_composition.specs.declared.error.ComposeError.TheVariants as compose

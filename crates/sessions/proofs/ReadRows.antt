@@ -27,15 +27,12 @@ use Rattle.history.proofs.Laws.{known_after-more}
 use Rattle.kv_face.specs.Store.{Contents}
 use Rattle.line_answers.specs.Bodies.{body_of}
 use Rattle.session_turns.specs.Turns.{IsRested, IsTurn, HasPassed, added_by}
-use Rattle.session_turns.proofs.Laws.{own_of_turn, none_added, passed_of_turn, passed_alone}
+use Rattle.session_turns.proofs.Laws.{own_of_turn, none_added, passed_of_turn, passed_alone, found_all, told_without, told_wanting}
 use Rattle.sessions.specs.Commits.{HasSoundTxn}
 use Rattle.sessions.specs.Reads.{IsAnsweredRead, IsReadAs, IsReadTold, IsUnread}
-use Rattle.sessions.specs.Standing.{session_state, transaction_in}
-use Rattle.sessions.specs.Told.{IsAnswerTo, IsTold, IsToldBy}
+use Rattle.session_turns.specs.Standing.{session_state, transaction_in}
+use Rattle.session_turns.specs.Told.{IsAnswerTo, IsTold, IsToldBy}
 use Rattle.sessions.proofs.CommitRows.{sound_later}
-use Rattle.sessions.proofs.FaultLaws.{found_all}
-use Rattle.sessions.proofs.RowLaws.{told_without}
-use Rattle.sessions.proofs.ToldLaws.{told_wanting}
 use Rattle.stack_driver.specs.Conditions.{IsView}
 use Rattle.stack_driver.specs.Targets.{Cell}
 use Rattle.stack_driver.specs.declared.view.View.{View}

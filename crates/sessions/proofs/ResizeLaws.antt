@@ -16,8 +16,8 @@ use Rattle.history.specs.Lines.{resizing}
 use Rattle.history.specs.Sessions.{Names}
 use Rattle.history.proofs.Laws.{array_known}
 use Rattle.session_turns.proofs.Laws.{asked_then, view_then}
-use Rattle.sessions.specs.Standing.{transaction_in}
-use Rattle.sessions.specs.Told.{IsAnswerTo}
+use Rattle.session_turns.specs.Standing.{transaction_in}
+use Rattle.session_turns.specs.Told.{IsAnswerTo}
 use Rattle.stack_driver.specs.References.{Reference}
 use Rattle.stack_driver.specs.Renewed.{array_of}
 use Rattle.stack_driver.specs.declared.view.View.{View}

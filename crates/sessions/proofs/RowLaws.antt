@@ -1,21 +1,18 @@
 -- Rows of lines that take a turn.
 use Rattle.std.proofs.Common.{◌≡◌, ◌∙◌, ℕ, ◌+◌, List, length, Option, Result, Ok, Err, refl, sym, ap, subst}
-use Rattle.answer_text.specs.declared.answer.Body.{Body}
 use Rattle.history.specs.declared.event.Event.{Event}
 use Rattle.history.specs.Acts.{resizes, act_of}
 use Rattle.history.specs.Answers.{Text}
-use Rattle.history.specs.Commit.{Transaction}
-use Rattle.history.specs.Lines.{Line, resizing}
+use Rattle.history.specs.Lines.{resizing}
 use Rattle.history.specs.Own.{numbered}
-use Rattle.history.specs.Sessions.{Names, SessionState}
+use Rattle.history.specs.Sessions.{Names}
 use Rattle.history.specs.Steps.{IsAnswered}
 use Rattle.line_answers.specs.Bodies.{body_of}
 use Rattle.sessions.specs.Bodies.{resized_answer}
-use Rattle.sessions.specs.Standing.{session_state, transaction_in}
-use Rattle.sessions.specs.Told.{IsTold, IsToldAlone, IsAnswerTo, IsToldBy}
+use Rattle.session_turns.specs.Standing.{session_state, transaction_in}
+use Rattle.session_turns.specs.Told.{IsToldBy}
 use Rattle.session_turns.specs.Turns.{IsRested, added_by, IsResizeTurn}
-use Rattle.session_turns.proofs.Laws.{own_of_turn, none_added, same_rest}
-use Rattle.sessions.proofs.ToldLaws.{told_refused}
+use Rattle.session_turns.proofs.Laws.{own_of_turn, same_rest}
 use Rattle.state_laws.specs.Agreement.{Opening}
 use Rattle.state_resizes.specs.Answers.{fixed_by}
 use Rattle.state_resizes.specs.declared.error.ResizeError.{ResizeError}
@@ -25,16 +22,6 @@ use Rattle.state_resizes.proofs.Laws as resizes_laws
 use Rattle.stack_driver.specs.References.{Reference}
 use Rattle.transactions.specs.Txn.{TxnSeen}
 use Rattle.turn_book.specs.Passes.{BookView, PassView}
-
-module _ (book : BookView Opening) (old : PassView Event Opening) where
-  -- what takes no turn adds no event
-  pub told_alone : (s : SessionState) (line : ℕ) (asked : Line) (names : Names) (t : Option Transaction) (answer : Body) → IsToldAlone s line asked names t answer → IsToldBy book old old s line asked names t answer
-  told_alone s line asked names t answer told start is =
-      subst (IsTold (fixed_by book.fixed start) old.number old.seen s line asked names t answer) (sym (none_added old)) (told (fixed_by book.fixed start) old.number old.seen)
-
-  -- a refusal without a turn
-  pub told_without : (s : SessionState) (line : ℕ) (asked : Line) (answer : Body) → IsAnswerTo (act_of s.names s.transaction asked) answer → IsToldBy book old old s line asked s.names s.transaction answer
-  told_without s line asked answer refused = told_alone s line asked s.names s.transaction answer (λ fixed owner events. told_refused fixed owner events s line asked answer refused)
 
 same_answer : (r : Result ℕ ResizeError) → resizes_laws.body_of r ≡ resized_answer r
 same_answer (Ok n) = refl

@@ -13,9 +13,9 @@ use Rattle.history.specs.Steps.{IsAnswered, done_line, write_staged, with_write}
 use Rattle.history.specs.Viewing.{cell_fault}
 use Rattle.line_answers.specs.Bodies.{body_of}
 use Rattle.sessions.specs.Commits.{HasSoundTxn}
-use Rattle.sessions.specs.Standing.{session_state}
-use Rattle.sessions.specs.Told.{IsTold, IsToldAlone, IsAnswerTo}
-use Rattle.sessions.proofs.ToldLaws.{told_refused}
+use Rattle.session_turns.specs.Standing.{session_state}
+use Rattle.session_turns.specs.Told.{IsTold, IsToldAlone, IsAnswerTo}
+use Rattle.session_turns.proofs.Laws.{told_refused}
 use Rattle.stack_driver.specs.Conditions.{IsView}
 use Rattle.stack_driver.specs.declared.view.View.{View}
 use Rattle.state_laws.specs.Agreement.{Opening}

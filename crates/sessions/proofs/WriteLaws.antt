@@ -18,8 +18,8 @@ use Rattle.history.specs.Sessions.{plain_mode}
 use Rattle.history.specs.Viewing.{cell_fault}
 use Rattle.session_turns.specs.Turns.{IsRested, HasPassed}
 use Rattle.sessions.specs.Commits.{HasSoundTxn}
-use Rattle.sessions.specs.Standing.{session_state}
-use Rattle.sessions.specs.Told.{IsToldBy}
+use Rattle.session_turns.specs.Standing.{session_state}
+use Rattle.session_turns.specs.Told.{IsToldBy}
 use Rattle.sessions.specs.Writes.{IsWrittenAs}
 use Rattle.sessions.proofs.CommitRows.{commit_passed, write_told}
 use Rattle.stack_driver.specs.Conditions.{IsView}

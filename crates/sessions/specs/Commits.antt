@@ -10,8 +10,8 @@ use Rattle.history.specs.History.{History}
 use Rattle.history.specs.Lines.{committing}
 use Rattle.history.specs.Sessions.{Names}
 use Rattle.line_answers.specs.Bodies.{body_of}
-use Rattle.sessions.specs.Standing.{session_state, transaction_in}
-use Rattle.sessions.specs.Told.{IsToldBy}
+use Rattle.session_turns.specs.Standing.{session_state, transaction_in}
+use Rattle.session_turns.specs.Told.{IsToldBy}
 use Rattle.state_laws.specs.Agreement.{Opening}
 use Rattle.transactions.specs.Committing.{HasCommitted, left_after}
 use Rattle.transactions.specs.Conditions.{IsTxnIn}

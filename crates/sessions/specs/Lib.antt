@@ -1,5 +1,3 @@
-pub mod Standing
-pub mod Told
 pub mod Bodies
 pub mod Commits
 pub mod Writes

@@ -11,8 +11,8 @@ use Rattle.history.specs.Viewing.{cell_fault, values_body}
 use Rattle.line_answers.specs.Bodies.{body_of}
 use Rattle.line_answers.specs.Causes.{damage_body}
 use Rattle.line_forms.specs.declared.command.DownWant.{DownWant}
-use Rattle.sessions.specs.Standing.{session_state, transaction_in}
-use Rattle.sessions.specs.Told.{IsAnswerTo, IsToldBy}
+use Rattle.session_turns.specs.Standing.{session_state, transaction_in}
+use Rattle.session_turns.specs.Told.{IsAnswerTo, IsToldBy}
 use Rattle.stack_driver.specs.Views.{look_of}
 use Rattle.stack_driver.specs.declared.view.View.{View}
 use Rattle.state_laws.specs.Agreement.{Opening}

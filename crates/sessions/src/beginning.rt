@@ -6,8 +6,8 @@ ghost use Rattle.history.specs.Legal.{IsLegal};
 ghost use Rattle.history.specs.Lines.{beginning, aborting};
 ghost use Rattle.history.specs.Sessions.{Names};
 ghost use Rattle.sessions.specs.Commits.{HasSoundTxn};
-ghost use Rattle.sessions.specs.Standing.{session_state, transaction_in};
-ghost use Rattle.sessions.specs.Told.{IsToldAlone};
+ghost use Rattle.session_turns.specs.Standing.{session_state, transaction_in};
+ghost use Rattle.session_turns.specs.Told.{IsToldAlone};
 ghost use Rattle.state_laws.specs.Agreement.{Opening};
 ghost use Rattle.state_laws.specs.Outline.{outline};
 

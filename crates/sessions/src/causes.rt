@@ -7,7 +7,7 @@ ghost use Rattle.layer_join.specs.declared.error.JoinError.{JoinError as JoinErr
 ghost use Rattle.layer_join.specs.declared.error.JoinError.TheVariants as join;
 ghost use Rattle.line_meanings.specs.Changes.{by_view, under_steps};
 ghost use Rattle.line_meanings.specs.Joins.{by_join};
-ghost use Rattle.sessions.specs.Told.{IsAnswerTo};
+ghost use Rattle.session_turns.specs.Told.{IsAnswerTo};
 ghost use Rattle.stack_driver.specs.declared.view.View.{View};
 ghost use Rattle.transform_composition.specs.declared.error.ComposeError.TheVariants as compose;
 

@@ -2,7 +2,7 @@
 ghost use Rattle.std.specs.Prelude.{◌≡◌, Ok, IfOk, IfErr, All, length};
 ghost use Rattle.history.specs.Acts.{Asked, changed as changed_by, with_changes};
 ghost use Rattle.line_meanings.specs.Changes.{by_transform, steps_of, changes_of};
-ghost use Rattle.sessions.specs.Told.{IsAnswerTo};
+ghost use Rattle.session_turns.specs.Told.{IsAnswerTo};
 ghost use Rattle.stack_driver.specs.Changes.{under};
 ghost use Rattle.stack_driver.specs.Conditions.{IsView};
 ghost use Rattle.stack_driver.specs.Views.{own_transform};

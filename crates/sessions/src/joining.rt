@@ -13,8 +13,8 @@ ghost use Rattle.layer_join.specs.declared.error.JoinError.TheVariants as join_e
 ghost use Rattle.line_forms.specs.Form.{AreLayers};
 ghost use Rattle.line_meanings.specs.Changes.{changes_of};
 ghost use Rattle.line_meanings.specs.Joins.{form_of, join_of};
-ghost use Rattle.sessions.specs.Standing.{session_state, transaction_in, AreViews};
-ghost use Rattle.sessions.specs.Told.{IsToldAlone, IsAnswerTo};
+ghost use Rattle.session_turns.specs.Standing.{session_state, transaction_in, AreViews};
+ghost use Rattle.session_turns.specs.Told.{IsToldAlone, IsAnswerTo};
 ghost use Rattle.stack_driver.specs.Conditions.{IsView};
 ghost use Rattle.stack_driver.specs.declared.view.View.{View as ViewOf};
 ghost use Rattle.step_forms.specs.Given.{IsGiven};
@@ -22,13 +22,12 @@ ghost use Rattle.transactions.specs.Txn.{TxnSeen};
 
 use crate::causes::joined_body;
 use crate::changing::changed;
-use crate::names::{Names, named};
-use crate::viewing::bound;
 use answer_text::Body;
 use cells::Name;
 use index_transform::Transform;
 use layer_join::{JoinError, concat, overlay, stack};
 use line_forms::JoinForm;
+use session_turns::{Names, bound, named};
 use stack_driver::View;
 use std::alloc::Global;
 use step_forms::Step;

@@ -1,15 +1,14 @@
 //! The lines of a session: what each command does, and its answer.
 //!
-//! Crates above rest on one relation, `IsTold`: what a line is answered is the printed answer of a row of the history's session.
+//! Crates above rest on one relation, `IsTold` (`session_turns`): what a line is answered is the printed answer of a row of the history's
+//! session.
 #![tactic(auto)]
 
 mod beginning;
 mod causes;
-mod cell_faults;
 mod changing;
 mod committing;
 mod joining;
-mod names;
 mod reading;
 mod resizing;
 mod staging;
@@ -19,8 +18,7 @@ mod writing;
 pub use beginning::{abort, begin};
 pub use committing::commit;
 pub use joining::join;
-pub use names::{Names, named};
 pub use reading::read;
 pub use resizing::resize;
 pub use staging::write;
-pub use viewing::{bound_with, view};
+pub use viewing::view;

@@ -1,6 +1,5 @@
 // Views of views.
 ghost use Rattle.std.specs.Prelude.{◌≡◌, ℕ, Ok, Option, IfOk, IfErr, All};
-ghost use Rattle.answer_text.specs.declared.answer.Body.TheVariants.{Viewed};
 ghost use Rattle.history.specs.Acts.{binds, act_of};
 ghost use Rattle.history.specs.Answers.{Text};
 ghost use Rattle.history.specs.Bound.{AreKnownNames};
@@ -9,20 +8,18 @@ ghost use Rattle.history.specs.History.{History};
 ghost use Rattle.history.specs.Lines.{viewing};
 ghost use Rattle.indexmap.specs.IndexMap.{get_by_text};
 ghost use Rattle.line_meanings.specs.Changes.{changes_of};
-ghost use Rattle.sessions.specs.Standing.{session_state, transaction_in, AreViews};
-ghost use Rattle.sessions.specs.Told.{IsToldAlone, IsAnswerTo, IsBoundAs};
+ghost use Rattle.session_turns.specs.Standing.{session_state, transaction_in, AreViews};
+ghost use Rattle.session_turns.specs.Told.{IsToldAlone, IsAnswerTo};
 ghost use Rattle.stack_driver.specs.Conditions.{IsView};
-ghost use Rattle.stack_driver.specs.Views.{look_of, own_transform};
 ghost use Rattle.step_forms.specs.Given.{IsGiven};
 ghost use Rattle.transactions.specs.Txn.{TxnSeen};
 
 use crate::changing::changed;
-use crate::names::{Names, bind, named};
 use answer_text::Body;
-use cells::Name;
 use index_transform::Transform;
-use stack_driver::{View, dtype, transform_of};
-use std::alloc::{AllocError, Global};
+use session_turns::{Names, bound, named};
+use stack_driver::View;
+use std::alloc::Global;
 use step_forms::Step;
 
 /// Binds a name to the view of another, seen through the transform and the steps. No turn is taken.
@@ -70,38 +67,4 @@ fn viewed(
         Ok(view) => changed(alloc, view, transform, steps),
         Err(body) => Err(body),
     }
-}
-
-/// Binds a name to a view, and answers that it is.
-pub(crate) fn bound(alloc: Global, names: &mut Names, name: &str, view: View) -> Body
-    ensures { IsBoundAs (Viewed name.now (look_of view).dtype (own_transform view))
-        (get_by_text names.old) name.now view (get_by_text names.new) result }
-{
-    match viewed_body(alloc, name, &view) {
-        Ok(body) => bound_with(alloc, names, name, view, body),
-        Err(_) => Body::Memory,
-    }
-}
-
-/// Binds a name to a view, and answers by a body.
-pub fn bound_with(alloc: Global, names: &mut Names, name: &str, view: View, body: Body) -> Body
-    ensures { IsBoundAs body (get_by_text names.old) name.now view (get_by_text names.new) result }
-{
-    if bind(alloc, names, name, view) {
-        body
-    } else {
-        Body::Memory
-    }
-}
-
-fn viewed_body(alloc: Global, name: &str, view: &View) -> Result<Body, AllocError>
-    ensures { IfOk result (λ b. b ≡ Viewed name.now (look_of view.now).dtype (own_transform view.now)) }
-{
-    let transform = transform_of(view).copy(alloc)?;
-    let name = String::from_str(alloc, name)?;
-    Ok(Body::Viewed {
-        name: Name::wrap(name),
-        dtype: dtype(view),
-        transform,
-    })
 }

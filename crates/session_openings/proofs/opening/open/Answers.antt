@@ -6,9 +6,8 @@ use Rattle.history.specs.Refs.{HasKnownRefs}
 use Rattle.indexmap.specs.IndexMap.{get_by_text}
 use Rattle.line_meanings.specs.Openings.{leaves_of, build_of}
 use Rattle.session_openings.proofs.LineLaws.{told_opened, opened_keeps, view_known, refused_alone}
-use Rattle.session_turns.proofs.Laws.{passed_alone, names_then}
-use Rattle.sessions.specs.Standing.{session_state}
-use Rattle.sessions.proofs.Laws.{told_without, refusal, outside_some}
+use Rattle.session_turns.proofs.Laws.{passed_alone, names_then, told_without, refusal, outside_some}
+use Rattle.session_turns.specs.Standing.{session_state}
 use Rattle.stack_driver.specs.Conditions.{IsView}
 use Rattle.session_openings.proofs.opening.open.Goals as goal
 

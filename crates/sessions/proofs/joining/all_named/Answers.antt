@@ -2,7 +2,7 @@ use Rattle.std.proofs.Common.{◌∙◌, subst}
 use Rattle.history.specs.Acts.{Asked, named}
 use Rattle.history.specs.Answers.{Text}
 use Rattle.indexmap.specs.IndexMap.{get_by_text}
-use Rattle.sessions.specs.Told.{IsAnswerTo}
+use Rattle.session_turns.specs.Told.{IsAnswerTo}
 use Rattle.stack_driver.specs.declared.view.View.{View}
 use Rattle.sessions.proofs.JoinLaws.{refused_at, named_all, told_through}
 use Rattle.sessions.proofs.joining.all_named.Goals as goal

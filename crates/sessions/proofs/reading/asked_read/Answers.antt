@@ -12,8 +12,8 @@ use Rattle.line_meanings.specs.Changes.{changes_of}
 use Rattle.line_meanings.specs.Numbers.{downsampling_of}
 use Rattle.std.specs.Prelude.{None}
 use Rattle.sessions.specs.Reads.{HasRank}
-use Rattle.sessions.specs.Told.{IsAnswerTo}
-use Rattle.sessions.proofs.AnswerLaws.{if_err_map}
+use Rattle.session_turns.specs.Told.{IsAnswerTo}
+use Rattle.session_turns.proofs.Laws.{if_err_map}
 use Rattle.sessions.proofs.ReadLaws.{if_ok_at, on_ok_any, on_ok_map}
 use Rattle.sessions.proofs.reading.asked_read.Goals as goal
 use Rattle.stack_driver.specs.Conditions.{IsView}

@@ -3,8 +3,8 @@ use Rattle.history.specs.Acts.{Asked, reads, without}
 use Rattle.history.specs.Answers as old
 use Rattle.history.specs.Viewing.{cell_fault, view_fault}
 use Rattle.line_meanings.specs.Numbers.{downsampling_of}
-use Rattle.sessions.specs.Told.{IsAnswerTo}
-use Rattle.sessions.proofs.AnswerLaws.{if_err_map}
+use Rattle.session_turns.specs.Told.{IsAnswerTo}
+use Rattle.session_turns.proofs.Laws.{if_err_map}
 use Rattle.sessions.proofs.ReadLaws.{on_ok_both, on_ok_with, readable_view, with_rank}
 use Rattle.sessions.proofs.reading.checked.Goals as goal
 use Rattle.transform_composition.specs.declared.error.ComposeError.TheVariants as compose

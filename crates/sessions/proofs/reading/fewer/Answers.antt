@@ -3,7 +3,7 @@ use Rattle.std.specs.Prelude.{IsTrue}
 use Rattle.std.specs.List.{list_all}
 use Rattle.index_intervals.specs.Bounds.{Bounds}
 use Rattle.index_transform.specs.Cells.{cells_of, is_finite}
-use Rattle.sessions.proofs.FaultLaws.{counted_view}
+use Rattle.session_turns.proofs.Laws.{counted_view}
 use Rattle.sessions.proofs.reading.fewer.Goals as goal
 use Rattle.stack_driver.specs.Views.{look_of}
 

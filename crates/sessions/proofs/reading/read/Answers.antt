@@ -3,7 +3,7 @@ use Rattle.history.specs.Lines.{reading}
 use Rattle.indexmap.specs.IndexMap.{get_by_text}
 use Rattle.line_meanings.specs.Changes.{changes_of}
 use Rattle.line_meanings.specs.Numbers.{downsampling_of}
-use Rattle.sessions.specs.Standing.{transaction_in}
+use Rattle.session_turns.specs.Standing.{transaction_in}
 use Rattle.sessions.proofs.ReadRows.{refused_before}
 use Rattle.sessions.proofs.reading.read.Goals as goal
 

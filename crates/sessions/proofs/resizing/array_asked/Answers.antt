@@ -1,6 +1,6 @@
 use Rattle.std.proofs.Common.{rules, refl}
 use Rattle.sessions.proofs.ResizeLaws.{stored_asked}
-use Rattle.sessions.proofs.ToldLaws.{refusal, outside_some, outside_none, answer_at, named_none}
+use Rattle.session_turns.proofs.Laws.{refusal, outside_some, outside_none, answer_at, named_none}
 use Rattle.history.specs.Acts.{on_leaf, on_stored}
 use Rattle.history.specs.Answers as old
 use Rattle.stack_driver.specs.Renewed.{array_of}

@@ -2,9 +2,10 @@ use Rattle.std.proofs.Common.{length, sym, subst}
 use Rattle.history.specs.Lines.{resizing}
 use Rattle.indexmap.specs.IndexMap.{get_by_text}
 use Rattle.session_turns.specs.Turns.{IsResizeTurn}
-use Rattle.sessions.specs.Standing.{session_state, transaction_in}
-use Rattle.sessions.specs.Told.{IsToldBy}
-use Rattle.sessions.proofs.RowLaws.{told_resized, told_without}
+use Rattle.session_turns.specs.Standing.{session_state, transaction_in}
+use Rattle.session_turns.specs.Told.{IsToldBy}
+use Rattle.sessions.proofs.RowLaws.{told_resized}
+use Rattle.session_turns.proofs.Laws.{told_without}
 use Rattle.sessions.proofs.resizing.resize.Goals as goal
 
 pub resize_in_turn-requires-clause-asked : goal.resize_in_turn-requires-clause-asked

@@ -2,9 +2,9 @@ use Rattle.std.proofs.Common.{◌≡◌, ℕ, List, Ok, Some, length, sym, ap, s
 use Rattle.answer_text.specs.declared.answer.Body.TheVariants.{Staged}
 use Rattle.history.specs.Acts.{Asked, stages}
 use Rattle.sessions.specs.Commits.{HasSoundTxn}
-use Rattle.sessions.specs.Standing.{session_state}
-use Rattle.sessions.specs.Told.{IsAnswerTo, IsToldAlone}
-use Rattle.sessions.proofs.FaultLaws.{found_all}
+use Rattle.session_turns.specs.Standing.{session_state}
+use Rattle.session_turns.specs.Told.{IsAnswerTo, IsToldAlone}
+use Rattle.session_turns.proofs.Laws.{found_all}
 use Rattle.sessions.proofs.StageLaws.{more_sound, staged_told, unstaged_told}
 use Rattle.sessions.proofs.staging.staged.Goals as goal
 use Rattle.transactions.specs.Txn.{TxnSeen, transaction_of}

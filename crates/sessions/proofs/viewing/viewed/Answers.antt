@@ -1,7 +1,7 @@
 use Rattle.std.proofs.Common.{Ok, Option, sym, subst}
 use Rattle.history.specs.Acts.{named, changed, with_changes, binds}
 use Rattle.line_meanings.specs.Changes.{changes_of}
-use Rattle.sessions.specs.Told.{IsAnswerTo}
+use Rattle.session_turns.specs.Told.{IsAnswerTo}
 use Rattle.sessions.proofs.ChangeLaws.{if_err_map}
 use Rattle.stack_driver.specs.declared.view.View.{View}
 use Rattle.sessions.proofs.viewing.viewed.Goals as goal

@@ -3,8 +3,8 @@ use Rattle.history.specs.Acts.{Asked, without, write_act, write_of}
 use Rattle.history.specs.Viewing.{cell_fault}
 use Rattle.line_meanings.specs.Numbers.{values_of}
 use Rattle.serde_json.specs.View.{view}
-use Rattle.sessions.specs.Told.{IsAnswerTo}
-use Rattle.sessions.proofs.AnswerLaws.{if_err_map, if_ok_both}
+use Rattle.session_turns.specs.Told.{IsAnswerTo}
+use Rattle.session_turns.proofs.Laws.{if_err_map, if_ok_both}
 use Rattle.sessions.proofs.writing.asked_write.Goals as goal
 use Rattle.stack_driver.specs.declared.view.View.{View}
 

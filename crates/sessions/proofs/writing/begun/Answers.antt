@@ -1,4 +1,4 @@
-use Rattle.sessions.proofs.FaultLaws.{found_all}
+use Rattle.session_turns.proofs.Laws.{found_all}
 use Rattle.sessions.proofs.WriteLaws.{begun_sound}
 use Rattle.sessions.proofs.writing.begun.Goals as goal
 

@@ -9,9 +9,8 @@ use Rattle.index_transform.specs.Cells.{cells_of}
 use Rattle.index_transform.proofs.Laws.{length-cells_of}
 use Rattle.script_lines.specs.NestedWords.{words_of}
 use Rattle.serde_json.specs.View.{view}
-use Rattle.sessions.specs.Told.{IsAnswerTo}
-use Rattle.sessions.proofs.AnswerLaws.{if_err_map, if_ok_map}
-use Rattle.sessions.proofs.FaultLaws.{counted_view}
+use Rattle.session_turns.specs.Told.{IsAnswerTo}
+use Rattle.session_turns.proofs.Laws.{if_err_map, if_ok_map, counted_view}
 use Rattle.sessions.proofs.writing.fitted.Goals as goal
 use Rattle.stack_driver.specs.Views.{look_of}
 

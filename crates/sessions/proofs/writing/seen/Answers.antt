@@ -2,8 +2,8 @@ use Rattle.std.proofs.Common.{None, Option, Ok, sym, subst}
 use Rattle.history.specs.Acts.{changed, named, with_changes}
 use Rattle.line_meanings.specs.Changes.{changes_of}
 use Rattle.line_meanings.proofs.Laws.{changes_within}
-use Rattle.sessions.specs.Told.{IsAnswerTo}
-use Rattle.sessions.proofs.AnswerLaws.{changed_known, if_err_map, if_ok_map}
+use Rattle.session_turns.specs.Told.{IsAnswerTo}
+use Rattle.session_turns.proofs.Laws.{changed_known, if_err_map, if_ok_map}
 use Rattle.sessions.proofs.writing.seen.Goals as goal
 use Rattle.stack_driver.specs.declared.view.View.{View}
 

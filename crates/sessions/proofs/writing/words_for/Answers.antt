@@ -4,9 +4,8 @@ use Rattle.history.specs.Answers.{Body}
 use Rattle.history.specs.Viewing.{shape_of}
 use Rattle.script_lines.specs.NestedWords.{words_of}
 use Rattle.serde_json.specs.View.{view}
-use Rattle.sessions.specs.Told.{IsAnswerTo}
-use Rattle.sessions.proofs.AnswerLaws.{if_err_map, if_ok_map}
-use Rattle.sessions.proofs.FaultLaws.{counted_sound}
+use Rattle.session_turns.specs.Told.{IsAnswerTo}
+use Rattle.session_turns.proofs.Laws.{if_err_map, if_ok_map, counted_sound}
 use Rattle.sessions.proofs.writing.words_for.Goals as goal
 use Rattle.stack_driver.specs.Views.{look_of}
 

@@ -4,8 +4,8 @@ use Rattle.indexmap.specs.IndexMap.{get_by_text}
 use Rattle.line_meanings.specs.Changes.{changes_of}
 use Rattle.line_meanings.specs.Numbers.{values_of}
 use Rattle.serde_json.specs.View.{view}
-use Rattle.sessions.specs.Standing.{session_state}
-use Rattle.sessions.proofs.RowLaws.{told_without}
+use Rattle.session_turns.specs.Standing.{session_state}
+use Rattle.session_turns.proofs.Laws.{told_without}
 use Rattle.sessions.proofs.writing.write_alone.Goals as goal
 
 pub returns-in-Err-clause-told : goal.returns-in-Err-clause-told

@@ -1,9 +1,9 @@
 use Rattle.std.proofs.Common.{ℕ, List, None, Ok, length, sym, subst}
 use Rattle.history.specs.Acts.{Asked, writes}
-use Rattle.sessions.specs.Standing.{session_state}
-use Rattle.sessions.specs.Told.{IsAnswerTo}
+use Rattle.session_turns.specs.Standing.{session_state}
+use Rattle.session_turns.specs.Told.{IsAnswerTo}
 use Rattle.sessions.specs.Writes.{IsWrittenAs}
-use Rattle.sessions.proofs.RowLaws.{told_without}
+use Rattle.session_turns.proofs.Laws.{told_without}
 use Rattle.sessions.proofs.WriteLaws.{written_told}
 use Rattle.sessions.proofs.writing.written.Goals as goal
 use Rattle.transactions.specs.Txn.{transaction_of}

@@ -1,7 +1,7 @@
 use Rattle.std.proofs.Common.{subst}
 use Rattle.history.specs.Answers as body
-use Rattle.sessions.proofs.FaultLaws.{counted_view, out_of_range_fault, refused_by_cell, uncovered_fault}
-use Rattle.sessions.proofs.cell_faults.fault_body.Goals as goal
+use Rattle.session_turns.proofs.FaultLaws.{counted_view, out_of_range_fault, refused_by_cell, uncovered_fault}
+use Rattle.session_turns.proofs.cell_faults.fault_body.Goals as goal
 use Rattle.transactions.specs.Faults.{IsFaultOf}
 
 pub cell_at-requires-clause-finite : goal.cell_at-requires-clause-finite

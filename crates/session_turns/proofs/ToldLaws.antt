@@ -12,8 +12,8 @@ use Rattle.history.specs.Sessions.{Names, SessionState}
 use Rattle.history.specs.Steps.{IsAnswered, refused_line, wanting, done_line, view_done}
 use Rattle.history.specs.Viewing.{viewed_body}
 use Rattle.line_answers.specs.Bodies.{body_of}
-use Rattle.sessions.specs.Standing.{transaction_in}
-use Rattle.sessions.specs.Told.{IsTold, IsAnswerTo, IsBoundAs}
+use Rattle.session_turns.specs.Standing.{transaction_in}
+use Rattle.session_turns.specs.Told.{IsTold, IsAnswerTo, IsBoundAs}
 use Rattle.stack_driver.specs.declared.view.View.{View}
 use Rattle.transactions.specs.Txn.{TxnSeen}
 

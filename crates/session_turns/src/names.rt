@@ -3,7 +3,7 @@ ghost use Rattle.std.specs.Prelude.{◌≡◌, Some, None, true, false, IfOk, If
 ghost use Rattle.history.specs.Acts.{Asked, named as only_named};
 ghost use Rattle.history.specs.Sessions.{bind};
 ghost use Rattle.indexmap.specs.IndexMap.{get_by_text};
-ghost use Rattle.sessions.specs.Told.{IsAnswerTo};
+ghost use Rattle.session_turns.specs.Told.{IsAnswerTo};
 ghost use Rattle.stack_driver.specs.declared.view.View.{View as ViewOf};
 
 use answer_text::Body;
@@ -58,7 +58,8 @@ fn copied(alloc: Global, view: &View) -> Result<View, Body>
     }
 }
 
-pub(crate) fn unknown(alloc: Global, name: &str) -> Body
+/// The answer that a name is bound to no view.
+pub fn unknown(alloc: Global, name: &str) -> Body
     ensures { (next : ViewOf → Asked) → IsAnswerTo (only_named name.now None next) result }
 {
     match String::from_str(alloc, name) {

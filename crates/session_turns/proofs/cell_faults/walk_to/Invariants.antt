@@ -1,5 +1,5 @@
 use Rattle.std.proofs.Common.{◌≡◌, length, drop}
-use Rattle.sessions.proofs.cell_faults.walk_to.Given as goal
+use Rattle.session_turns.proofs.cell_faults.walk_to.Given as goal
 
 abbrev pub invariant-loop : goal.invariant-loop
 invariant-loop l = record {

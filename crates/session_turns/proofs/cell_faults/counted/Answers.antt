@@ -2,8 +2,8 @@ use Rattle.std.proofs.Common.{◌∙◌, Err, refl, sym, ap}
 use Rattle.history.specs.Answers as body
 use Rattle.index_transform.specs.Cells.{count_answer}
 use Rattle.index_transform.specs.declared.error.CountError.TheVariants as count
-use Rattle.sessions.proofs.FaultLaws.{refused_by_count}
-use Rattle.sessions.proofs.cell_faults.counted.Goals as goal
+use Rattle.session_turns.proofs.FaultLaws.{refused_by_count}
+use Rattle.session_turns.proofs.cell_faults.counted.Goals as goal
 
 pub returns-in-Err-Unbounded-clause-err : goal.returns-in-Err-Unbounded-clause-err
 returns-in-Err-Unbounded-clause-err c =

@@ -16,7 +16,7 @@ use Rattle.index_transform.specs.declared.error.CountError.{CountError}
 use Rattle.index_transform.specs.declared.error.CountError.TheVariants as count
 use Rattle.index_transform.proofs.Laws.{list_all-position_from}
 use Rattle.line_answers.specs.Bodies.{body_of}
-use Rattle.sessions.specs.Told.{IsAnswerTo}
+use Rattle.session_turns.specs.Told.{IsAnswerTo}
 use Rattle.stack_driver.specs.Targets.{Target}
 use Rattle.stack_driver.specs.Views.{look_of, targets_of}
 use Rattle.stack_driver.specs.declared.error.TargetError.{TargetError}

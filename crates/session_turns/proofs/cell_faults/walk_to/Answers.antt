@@ -1,6 +1,6 @@
 use Rattle.std.proofs.Common.{◌≡◌, ◌∙◌, suc, ◌+◌, ◌<◌, length, drop, sym, ap, arith}
-use Rattle.sessions.proofs.WalkLaws.{stepped}
-use Rattle.sessions.proofs.cell_faults.walk_to.Goals as goal
+use Rattle.session_turns.proofs.WalkLaws.{stepped}
+use Rattle.session_turns.proofs.cell_faults.walk_to.Goals as goal
 
 pub loop-preserved : goal.loop-preserved
 loop-preserved c =

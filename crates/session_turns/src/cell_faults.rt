@@ -4,7 +4,7 @@ ghost use Rattle.std.specs.List.{list_all};
 ghost use Rattle.history.specs.Acts.{Asked, without};
 ghost use Rattle.history.specs.Viewing.{view_fault, cell_fault};
 ghost use Rattle.index_transform.specs.Cells.{cells_of, count_answer, is_finite};
-ghost use Rattle.sessions.specs.Told.{IsAnswerTo};
+ghost use Rattle.session_turns.specs.Told.{IsAnswerTo};
 ghost use Rattle.stack_driver.specs.Views.{look_of};
 ghost use Rattle.transactions.specs.Faults.{IsFaultOf};
 
@@ -16,7 +16,7 @@ use std::alloc::{AllocError, Global};
 use transactions::ViewFault;
 
 /// How many cells a view has, or the answer that there are too many.
-pub(crate) fn counted(v: &View) -> Result<u64, Body>
+pub fn counted(v: &View) -> Result<u64, Body>
     ensures count { IfOk result (λ n. count_answer (look_of v.now).dims ≡ Ok n) }
     ensures cells { IfOk result (λ n. n ≡ length (cells_of (look_of v.now).dims)) }
     ensures err { IfErr result (λ b. (next : Asked) → IsAnswerTo (without (view_fault v.now) next) b) }
@@ -29,7 +29,7 @@ pub(crate) fn counted(v: &View) -> Result<u64, Body>
 }
 
 /// The answer where a cell of a view has no target.
-pub(crate) fn fault_body(alloc: Global, v: &View, fault: ViewFault) -> Body
+pub fn fault_body(alloc: Global, v: &View, fault: ViewFault) -> Body
     requires counted { (n : ℕ) × (count_answer (look_of v.now).dims ≡ Ok n) }
     requires fault { IsFaultOf v.now fault }
     ensures { (next : Asked) → IsAnswerTo (without (cell_fault v.now) next) result }
