@@ -4,19 +4,19 @@ all: bin/tensor_run
 
 # Each program is proved with all that it stands on, side by side (tools/build.py), whenever a source is newer than it.
 sources := crates.txt $(wildcard crates/*/src/*.rt crates/*/specs/*.antt crates/*/proofs/*.antt)
-programs := tensor_run bench_views bench_chunks bench_stacks bench_lines bench_commits
+programs := tensor_run bench
 $(programs:%=bin/%): bin/%: $(sources)
 	tools/build.py $*
 
-bench: bin/tensor_run bin/bench_views bin/bench_chunks bin/bench_stacks bin/bench_lines bin/bench_commits
+bench: bin/tensor_run bin/bench
 	bench/run.sh bin/tensor_run
 	bench/stores.sh bin/tensor_run
-	bench/views.sh bin/bench_views
-	bench/chunks.sh bin/bench_chunks
-	bench/stacks.sh bin/bench_stacks
-	bench/lines.sh bin/bench_lines
+	bench/views.sh bin/bench
+	bench/chunks.sh bin/bench
+	bench/stacks.sh bin/bench
+	bench/lines.sh bin/bench
 	bench/read.sh bin/tensor_run
-	bench/commits.sh bin/bench_commits
+	bench/commits.sh bin/bench
 	bench/beside.sh bin/tensor_run
 
 # make ends with 2 where the script's run ends with another status than 0; `./run SCRIPT` ends with that status

@@ -2,13 +2,13 @@
 # Milliseconds of processor time to decode and to encode a chunk of 1,000,000 int32 cells in each format, beside a plain copy of its
 # bytes. What a program does once is taken off; each time is the least of three.
 set -eu
-program=${1:-bin/bench_chunks}
+program=${1:-bin/bench}
 times=${2:-40}
 TIMEFORMAT='%U %S'
 least() {
     local k
     for k in 1 2 3; do
-        { time "$program" "$1" "$2" "$3" > /dev/null; } 2>&1
+        { time "$program" chunks "$1" "$2" "$3" > /dev/null; } 2>&1
     done | awk '{ t = $1 + $2; if (NR == 1 || t < least) least = t } END { print least }'
 }
 each() {

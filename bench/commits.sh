@@ -3,18 +3,18 @@
 # take behind the longer one. Runs without these commits and with them take turns, and the least of nine of either counts: the difference
 # is what the commits take.
 set -eu
-exec python3 - "${1:-bin/bench_commits}" "${2:-10000}" "${3:-9}" <<'PY'
+exec python3 - "${1:-bin/bench}" "${2:-10000}" "${3:-9}" <<'PY'
 import os, subprocess, sys
 
 program, commits, runs = sys.argv[1], sys.argv[2], int(sys.argv[3])
 
 
 def once(before, count):
-    child = subprocess.Popen([program, before, count], stdout=subprocess.DEVNULL)
+    child = subprocess.Popen([program, "commits", before, count], stdout=subprocess.DEVNULL)
     _, status, used = os.wait4(child.pid, 0)
     child.returncode = os.waitstatus_to_exitcode(status)
     if child.returncode:
-        sys.exit(f"{program} {before} {count}: status {child.returncode}")
+        sys.exit(f"{program} commits {before} {count}: status {child.returncode}")
     return used.ru_utime + used.ru_stime
 
 

@@ -3,7 +3,7 @@
 # beside Python's `json.loads` and `json.dumps` of the same texts, each the least of five, what a program does once taken off; and the
 # bytes of memory for each number at the peak, beyond the text.
 set -eu
-program=${1:-bin/bench_lines}
+program=${1:-bin/bench}
 times=${2:-10}
 folder=$(mktemp -d)
 trap 'rm -rf "$folder"' EXIT
@@ -17,7 +17,7 @@ TIMEFORMAT='%U %S'
 least() {
     local k
     for k in 1 2 3 4 5; do
-        { time "$program" "$1" "$2" < "$folder/line" > /dev/null; } 2>&1
+        { time "$program" lines "$1" "$2" < "$folder/line" > /dev/null; } 2>&1
     done | awk '{ t = $1 + $2; if (NR == 1 || t < least) least = t } END { print least }'
 }
 python() {
@@ -39,7 +39,7 @@ PY
 peak() {
     python3 - "$program" "$1" "$2" "$folder/line" <<'PY'
 import os, resource, subprocess, sys
-subprocess.run(sys.argv[1:4], stdin=open(sys.argv[4]), stdout=subprocess.DEVNULL, check=True)
+subprocess.run([sys.argv[1], "lines", *sys.argv[2:4]], stdin=open(sys.argv[4]), stdout=subprocess.DEVNULL, check=True)
 print(resource.getrusage(resource.RUSAGE_CHILDREN).ru_maxrss)
 PY
 }

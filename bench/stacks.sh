@@ -2,13 +2,13 @@
 # Cells a second of processor time whose targets are made, in stacks of four layers over 1,000,000 cells: the least of five. What a
 # program does once is taken off.
 set -eu
-program=${1:-bin/bench_stacks}
+program=${1:-bin/bench}
 times=${2:-40}
 TIMEFORMAT='%U %S'
 least() {
     local k
     for k in 1 2 3 4 5; do
-        { time "$program" "$1" "$2" > /dev/null; } 2>&1
+        { time "$program" stacks "$1" "$2" > /dev/null; } 2>&1
     done | awk '{ t = $1 + $2; if (NR == 1 || t < least) least = t } END { print least }'
 }
 for view in row square; do

@@ -1,10 +1,10 @@
 #!/usr/bin/env bash
 # Cells a second of processor time in which views of 1,000,000 cells are cut at chunk edges. What a program does once is taken off.
 set -eu
-program=${1:-bin/bench_views}
+program=${1:-bin/bench}
 seconds() {
     local TIMEFORMAT='%U %S' out
-    out=$( { time "$program" "$1" "$2" > /dev/null; } 2>&1 )
+    out=$( { time "$program" views "$1" "$2" > /dev/null; } 2>&1 )
     awk -v both="$out" 'BEGIN { split(both, s, " "); print s[1] + s[2] }'
 }
 while read -r view times; do

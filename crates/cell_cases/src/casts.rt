@@ -1,8 +1,7 @@
 // Casts between dtypes, and chains of them.
 ghost use Rattle.std.specs.Prelude.{◌≡◌};
 
-use crate::fault::Fault;
-use crate::read::{dtype, member, size, told, word_of};
+use case_lines::{Fault, dtype, member, number, told, word_of};
 use cast_driver::{Cast, Chain};
 use cells::Dtype;
 use serde_json::Value;
@@ -22,18 +21,18 @@ pub(crate) fn answer(alloc: Global, call: &str, v: &Value) -> Result<String, Fau
             dtype(v, "to")?,
             member(v, "word")?,
         ),
-        "none" => none(alloc, size(v, "word")?),
+        "none" => none(alloc, number(v, "word")?),
         _ => through(alloc, call, v),
     }
 }
 
-fn shown(alloc: Global, from: Dtype, to: Dtype, number: &Value) -> Result<String, Fault> {
-    let word = word_of(from, number)?;
+fn shown(alloc: Global, from: Dtype, to: Dtype, value: &Value) -> Result<String, Fault> {
+    let word = word_of(from, value)?;
     told(alloc, &to.number(Cast { from, to }.out(word)))
 }
 
-fn kept(alloc: Global, from: Dtype, to: Dtype, number: &Value) -> Result<String, Fault> {
-    let word = word_of(to, number)?;
+fn kept(alloc: Global, from: Dtype, to: Dtype, value: &Value) -> Result<String, Fault> {
+    let word = word_of(to, value)?;
     told(alloc, &from.number(Cast { from, to }.back(word)))
 }
 
@@ -50,7 +49,7 @@ fn through(alloc: Global, call: &str, v: &Value) -> Result<String, Fault> {
         dtype(v, "through")?,
         dtype(v, "to")?,
     )?;
-    chained(alloc, call, &chain, size(v, "word")?)
+    chained(alloc, call, &chain, number(v, "word")?)
 }
 
 fn chain(alloc: Global, from: Dtype, through: Dtype, to: Dtype) -> Result<Chain, Fault> {

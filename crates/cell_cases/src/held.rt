@@ -1,8 +1,6 @@
 // What other types hold: chunks of numbers, lists, texts.
-use crate::fault::Fault;
-use crate::read::{dtype, member, size, sizes, told, word_of};
+use case_lines::{Fault, dtype, member, number, numbers_of, sizes, text, told, word_of};
 use cells::{Boxed, Dense, Index, List, Name, Sizes, Words, count_cells};
-use json_forms::i64_list;
 use serde_json::Value;
 use std::alloc::Global;
 
@@ -16,7 +14,7 @@ pub(crate) fn answer(alloc: Global, call: &str, v: &Value) -> Result<String, Fau
         "words" => told(alloc, &Words::wrap(sizes(alloc, v, "items")?).items()),
         "sizes" => told(alloc, &Sizes::wrap(sizes(alloc, v, "items")?).items()),
         "index" => index(alloc, member(v, "items")?),
-        "box" => told(alloc, &Boxed::new(alloc, size(v, "item")?)?.into_inner()),
+        "box" => told(alloc, &Boxed::new(alloc, number(v, "item")?)?.into_inner()),
         "before" => before(alloc, v),
         _ => Err(Fault::Line),
     }
@@ -39,7 +37,7 @@ fn filled(alloc: Global, v: &Value) -> Result<Dense, Fault> {
 }
 
 fn changed(alloc: Global, before: &Dense, v: &Value) -> Result<String, Fault> {
-    let place = usize::try_from(size(v, "place")?).map_err(|_| Fault::Line)?;
+    let place = usize::try_from(number(v, "place")?).map_err(|_| Fault::Line)?;
     let word = word_of(before.dtype(), member(v, "number")?)?;
     if place >= before.count() {
         return Err(Fault::Line);
@@ -66,8 +64,7 @@ fn list(alloc: Global, items: Vec<u64>) -> Result<String, Fault> {
 }
 
 fn index(alloc: Global, items: &Value) -> Result<String, Fault> {
-    let items = i64_list(alloc, items)?.ok_or(Fault::Line)?;
-    told(alloc, &Index::wrap(items).items())
+    told(alloc, &Index::wrap(numbers_of(alloc, items)?).items())
 }
 
 // Whether one name comes before another.
@@ -83,6 +80,6 @@ fn is_before(alloc: Global, one: &Name, v: &Value) -> Result<String, Fault> {
 }
 
 fn name(alloc: Global, v: &Value, of: &str) -> Result<Name, Fault> {
-    let text = crate::read::text(v, of)?;
+    let text = text(v, of)?;
     Ok(Name::wrap(String::from_str(alloc, text)?))
 }

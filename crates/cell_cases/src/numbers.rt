@@ -1,6 +1,6 @@
 // Numbers, words, places and counts.
-use crate::fault::Fault;
-use crate::read::{bytes, dtype, flag, member, order, size, sizes, told, whole, word_of};
+use crate::read::{order, whole};
+use case_lines::{Fault, bytes, dtype, flag, items, member, number, sizes, told, word_of};
 use cells::{Dtype, conv, count_cells, index_of, is_inside, place, put_word, take_word};
 use serde_json::Value;
 use std::alloc::Global;
@@ -39,7 +39,12 @@ fn put(alloc: Global, v: &Value) -> Result<String, Fault> {
 fn take(alloc: Global, v: &Value) -> Result<String, Fault> {
     let dtype = dtype(v, "dtype")?;
     let big = flag(v, "big")?;
-    taken(alloc, dtype, big, &bytes(alloc, member(v, "bytes")?)?)
+    taken(
+        alloc,
+        dtype,
+        big,
+        &bytes(alloc, items(member(v, "bytes")?)?)?,
+    )
 }
 
 fn taken(alloc: Global, dtype: Dtype, big: bool, bytes: &[u8]) -> Result<String, Fault> {
@@ -60,7 +65,7 @@ fn placed(alloc: Global, v: &Value, shape: &[u64]) -> Result<String, Fault> {
 
 fn indexed(alloc: Global, v: &Value, shape: &[u64]) -> Result<String, Fault> {
     let order = order(v)?;
-    let at = size(v, "place")? as usize;
+    let at = number(v, "place")? as usize;
     let Some(count) = count_cells(shape, 1 << 24) else {
         return Err(Fault::Line);
     };
@@ -73,5 +78,5 @@ fn indexed(alloc: Global, v: &Value, shape: &[u64]) -> Result<String, Fault> {
 }
 
 fn counted(alloc: Global, v: &Value, shape: &[u64]) -> Result<String, Fault> {
-    told(alloc, &count_cells(shape, size(v, "limit")?))
+    told(alloc, &count_cells(shape, number(v, "limit")?))
 }

@@ -3,8 +3,7 @@ ghost use Rattle.std.specs.Prelude.{◌≡◌, ◌≤◌, length};
 ghost use Rattle.cells.specs.declared.dtype.Dtype.TheVariants.{U8};
 ghost use Rattle.rebase_writes.specs.Staged.{AreWords};
 
-use crate::fault::Fault;
-use crate::read::told;
+use case_lines::{Fault, told};
 use cells::{Dense, Dtype, Run};
 use rebase_writes::{Staged, read_run};
 use std::alloc::Global;

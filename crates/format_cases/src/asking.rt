@@ -1,9 +1,8 @@
 // What is asked: named members of metadata.
 ghost use Rattle.std.specs.Prelude.{◌≡◌, ℕ, List, Some, IfOk};
 
-use crate::fault::Fault;
 use crate::forms::read;
-use crate::read::{member, text};
+use case_lines::{Fault, member, text};
 use cells::Sizes;
 use chunk_forms::{Form, Want};
 use n5_blocks::{N5Meta, N5Want};

@@ -5,9 +5,8 @@ ghost use Rattle.chunk_forms.specs.Grammar.{MayWrite};
 ghost use Rattle.chunk_forms.specs.Metadata.{chunk_shape_of, dtype_of, is_local};
 ghost use Rattle.n5_blocks.specs.Block.{IsReached, IsZeroOutside};
 
-use crate::fault::Fault;
-use crate::read::{member, said, sizes, told, word_of};
 use crate::writable::{is_reached, is_zero_outside};
+use case_lines::{Fault, member, said, sizes, told, word_of};
 use cells::Dense;
 use chunk_forms::{Form, encode_form};
 use n5_blocks::{N5Meta, cut_sizes};

@@ -3,9 +3,8 @@ ghost use Rattle.std.specs.Prelude.{◌≡◌, ◌<◌, IfOk, false, length};
 ghost use Rattle.chunk_forms.specs.Metadata.{is_local};
 
 use crate::encode::encoded;
-use crate::fault::Fault;
 use crate::large::one_of_many;
-use crate::read::{bytes, member, said, sizes, text, told, word_of, zero};
+use case_lines::{Fault, bytes, items, member, said, sizes, text, told, word_of, zero};
 use cells::Dense;
 use chunk_forms::{Form, FormError, decode_form};
 use meta_forms::MetaError;
@@ -89,7 +88,7 @@ pub(crate) fn written(alloc: Global, form: &Form) -> Result<String, Fault> {
     text_of(alloc, &bytes)
 }
 
-fn text_of(alloc: Global, bytes: &[u8]) -> Result<String, Fault> {
+pub(crate) fn text_of(alloc: Global, bytes: &[u8]) -> Result<String, Fault> {
     match str::from_utf8(bytes) {
         Ok(text) => said(alloc, text),
         Err(_) => Err(Fault::Line),
@@ -116,7 +115,7 @@ fn decoded(alloc: Global, form: &Form, v: &Value) -> Result<String, Fault>
     if given.is_null() {
         return filled(alloc, form, member(v, "fill")?);
     }
-    stored(alloc, form, &bytes(alloc, given)?)
+    stored(alloc, form, &bytes(alloc, items(given)?)?)
 }
 
 fn filled(alloc: Global, form: &Form, fill: &Value) -> Result<String, Fault>

@@ -4,13 +4,12 @@ ghost use Rattle.cells.specs.Shapes.{IsChunkShape};
 ghost use Rattle.history.specs.Arrays.{chunk_shape, is_local};
 
 use crate::asking::want;
-use crate::fault::Fault;
-use crate::forms::read;
-use crate::read::{said, sizes, text, told, zero};
+use crate::forms::{read, text_of};
 use array_homes::{
     array_ref, chunk_key, chunk_shape, form_of, given_info, home_text, is_chunk_name, is_local,
     local_number, metadata_key, metadata_key_asked, mount_of, new_info, written_form,
 };
+use case_lines::{Fault, said, sizes, text, told, zero};
 use cells::{Dense, Dtype, count_cells, is_chunk_shape, is_shape};
 use chunk_forms::Form;
 use history::ArrayInfo;
@@ -128,13 +127,6 @@ pub(crate) fn written(alloc: Global, form: &Form) -> Result<String, Fault> {
     }
     let bytes = written_form(alloc, form)?;
     text_of(alloc, &bytes)
-}
-
-fn text_of(alloc: Global, bytes: &[u8]) -> Result<String, Fault> {
-    match str::from_utf8(bytes) {
-        Ok(text) => said(alloc, text),
-        Err(_) => Err(Fault::Line),
-    }
 }
 
 // How views name the array: its shape and its chunks' shape.

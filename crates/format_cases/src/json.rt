@@ -3,8 +3,7 @@ ghost use Rattle.std.specs.Prelude.{◌≡◌, false};
 ghost use Rattle.serde_json.specs.View.{view};
 ghost use Rattle.serde_json.specs.Written.{has_float};
 
-use crate::fault::Fault;
-use crate::read::{bytes, member, said, text, told};
+use case_lines::{Fault, bytes, items, member, number, numbers_of, said, sizes_of, text, told};
 use json_forms::{
     ParseError, compact, has_exactly, i64_list, least_unknown, list_from_i64s, list_from_u64s,
     list_items, parse, u64_list, whole_list, whole_number,
@@ -16,7 +15,7 @@ pub(crate) fn answer(alloc: Global, call: &str, v: &Value) -> Result<String, Fau
     match call {
         "nested" => nested(alloc, v),
         "object" => object(alloc),
-        "bytes" => parsed(alloc, &bytes(alloc, member(v, "bytes")?)?),
+        "bytes" => parsed(alloc, &bytes(alloc, items(member(v, "bytes")?)?)?),
         _ => of_text(alloc, call, v),
     }
 }
@@ -39,7 +38,7 @@ fn parsed(alloc: Global, bytes: &[u8]) -> Result<String, Fault> {
 
 // Whether so many nested lists are JSON.
 fn nested(alloc: Global, v: &Value) -> Result<String, Fault> {
-    let depth = member(v, "depth")?.as_u64().ok_or(Fault::Line)?;
+    let depth = number(v, "depth")?;
     let mut text = String::new(alloc);
     for _ in 0..depth {
         text.push('[')?;
@@ -66,12 +65,12 @@ fn of_value(alloc: Global, call: &str, value: &Value, v: &Value) -> Result<Strin
 }
 
 fn again_u64s(alloc: Global, value: &Value) -> Result<String, Fault> {
-    let numbers = u64_list(alloc, value)?.ok_or(Fault::Line)?;
+    let numbers = sizes_of(alloc, value)?;
     Ok(list_from_u64s(alloc, &numbers)?.to_string(alloc)?)
 }
 
 fn again_i64s(alloc: Global, value: &Value) -> Result<String, Fault> {
-    let numbers = i64_list(alloc, value)?.ok_or(Fault::Line)?;
+    let numbers = numbers_of(alloc, value)?;
     Ok(list_from_i64s(alloc, &numbers)?.to_string(alloc)?)
 }
 

@@ -2,8 +2,7 @@
 ghost use Rattle.std.specs.Prelude.{◌≡◌, ◌<◌, false, length};
 ghost use Rattle.chunk_forms.specs.Metadata.{is_local};
 
-use crate::fault::Fault;
-use crate::read::{bytes, member, told, zero};
+use case_lines::{Fault, bytes, items, member, number, told, zero};
 use cells::Dense;
 use chunk_forms::{Form, FormError, decode_form};
 use serde_json::Value;
@@ -13,18 +12,18 @@ use std::alloc::{AllocError, Global};
 pub(crate) fn one_of_many(alloc: Global, form: &Form, v: &Value) -> Result<String, Fault>
     requires { is_local form.now ≡ false }
 {
-    let place = number(v, "place")?;
-    let more = number(v, "more")?;
+    let place = small(v, "place")?;
+    let more = small(v, "more")?;
     one(
         alloc,
         form,
-        &counted(bytes(alloc, member(v, "bytes")?)?, more)?,
+        &counted(bytes(alloc, items(member(v, "bytes")?)?)?, more)?,
         place,
     )
 }
 
-fn number(v: &Value, name: &str) -> Result<u32, Fault> {
-    u32::try_from(member(v, name)?.as_u64().ok_or(Fault::Line)?).map_err(|_| Fault::Line)
+fn small(v: &Value, name: &str) -> Result<u32, Fault> {
+    u32::try_from(number(v, name)?).map_err(|_| Fault::Line)
 }
 
 fn counted(given: Vec<u8>, more: u32) -> Result<Vec<u8>, AllocError> {

@@ -6,22 +6,22 @@
 mod asking;
 mod cases;
 mod encode;
-mod fault;
 mod forms;
 mod homes;
 mod json;
 mod large;
 mod opening;
-mod read;
 mod wants;
 mod writable;
 
+use case_lines::line_or_no_case;
 use cases::answer;
 use std::io;
 
 fn main(rt: HostRuntime) -> io::Result<()> {
     for line in rt.lines(rt.alloc()) {
-        let text = answer(rt.alloc(), line?.as_str())?;
+        let answer = answer(rt.alloc(), line?.as_str());
+        let text = line_or_no_case(rt.alloc(), answer)?;
         println!(rt; "{text}")?;
     }
     Ok(())

@@ -1,12 +1,10 @@
 // What opening a leaf gives: metadata from stored bytes, and what it is asked against.
 use crate::asking::want;
-use crate::fault::Fault;
 use crate::homes::{info, written};
-use crate::read::{member, told};
 use array_homes::{Decided, FormReadError, OpeningRefusal, check, decide, read_form};
+use case_lines::{Fault, flag, member, sizes_of, text, told};
 use chunk_forms::{Form, Want};
 use history::ArrayInfo;
-use json_forms::u64_list;
 use serde_json::Value;
 use std::alloc::Global;
 
@@ -26,14 +24,7 @@ fn of_want(alloc: Global, call: &str, want: &Want, v: &Value) -> Result<String, 
 
 // The bytes of the member `stored`.
 fn stored(v: &Value) -> Result<&[u8], Fault> {
-    match member(v, "stored")?.as_str() {
-        Some(text) => Ok(text.as_bytes()),
-        None => Err(Fault::Line),
-    }
-}
-
-fn flag(v: &Value, name: &str) -> Result<bool, Fault> {
-    member(v, name)?.as_bool().ok_or(Fault::Line)
+    Ok(text(v, "stored")?.as_bytes())
 }
 
 fn read_bytes(alloc: Global, want: &Want, bytes: &[u8]) -> Result<String, Fault> {
@@ -109,8 +100,6 @@ fn check_info(
     info: &ArrayInfo,
     shape: &Value,
 ) -> Result<String, Fault> {
-    match u64_list(alloc, shape)? {
-        Some(shape) => told(alloc, &check(alloc, want, open, &info.home, &shape)),
-        None => Err(Fault::Line),
-    }
+    let shape = sizes_of(alloc, shape)?;
+    told(alloc, &check(alloc, want, open, &info.home, &shape))
 }

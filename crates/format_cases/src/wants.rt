@@ -1,8 +1,7 @@
 // What is asked of an array, against what is found; arrays that are made as they are asked.
 use crate::asking::want;
-use crate::fault::Fault;
 use crate::forms::{read, written};
-use crate::read::{said, sizes, text, told};
+use case_lines::{Fault, said, sizes, text, told};
 use chunk_forms::{Form, MadeError, Want, default_chunks, is_small, made, mismatch};
 use serde_json::Value;
 use std::alloc::Global;

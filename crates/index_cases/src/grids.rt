@@ -3,10 +3,8 @@ ghost use Rattle.std.specs.Prelude.{◌≡◌, true};
 ghost use Rattle.std.specs.List.{All};
 ghost use Rattle.index_transform.specs.Shapes.{IsInShape};
 
-use crate::args::{items, member, numbers, sizes};
-use crate::fault::Fault;
-use crate::told::told;
 use crate::transforms::first_leaving;
+use case_lines::{Fault, items, member, numbers_of, sizes, told};
 use cells::{Index, List, Sizes};
 use chunk_grid::{Grid, RunPiece, is_grid, runs, runs_of};
 use index_transform::Transform;
@@ -30,8 +28,8 @@ fn over(alloc: Global, call: &str, grid: &Grid, v: &Value) -> Result<String, Fau
 }
 
 fn grid(alloc: Global, v: &Value) -> Result<Grid, Fault> {
-    let shape = sizes(alloc, member(v, "shape")?)?;
-    let chunk = sizes(alloc, member(v, "chunk")?)?;
+    let shape = sizes(alloc, v, "shape")?;
+    let chunk = sizes(alloc, v, "chunk")?;
     if !is_grid(&shape, &chunk) {
         return Err(Fault::Line);
     }
@@ -54,7 +52,7 @@ fn is_inside(shape: &[u64], index: &[i64]) -> bool
 
 // The chunk of a cell, and the cell's place there.
 fn cell(alloc: Global, grid: &Grid, v: &Value) -> Result<String, Fault> {
-    let cell = numbers(alloc, v)?;
+    let cell = numbers_of(alloc, v)?;
     told(alloc, &place(alloc, grid, &cell)?)
 }
 
@@ -106,7 +104,7 @@ fn pieces_over(alloc: Global, cells: &[Index], grid: &Grid) -> Result<List<RunPi
 fn cells(alloc: Global, v: &Value) -> Result<Vec<Index>, Fault> {
     let mut cells = Vec::new(alloc);
     for item in items(v)? {
-        cells.push(Index::wrap(numbers(alloc, item)?))?;
+        cells.push(Index::wrap(numbers_of(alloc, item)?))?;
     }
     Ok(cells)
 }

@@ -2,10 +2,9 @@ ghost use Rattle.std.specs.Prelude.{◌↔◌, IsTrue};
 ghost use Rattle.std.specs.Option.{ForSome};
 ghost use Rattle.index_intervals.specs.Bounds.{IsIndex};
 
-use crate::args::{member, number, number_or_none};
-use crate::fault::Fault;
+use crate::args::number_or_none;
 use crate::parts::{bounds, dims, interval};
-use crate::told::told;
+use case_lines::{Fault, integer, member, told};
 use index_intervals::{Interval, around_all, is_index};
 use serde_json::Value;
 use std::alloc::Global;
@@ -19,14 +18,14 @@ pub(crate) fn answer(alloc: Global, call: &str, v: &Value) -> Result<String, Fau
     }
     let of = interval(v, "of")?;
     match call {
-        "contains" => told(alloc, &of.contains(number(v, "x")?)),
+        "contains" => told(alloc, &of.contains(integer(v, "x")?)),
         "effective" => told(alloc, &of.effective()),
         "meet" => told(alloc, &of.meet(&interval(v, "and")?)),
         "around" => told(alloc, &of.around(&interval(v, "and")?)),
         "has_index" => told(alloc, &of.has_index()),
         "size" => size(alloc, &of),
-        "shift" => told(alloc, &of.shift(number(v, "by")?)),
-        "strided" => strided(alloc, &of, number(v, "by")?),
+        "shift" => told(alloc, &of.shift(integer(v, "by")?)),
+        "strided" => strided(alloc, &of, integer(v, "by")?),
         "slice" => slice(alloc, &of, v),
         _ => Err(Fault::Line),
     }
@@ -70,7 +69,7 @@ fn is_part(part: Option<i64>) -> bool
 fn slice(alloc: Global, of: &Interval, v: &Value) -> Result<String, Fault> {
     let start = number_or_none(v, "start")?;
     let stop = number_or_none(v, "stop")?;
-    let step = number(v, "step")?;
+    let step = integer(v, "step")?;
     if !is_part(start) || !is_part(stop) || !is_index(step.into()) {
         return Err(Fault::Line);
     }

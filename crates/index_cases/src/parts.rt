@@ -1,6 +1,6 @@
 // Intervals, domains and maps by their parts, so that what breaks the rules can be written down.
-use crate::args::{flag_at, items, member, number_at, numbers, sizes};
-use crate::fault::Fault;
+use crate::args::{flag_at, number_at};
+use case_lines::{Fault, items, member, numbers_of, sizes_of, text_of};
 use cells::{Index, List, Name, Sizes};
 use index_intervals::{BadBounds, Interval};
 use index_transform::{Domain, OutMap, Transform, TransformError};
@@ -16,21 +16,24 @@ pub(crate) fn bounds(v: &Value) -> Result<Result<Interval, BadBounds>, Fault> {
     Ok(Interval::new(lo, hi, lo_implicit, hi_implicit))
 }
 
+fn interval_of(v: &Value) -> Result<Interval, Fault> {
+    bounds(v)?.map_err(|_| Fault::Line)
+}
+
 pub(crate) fn interval(v: &Value, name: &str) -> Result<Interval, Fault> {
-    Ok(bounds(member(v, name)?)??)
+    interval_of(member(v, name)?)
 }
 
 pub(crate) fn dims(alloc: Global, v: &Value) -> Result<Vec<Interval>, Fault> {
     let mut dims = Vec::new(alloc);
     for item in items(v)? {
-        dims.push(bounds(item)??)?;
+        dims.push(interval_of(item)?)?;
     }
     Ok(dims)
 }
 
 fn label(alloc: Global, v: &Value) -> Result<Name, Fault> {
-    let text = v.as_str().ok_or(Fault::Line)?;
-    Ok(Name::wrap(String::from_str(alloc, text)?))
+    Ok(Name::wrap(String::from_str(alloc, text_of(v)?)?))
 }
 
 fn labels(alloc: Global, v: &Value) -> Result<Vec<Name>, Fault> {
@@ -62,8 +65,8 @@ fn indexed(alloc: Global, v: &Value) -> Result<OutMap, Fault> {
     Ok(OutMap::Indexed {
         offset: number_at(v, 0)?,
         stride: number_at(v, 1)?,
-        sizes: Sizes::wrap(sizes(alloc, v.get(2).ok_or(Fault::Line)?)?),
-        entries: Index::wrap(numbers(alloc, v.get(3).ok_or(Fault::Line)?)?),
+        sizes: Sizes::wrap(sizes_of(alloc, v.get(2).ok_or(Fault::Line)?)?),
+        entries: Index::wrap(numbers_of(alloc, v.get(3).ok_or(Fault::Line)?)?),
     })
 }
 

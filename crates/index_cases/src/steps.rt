@@ -1,7 +1,5 @@
-use crate::args::member;
-use crate::fault::Fault;
-use crate::told::{shown, told};
 use crate::transforms::at;
+use case_lines::{Fault, member, told, transform_text};
 use dim_expressions::{ApplyError, apply};
 use index_transform::Transform;
 use serde_json::Value;
@@ -37,7 +35,7 @@ fn over(alloc: Global, call: &str, t: &Transform, v: &Value) -> Result<String, F
 
 fn after(alloc: Global, t: &Transform, steps: &Value) -> Result<String, Fault> {
     match applied(alloc, t, steps) {
-        Ok(Ok(t)) => shown(alloc, &t),
+        Ok(Ok(t)) => transform_text(alloc, &t),
         Ok(Err(e)) => told(alloc, &e),
         Err(e) => told(alloc, &e),
     }

@@ -1,19 +1,9 @@
-use crate::fault::Fault;
-use index_transform::{Domain, Transform};
+// Domains as text.
+use case_lines::{Fault, told};
+use index_transform::Domain;
 use std::alloc::Global;
-use std::fmt::Debug;
 use transform_composition::ComposeError;
-use transform_json::{write_domain, write_transform};
-
-// Any answer, by its Debug.
-pub(crate) fn told<T: Debug>(alloc: Global, value: &T) -> Result<String, Fault> {
-    Ok(format!(in alloc; "{value:?}")?)
-}
-
-// A transform, as JSON.
-pub(crate) fn shown(alloc: Global, t: &Transform) -> Result<String, Fault> {
-    Ok(write_transform(alloc, t)?.to_string(alloc)?)
-}
+use transform_json::write_domain;
 
 // A domain, as JSON.
 pub(crate) fn shown_domain(alloc: Global, domain: &Domain) -> Result<String, Fault> {

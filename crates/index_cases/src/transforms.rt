@@ -4,10 +4,9 @@ ghost use Rattle.index_transform.specs.Cells.{cells_of, is_finite};
 ghost use Rattle.index_transform.specs.Shapes.{IsInShape};
 ghost use Rattle.index_transform.specs.Values.{value_at};
 
-use crate::args::{member, numbers, sizes};
-use crate::fault::Fault;
 use crate::parts::made;
-use crate::told::{after, shown, shown_domain, told};
+use crate::told::{after, shown_domain};
+use case_lines::{Fault, member, numbers_of, sizes_of, told, transform_text};
 use index_transform::{AtError, Domain, Transform, Walk};
 use serde_json::Value;
 use std::alloc::Global;
@@ -29,20 +28,20 @@ pub(crate) fn answer(alloc: Global, call: &str, v: &Value) -> Result<String, Fau
 
 fn new(alloc: Global, v: &Value) -> Result<String, Fault> {
     match made(alloc, v)? {
-        Ok(t) => shown(alloc, &t),
+        Ok(t) => transform_text(alloc, &t),
         Err(e) => told(alloc, &e),
     }
 }
 
 fn over(alloc: Global, call: &str, t: &Transform, v: &Value) -> Result<String, Fault> {
     match call {
-        "read" => shown(alloc, t),
+        "read" => transform_text(alloc, t),
         "maps" => told(alloc, &t.maps()),
         "domain" => shown_domain(alloc, t.domain()),
         "at" => at(alloc, t, member(v, "index")?),
         "count" => told(alloc, &(t.count(), t.is_finite())),
         "walk" => walk(alloc, t),
-        "copy" => shown(alloc, &t.copy(alloc)?),
+        "copy" => transform_text(alloc, &t.copy(alloc)?),
         "identity" => identity(alloc, t),
         "leaving" => leaving(alloc, t, member(v, "shape")?),
         "compose" => composed(alloc, t, member(v, "outer")?),
@@ -51,7 +50,7 @@ fn over(alloc: Global, call: &str, t: &Transform, v: &Value) -> Result<String, F
 }
 
 pub(crate) fn at(alloc: Global, t: &Transform, index: &Value) -> Result<String, Fault> {
-    let index = numbers(alloc, index)?;
+    let index = numbers_of(alloc, index)?;
     told(alloc, &values(alloc, t, &index)?)
 }
 
@@ -121,12 +120,12 @@ fn narrowed(alloc: Global, outer: &Domain, t: &mut Transform) -> Result<String, 
 
 fn identity(alloc: Global, t: &Transform) -> Result<String, Fault> {
     let domain = t.domain().copy(alloc)?;
-    shown(alloc, &Transform::identity(alloc, domain)?)
+    transform_text(alloc, &Transform::identity(alloc, domain)?)
 }
 
 // The first output that leaves the shape for some cell.
 fn leaving(alloc: Global, t: &Transform, shape: &Value) -> Result<String, Fault> {
-    let shape = sizes(alloc, shape)?;
+    let shape = sizes_of(alloc, shape)?;
     told(alloc, &first_leaving(t, &shape)?)
 }
 
@@ -150,7 +149,7 @@ fn composed(alloc: Global, inner: &Transform, outer: &Value) -> Result<String, F
 
 fn composition(alloc: Global, outer: &Transform, inner: &Transform) -> Result<String, Fault> {
     match compose(alloc, outer, inner) {
-        Ok(t) => shown(alloc, &t),
+        Ok(t) => transform_text(alloc, &t),
         Err(e) => told(alloc, &e),
     }
 }

@@ -1,5 +1,5 @@
 // Commands and refusals as text.
-use crate::fault::NoMemory;
+use case_lines::{Fault, told};
 use line_forms::{Command, LineError};
 use serde_json::Value;
 use spec_open::SpecError;
@@ -8,27 +8,18 @@ use std::fmt::Debug;
 use step_forms::StepsError;
 
 /// A command by its Debug, but for the values of a write, which stand as JSON behind its name and steps.
-pub(crate) fn command(alloc: Global, command: &Command) -> Result<String, NoMemory> {
+pub(crate) fn command(alloc: Global, command: &Command) -> Result<String, Fault> {
     match command {
         Command::Write {
             name,
             steps,
             values,
         } => write(alloc, name.items(), &steps.items(), values),
-        other => debug(alloc, other),
+        other => told(alloc, other),
     }
 }
 
-fn debug<T: Debug>(alloc: Global, value: &T) -> Result<String, NoMemory> {
-    Ok(format!(in alloc; "{value:?}")?)
-}
-
-fn write<T: Debug>(
-    alloc: Global,
-    name: &str,
-    steps: &T,
-    values: &Value,
-) -> Result<String, NoMemory> {
+fn write<T: Debug>(alloc: Global, name: &str, steps: &T, values: &Value) -> Result<String, Fault> {
     let values = values.to_string(alloc)?;
     with_values(alloc, name, steps, values.as_str())
 }
@@ -38,12 +29,12 @@ fn with_values<T: Debug>(
     name: &str,
     steps: &T,
     values: &str,
-) -> Result<String, NoMemory> {
+) -> Result<String, Fault> {
     Ok(format!(in alloc; "Write {name} {steps:?} {values}")?)
 }
 
 /// Why a line is no command.
-pub(crate) fn refusal(alloc: Global, error: &LineError) -> Result<String, NoMemory> {
+pub(crate) fn refusal(alloc: Global, error: &LineError) -> Result<String, Fault> {
     match error {
         LineError::NotJson => worded(alloc, "bad_line", "json"),
         LineError::NotCommand => worded(alloc, "bad_line", "command"),
@@ -54,7 +45,7 @@ pub(crate) fn refusal(alloc: Global, error: &LineError) -> Result<String, NoMemo
     }
 }
 
-fn spec(alloc: Global, cause: &SpecError) -> Result<String, NoMemory> {
+fn spec(alloc: Global, cause: &SpecError) -> Result<String, Fault> {
     match cause {
         SpecError::BadSpec { path } => worded(alloc, "bad_spec", path.items()),
         SpecError::Unsupported { path } => worded(alloc, "unsupported", path.items()),
@@ -62,13 +53,13 @@ fn spec(alloc: Global, cause: &SpecError) -> Result<String, NoMemory> {
     }
 }
 
-fn step(alloc: Global, cause: StepsError) -> Result<String, NoMemory> {
+fn step(alloc: Global, cause: StepsError) -> Result<String, Fault> {
     match cause {
         StepsError::BadStep { step } => Ok(format!(in alloc; "bad_step {step}")?),
         StepsError::Memory => worded(alloc, "memory", ""),
     }
 }
 
-fn worded(alloc: Global, word: &str, text: &str) -> Result<String, NoMemory> {
+fn worded(alloc: Global, word: &str, text: &str) -> Result<String, Fault> {
     Ok(format!(in alloc; "{word} {text}")?)
 }

@@ -1,24 +1,31 @@
-use crate::fault::Fault;
-use crate::runs::run_line;
+use crate::{made, runs, streams};
+use case_lines::{Fault, as_line};
 use json_forms::parse;
-use std::alloc::{AllocError, Global};
+use serde_json::Value;
+use std::alloc::Global;
 use std::sync::Wait;
 use std::thread::Threads;
 
-/// What a line gives, as lines of text; `no case` where it is no run.
+/// What a line gives, as lines of text: a run of scripts, scripts that are made or the line about a run of them, or streams alone.
 pub(crate) fn answer<R: Threads + Wait + Sync>(
     rt: &R,
     alloc: Global,
     line: &str,
-) -> Result<String, AllocError> {
-    match told(rt, alloc, line) {
-        Ok(text) => Ok(text),
-        Err(Fault::Line) => String::from_str(alloc, "no case\n"),
-        Err(Fault::Memory) => Err(AllocError),
+) -> Result<String, Fault> {
+    let v = parse(alloc, line.as_bytes())?;
+    if is_run(&v) {
+        return runs::run_line(rt, alloc, &v);
     }
+    if v.get("make").is_some() || v.get("logs").is_some() {
+        return made::answer(alloc, &v);
+    }
+    as_line(streams::answer(alloc, &v))
 }
 
-fn told<R: Threads + Wait + Sync>(rt: &R, alloc: Global, line: &str) -> Result<String, Fault> {
-    let v = parse(alloc, line.as_bytes())?;
-    run_line(rt, alloc, &v)
+// A run has an object of scripts; those that streams read are a list.
+fn is_run(v: &Value) -> bool {
+    match v.get("scripts") {
+        Some(scripts) => scripts.as_object().is_some(),
+        None => false,
+    }
 }

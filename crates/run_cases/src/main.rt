@@ -5,20 +5,28 @@
 #![tactic(auto)]
 
 mod cases;
-mod fault;
 mod filling;
 mod gate;
+mod made;
+mod made_events;
+mod made_logs;
+mod made_shown;
 mod mounts;
-mod read;
+mod reading;
 mod reports;
 mod runs;
+mod stream_logs;
+mod streams;
+mod writing;
 
+use case_lines::lines_or_no_case;
 use cases::answer;
 use std::io;
 
 fn main(rt: HostRuntime) -> io::Result<()> {
     for line in rt.lines(rt.alloc()) {
-        let text = answer(&rt, rt.alloc(), line?.as_str())?;
+        let answer = answer(&rt, rt.alloc(), line?.as_str());
+        let text = lines_or_no_case(rt.alloc(), answer)?;
         print!(rt; "{text}")?;
     }
     Ok(())

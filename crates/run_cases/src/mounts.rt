@@ -2,9 +2,8 @@
 ghost use Rattle.std.specs.Prelude.{◌≡◌, codes, None, IfOk};
 ghost use Rattle.kv_mounts.specs.Parts.{AreMounts};
 
-use crate::fault::Fault;
 use crate::filling::fill;
-use crate::read::{items, number_or};
+use case_lines::{Fault, items, number_or};
 use cells::Name;
 use kv_face::MemoryKv;
 use kv_mounts::Mount;

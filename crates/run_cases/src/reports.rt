@@ -1,5 +1,5 @@
-use crate::fault::Fault;
-use crate::read::items;
+// What became of a run.
+use case_lines::{Fault, items, text_of};
 use kv_face::MemoryKv;
 use script_runner::{MemorySink, Mount, Outcome};
 use serde_json::Value;
@@ -47,7 +47,7 @@ fn put_report(
 
 fn put_keys(text: &mut String, keys: &[Value], mounts: &[Mount<MemoryKv>]) -> Result<(), Fault> {
     for key in keys {
-        put_held(text, key.as_str().ok_or(Fault::Line)?, mounts)?;
+        put_held(text, text_of(key)?, mounts)?;
     }
     Ok(())
 }

@@ -3,11 +3,10 @@
 // to fail.
 ghost use Rattle.kv_mounts.specs.Parts.{AreMounts};
 
-use crate::fault::Fault;
 use crate::gate::Open;
 use crate::mounts::mounts_of_line;
-use crate::read::{items, member, number_or};
 use crate::reports::report;
+use case_lines::{Fault, items, member, number_or, text_of};
 use kv_face::MemoryKv;
 use script_runner::{MemoryScripts, MemorySink, Mount, run};
 use serde_json::Value;
@@ -81,8 +80,7 @@ fn add_scripts(scripts: &mut MemoryScripts, v: &Value) -> Result<(), Fault> {
     match v.as_object() {
         Some(map) => {
             for (name, text) in map {
-                let text = text.as_str().ok_or(Fault::Line)?;
-                scripts.add(name.as_str(), text.as_bytes())?;
+                scripts.add(name.as_str(), text_of(text)?.as_bytes())?;
             }
             Ok(())
         }
@@ -102,7 +100,7 @@ fn words(alloc: Global, v: &Value) -> Result<Vec<String>, Fault> {
 
 fn put_words(alloc: Global, words: &mut Vec<String>, list: &[Value]) -> Result<(), Fault> {
     for word in list {
-        words.push(String::from_str(alloc, word.as_str().ok_or(Fault::Line)?)?)?;
+        words.push(String::from_str(alloc, text_of(word)?)?)?;
     }
     Ok(())
 }

@@ -2,10 +2,9 @@
 ghost use Rattle.state_cases.specs.Ready.{IsReady};
 
 use crate::chunks::chunk;
-use crate::fault::Fault;
 use crate::opens::{open, open_local};
-use crate::read::{number, text, told};
 use crate::resizing::new_shape;
+use case_lines::{Fault, number, text, told_line};
 use kv_face::KvStore;
 use serde_json::Value;
 use shared_state::State;
@@ -22,7 +21,7 @@ pub(crate) fn answer<K: KvStore>(
     match text(v, "call")? {
         "open" => open(alloc, v, state),
         "local" => open_local(alloc, v, state),
-        "events" => told(alloc, &state.events()),
+        "events" => told_line(alloc, &state.events()),
         "generation" => generation(alloc, state, text(v, "key")?),
         "resize" => new_shape(alloc, v, state),
         "array" => array(alloc, state, number(v, "array")?),
@@ -33,7 +32,7 @@ pub(crate) fn answer<K: KvStore>(
 fn generation<K: KvStore>(alloc: Global, state: &State<K>, key: &str) -> Result<String, Fault>
     requires { IsReady (K.seen state.now.store) state.now.log }
 {
-    told(alloc, &state.generation(key))
+    told_line(alloc, &state.generation(key))
 }
 
 // An array's present bounds and form, or that there is none of this number.
@@ -41,9 +40,9 @@ fn array<K: KvStore>(alloc: Global, state: &State<K>, array: u64) -> Result<Stri
     requires { IsReady (K.seen state.now.store) state.now.log }
 {
     if !state.has_array(array) {
-        return told(alloc, &"no array");
+        return told_line(alloc, &"no array");
     }
     let bounds = state.bounds(array)?;
     let form = state.info(array)?;
-    told(alloc, &(bounds, form))
+    told_line(alloc, &(bounds, form))
 }

@@ -3,10 +3,10 @@ ghost use Rattle.std.specs.Prelude.{◌≡◌};
 ghost use Rattle.state_laws.specs.Fetches.{IsChunkOf};
 ghost use Rattle.state_cases.specs.Ready.{IsReady};
 
-use crate::fault::Fault;
+use crate::owner::owner;
 use crate::planning::plan;
-use crate::read::{number, owner, sizes, told};
 use crate::settling::settle;
+use case_lines::{Fault, number, sizes, told_line};
 use kv_face::KvStore;
 use serde_json::Value;
 use shared_state::State;
@@ -46,7 +46,7 @@ fn of_chunk<K: KvStore>(
     ensures { IsReady (K.seen state.new.store) state.new.log }
 {
     if !state.is_chunk(array, chunk) {
-        return told(alloc, &"no chunk");
+        return told_line(alloc, &"no chunk");
     }
     match call {
         "fetch" => fetch(alloc, owner, array, chunk, state),
@@ -71,7 +71,7 @@ fn fetch<K: KvStore>(
     ensures { IsReady (K.seen state.new.store) state.new.log }
 {
     let answer = state.fetch(owner, array, chunk);
-    told(alloc, &answer)
+    told_line(alloc, &answer)
 }
 
 fn look<K: KvStore>(
@@ -86,7 +86,7 @@ fn look<K: KvStore>(
     ensures { IsReady (K.seen state.new.store) state.new.log }
 {
     let answer = state.look(owner, array, chunk);
-    told(alloc, &answer)
+    told_line(alloc, &answer)
 }
 
 fn kept<K: KvStore>(
@@ -100,7 +100,7 @@ fn kept<K: KvStore>(
     ensures { IsReady (K.seen state.new.store) state.new.log }
 {
     let answer = state.kept(array, chunk);
-    told(alloc, &answer)
+    told_line(alloc, &answer)
 }
 
 fn key<K: KvStore>(
@@ -112,5 +112,5 @@ fn key<K: KvStore>(
     requires { IsChunkOf state.now.log.events (record { array = array; index = chunk.now }) }
 {
     let key = state.key(array, chunk)?;
-    told(alloc, &key.items())
+    told_line(alloc, &key.items())
 }

@@ -10,9 +10,7 @@ ghost use Rattle.rebase_writes.specs.Staged.{AreWords};
 ghost use Rattle.state_laws.specs.Fetches.{IsChunkOf};
 ghost use Rattle.state_cases.specs.Ready.{IsReady};
 
-use crate::fault::Fault;
-use crate::filling::bytes;
-use crate::read::{items, member, number_or, told, word_of};
+use case_lines::{Fault, bytes, items, member, number_or, told_line, word_of};
 use cells::{Dtype, List, MOST_CHUNK_CELLS, count_cells};
 use chunk_forms::Form;
 use chunk_laying::{is_chunk_of, is_gone};
@@ -40,7 +38,7 @@ pub(crate) fn plan<K: KvStore>(
     if reaches(&form, chunk) {
         plan_in(alloc, owner, array, chunk, v, &form, state)
     } else {
-        told(alloc, &"no part of a stored array")
+        told_line(alloc, &"no part of a stored array")
     }
 }
 
@@ -112,15 +110,15 @@ fn plan_staged<K: KvStore>(
     };
     match plan_write(alloc, state, owner, 0, write) {
         Ok(plan) => told_left(alloc, &plan.left),
-        Err(error) => told(alloc, &error),
+        Err(error) => told_line(alloc, &error),
     }
 }
 
 fn told_left(alloc: Global, left: &Left) -> Result<String, Fault> {
     match left {
-        Left::Stored { bytes: Some(bytes) } => told(alloc, &bytes.items()),
-        Left::Stored { bytes: None } => told(alloc, &"fill"),
-        Left::Held { .. } => told(alloc, &"held"),
+        Left::Stored { bytes: Some(bytes) } => told_line(alloc, &bytes.items()),
+        Left::Stored { bytes: None } => told_line(alloc, &"fill"),
+        Left::Held { .. } => told_line(alloc, &"held"),
     }
 }
 

@@ -4,8 +4,8 @@ ghost use Rattle.cells.specs.Shapes.{IsShape};
 ghost use Rattle.state_resizes.specs.Conditions.{IsAsked};
 ghost use Rattle.state_cases.specs.Ready.{IsReady};
 
-use crate::fault::Fault;
-use crate::read::{number, owner, sizes, told};
+use crate::owner::owner;
+use case_lines::{Fault, number, sizes, told_line};
 use cells::is_shape;
 use kv_face::KvStore;
 use serde_json::Value;
@@ -36,11 +36,11 @@ fn of_array<K: KvStore>(
     ensures { IsReady (K.seen state.new.store) state.new.log }
 {
     if !state.has_array(array) || state.is_local(array) {
-        return told(alloc, &"no stored array");
+        return told_line(alloc, &"no stored array");
     }
     let bounds = state.bounds(array)?;
     if !may_follow(bounds.shape.items(), shape) {
-        return told(alloc, &"no shape");
+        return told_line(alloc, &"no shape");
     }
     resized(alloc, owner, array, shape, state)
 }
@@ -65,5 +65,5 @@ fn resized<K: KvStore>(
     ensures { IsReady (K.seen state.new.store) state.new.log }
 {
     let answer = resize(alloc, state, owner, array, shape);
-    told(alloc, &answer)
+    told_line(alloc, &answer)
 }

@@ -5,9 +5,7 @@ ghost use Rattle.std.specs.Prelude.{◌≡◌, ◌≤◌, ◌^◌, None};
 ghost use Rattle.state_cases.specs.Ready.{IsReady};
 
 use crate::calls::answer;
-use crate::fault::Fault;
-use crate::filling::store;
-use crate::read::{items, member, number_or, told};
+use case_lines::{Fault, items, member, number_or, put_gets, store_of, told_line};
 use kv_face::{KvStore, MemoryKv};
 use kv_mounts::FileKv;
 use serde_json::Value;
@@ -30,7 +28,7 @@ pub(crate) fn run(rt: HostRuntime, alloc: Global, v: &Value) -> Result<String, F
 fn over_memory(alloc: Global, v: &Value, limit: u64) -> Result<String, Fault>
     requires { limit ≤ 2 ^ 27 }
 {
-    let store = store(alloc, v)?;
+    let store = store_of(alloc, v, items(member(v, "store")?)?)?;
     let (text, store) = called(alloc, v, store, limit)?;
     ended(alloc, v, text, &store)
 }
@@ -111,14 +109,8 @@ fn ended(alloc: Global, v: &Value, mut text: String, store: &MemoryKv) -> Result
     Ok(text)
 }
 
-fn put_gets(alloc: Global, text: &mut String, gets: u64) -> Result<(), Fault> {
-    let line = format!(in alloc; "gets {gets}\n")?;
-    text.push_str(line.as_str())?;
-    Ok(())
-}
-
 fn put_held(alloc: Global, text: &mut String, key: &str, store: &MemoryKv) -> Result<(), Fault> {
-    let line = told(alloc, &store.held(key))?;
+    let line = told_line(alloc, &store.held(key))?;
     text.push_str(line.as_str())?;
     Ok(())
 }

@@ -9,8 +9,7 @@ ghost use Rattle.state_laws.specs.Fetches.{IsChunkOf};
 ghost use Rattle.state_cases.specs.Ready.{IsReady};
 ghost use Rattle.state_cases.specs.Usable.{IsReadyWith, IsReadyFor, IsReadyBy};
 
-use crate::fault::Fault;
-use crate::read::told;
+use case_lines::{Fault, told_line};
 use cells::{Dense, List};
 use chunk_cache::Snapshot;
 use chunk_forms::{Form, FormError, decode_form};
@@ -32,7 +31,7 @@ pub(crate) fn settle<K: KvStore>(
 {
     match state.look(owner, array, chunk) {
         Ok(look) => settle_look(alloc, array, chunk, &look, state),
-        Err(error) => told(alloc, &error),
+        Err(error) => told_line(alloc, &error),
     }
 }
 
@@ -49,7 +48,7 @@ fn settle_look<K: KvStore>(
     ensures { IsReady (K.seen state.new.store) state.new.log }
 {
     match look {
-        Look::Kept { .. } => told(alloc, &"kept"),
+        Look::Kept { .. } => told_line(alloc, &"kept"),
         Look::Bytes {
             generation,
             form,
@@ -75,7 +74,7 @@ fn settle_bytes<K: KvStore>(
 {
     match decoded(alloc, form, bytes) {
         Ok(cells) => settle_cells(alloc, array, chunk, generation, cells, state),
-        Err(error) => told(alloc, &error),
+        Err(error) => told_line(alloc, &error),
     }
 }
 
@@ -121,5 +120,5 @@ fn settle_cells<K: KvStore>(
     };
     let snapshot = Snapshot::new(generation, cells);
     let answer = state.settle(array, chunk, snapshot);
-    told(alloc, &answer)
+    told_line(alloc, &answer)
 }

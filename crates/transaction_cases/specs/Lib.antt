@@ -1,3 +1,3 @@
 pub mod Mounted
-pub mod Shapes
 pub mod Seats
+pub mod Sessions

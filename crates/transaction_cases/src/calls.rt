@@ -4,12 +4,11 @@ ghost use Rattle.state_laws.specs.Agreement.{Opening};
 ghost use Rattle.turn_book.specs.Passes.{BookView};
 ghost use Rattle.transaction_cases.specs.Seats.{IsSeat, IsSeatThen, TakesBoth};
 
-use crate::fault::Fault;
 use crate::locals::open_local;
 use crate::opens::{open, resize};
-use crate::read::{text, told};
 use crate::seats::Seat;
 use crate::txn_calls::{begin, commit, read, write};
+use case_lines::{Fault, text, told_line};
 use kv_face::KvStore;
 use serde_json::Value;
 use shared_state::State;
@@ -48,5 +47,5 @@ fn abort<K: KvStore>(alloc: Global, seat: &mut Seat<K>) -> Result<String, Fault>
         → OnOk result (IsSeatThen book seat.old.pass seat.new.pass seat.new.arrays.items seat.new.txn) }
 {
     seat.txn = None;
-    told(alloc, &"aborted")
+    told_line(alloc, &"aborted")
 }

@@ -1,19 +1,22 @@
-use crate::fault::Fault;
-use crate::runs::run;
+use crate::{runs, session_lines};
+use case_lines::Fault;
 use json_forms::parse;
-use std::alloc::{AllocError, Global};
+use std::alloc::Global;
 use std::sync::Wait;
 
-/// What the calls of a line give, as lines of text; `no case` where it is no run.
-pub(crate) fn answer<R: Wait>(rt: &R, alloc: Global, line: &str) -> Result<String, AllocError> {
-    match told(rt, alloc, line) {
-        Ok(text) => Ok(text),
-        Err(Fault::Line) => String::from_str(alloc, "no case\n"),
-        Err(Fault::Memory) => Err(AllocError),
+/// What a line gives, as lines of text: its first word says whether calls of transactions are behind it, or lines of sessions.
+pub(crate) fn answer<R: Wait>(rt: &R, alloc: Global, line: &str) -> Result<String, Fault> {
+    match line.split_once(' ') {
+        Some((kind, rest)) => of_kind(rt, alloc, kind, rest),
+        None => Err(Fault::Line),
     }
 }
 
-fn told<R: Wait>(rt: &R, alloc: Global, line: &str) -> Result<String, Fault> {
-    let v = parse(alloc, line.as_bytes())?;
-    run(rt, alloc, &v)
+fn of_kind<R: Wait>(rt: &R, alloc: Global, kind: &str, rest: &str) -> Result<String, Fault> {
+    let v = parse(alloc, rest.as_bytes())?;
+    match kind {
+        "transactions" => runs::run(rt, alloc, &v),
+        "sessions" => session_lines::run(rt, alloc, &v),
+        _ => Err(Fault::Line),
+    }
 }

@@ -1,6 +1,5 @@
 // What a line shows behind its calls.
-use crate::fault::Fault;
-use crate::read::{items, told};
+use case_lines::{Fault, items, put_gets, told_line};
 use history::{Event, Kind};
 use kv_face::MemoryKv;
 use serde_json::Value;
@@ -24,16 +23,19 @@ fn put_event(alloc: Global, text: &mut String, event: &Event) -> Result<(), Faul
 // that was committed of it; an array's number and shape; a mount.
 fn event_line(alloc: Global, owner: u32, kind: &Kind) -> Result<String, Fault> {
     match kind {
-        Kind::Opened { array } => told(alloc, &(owner, "opened", array.number)),
+        Kind::Opened { array } => told_line(alloc, &(owner, "opened", array.number)),
         Kind::Done { line, ops, key, .. } => {
             let key = match key {
                 Some(key) => Some(key.items()),
                 None => None,
             };
-            told(alloc, &(owner, "done", line, ops.items().len(), key))
+            told_line(alloc, &(owner, "done", line, ops.items().len(), key))
         }
-        Kind::Resized { array, shape } => told(alloc, &(owner, "resized", array, shape.items())),
-        Kind::Fault { mount } => told(alloc, &(owner, "fault", mount.items())),
+        Kind::Resized { array, shape } => told_line(
+            alloc,
+            &(owner, "resized", array, shape.items()),
+        ),
+        Kind::Fault { mount } => told_line(alloc, &(owner, "fault", mount.items())),
     }
 }
 
@@ -53,14 +55,8 @@ pub(crate) fn ended(
     Ok(())
 }
 
-fn put_gets(alloc: Global, text: &mut String, gets: u64) -> Result<(), Fault> {
-    let line = format!(in alloc; "gets {gets}\n")?;
-    text.push_str(line.as_str())?;
-    Ok(())
-}
-
 fn put_held(alloc: Global, text: &mut String, key: &str, store: &MemoryKv) -> Result<(), Fault> {
-    let line = told(alloc, &(key, store.held(key)))?;
+    let line = told_line(alloc, &(key, store.held(key)))?;
     text.push_str(line.as_str())?;
     Ok(())
 }

@@ -1,5 +1,5 @@
-//! `transaction_cases`: each line of stdin is a store or two, and calls of two sessions on transactions over it, as JSON; stdout is what
-//! the calls give, one line each, then the events and what the stores hold.
+//! `transaction_cases`: each line of stdin is a store or two, and calls of two sessions on transactions over it, or a store and lines of two
+//! sessions, as JSON; stdout is what they give, then what the stores hold.
 //!
 //! The lines stand in the file `stdin` and what they must give in `stdout`, worked out by hand.
 #![tactic(auto)]
@@ -7,24 +7,27 @@
 mod calls;
 mod cases;
 mod ended;
-mod fault;
 mod filling;
 mod gates;
 mod locals;
 mod opens;
-mod read;
 mod runs;
+mod scripts;
 mod seats;
+mod session_ends;
+mod session_lines;
+mod steps;
 mod txn_calls;
 mod views;
-mod wants;
 
+use case_lines::lines_or_no_case;
 use cases::answer;
 use std::io;
 
 fn main(rt: HostRuntime) -> io::Result<()> {
     for line in rt.lines(rt.alloc()) {
-        let text = answer(&rt, rt.alloc(), line?.as_str())?;
+        let answer = answer(&rt, rt.alloc(), line?.as_str());
+        let text = lines_or_no_case(rt.alloc(), answer)?;
         print!(rt; "{text}")?;
     }
     Ok(())

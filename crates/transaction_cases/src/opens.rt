@@ -13,10 +13,8 @@ ghost use Rattle.state_resizes.specs.Conditions.{IsAsked};
 ghost use Rattle.transaction_cases.specs.Mounted.{IsName};
 ghost use Rattle.transaction_cases.specs.Seats.{IsSeat, IsSeatThen, TakesBoth};
 
-use crate::fault::Fault;
-use crate::read::{is_true, number, sizes, text, told};
 use crate::seats::Seat;
-use crate::wants::want;
+use case_lines::{Fault, is_true, number, sizes, text, told_line, want};
 use cells::{Name, is_shape};
 use kv_face::KvStore;
 use serde_json::Value;
@@ -44,7 +42,7 @@ pub(crate) fn open<K: KvStore, R: Wait>(
     match open_in_turn(rt, book, &mut seat.pass, &asked) {
         Ok(opened) => opened_told(alloc, opened, &mut seat.arrays),
         Err(OpenError::Memory) => Err(Fault::Memory),
-        Err(e) => told(alloc, &e),
+        Err(e) => told_line(alloc, &e),
     }
 }
 
@@ -58,7 +56,7 @@ pub(crate) fn opened_told(
 {
     let event = opened.event;
     arrays.push(opened.array)?;
-    told(alloc, &event)
+    told_line(alloc, &event)
 }
 
 fn asked(alloc: Global, v: &Value) -> Result<Asked, Fault>
@@ -135,8 +133,8 @@ fn resized<K: KvStore, R: Wait>(
     ensures { HasPassed book.now pass.old pass.new }
 {
     match resize_in_turn(alloc, rt, book, pass, array, shape) {
-        Ok(event) => told(alloc, &event),
+        Ok(event) => told_line(alloc, &event),
         Err(ResizeError::Memory) => Err(Fault::Memory),
-        Err(e) => told(alloc, &e),
+        Err(e) => told_line(alloc, &e),
     }
 }

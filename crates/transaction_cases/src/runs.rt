@@ -6,11 +6,10 @@ ghost use Rattle.turn_book.specs.Passes.{AreNew, IsIdle};
 
 use crate::calls::answer;
 use crate::ended::{ended, put_events};
-use crate::fault::Fault;
 use crate::filling::{mounts, store};
 use crate::gates::Open;
-use crate::read::{items, member, number_or};
 use crate::seats::Seat;
+use case_lines::{Fault, items, member, number_or};
 use kv_face::{KvStore, MemoryKv};
 use kv_mounts::Mount;
 use serde_json::Value;

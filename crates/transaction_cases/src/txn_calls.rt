@@ -16,10 +16,9 @@ ghost use Rattle.transactions.specs.Conditions.{MayUse};
 ghost use Rattle.transaction_cases.specs.Seats.{HasSound, IsSeat, IsSeatThen};
 ghost use Rattle.turn_book.specs.Passes.{BookView};
 
-use crate::fault::Fault;
-use crate::read::{is_true, items, member, number_or, told, word_of};
 use crate::seats::Seat;
 use crate::views::view;
+use case_lines::{Fault, is_true, items, member, number_or, told_line, word_of};
 use cells::Dtype;
 use commits::CommitRefused;
 use history::Mode;
@@ -42,7 +41,7 @@ pub(crate) fn begin(alloc: Global, v: &Value, txn: &mut Option<Txn>) -> Result<S
     };
     let line = number_or(v, "line", 0)?;
     *txn = Some(Txn::begin(alloc, line, mode));
-    told(alloc, &"begun")
+    told_line(alloc, &"begun")
 }
 
 pub(crate) fn write<K: KvStore>(
@@ -57,7 +56,7 @@ pub(crate) fn write<K: KvStore>(
     let view = view(alloc, v, &seat.arrays)?;
     match &mut seat.txn {
         Some(t) => stage(alloc, &view, items(member(v, "numbers")?)?, t),
-        None => told(alloc, &"no transaction"),
+        None => told_line(alloc, &"no transaction"),
     }
 }
 
@@ -93,8 +92,8 @@ fn stage_words(alloc: Global, view: &View, words: &[u64], t: &mut Txn) -> Result
         return Err(Fault::Line);
     }
     match t.write(alloc, view, words) {
-        Ok(()) => told(alloc, &"staged"),
-        Err(WriteError::View { fault }) => told(alloc, &fault),
+        Ok(()) => told_line(alloc, &"staged"),
+        Err(WriteError::View { fault }) => told_line(alloc, &fault),
         Err(WriteError::Memory) => Err(Fault::Memory),
     }
 }
@@ -123,7 +122,7 @@ pub(crate) fn read<K: KvStore, R: Wait, G: Gate>(
     let view = view(alloc, v, &seat.arrays)?;
     match &mut seat.txn {
         Some(t) => read_view(rt, alloc, book, &mut seat.pass, &view, t, gate),
-        None => told(alloc, &"no transaction"),
+        None => told_line(alloc, &"no transaction"),
     }
 }
 
@@ -152,10 +151,10 @@ fn read_view<K: KvStore, R: Wait, G: Gate>(
 // Why a view was not read.
 fn unread(alloc: Global, e: &ReadError) -> Result<String, Fault> {
     match e {
-        ReadError::View { fault } => told(alloc, fault),
-        ReadError::StoreFailed { event } => told(alloc, &("store failed", event)),
-        ReadError::Damaged { key, cause } => told(alloc, &("damaged", key.items(), cause)),
-        ReadError::Shrunk { key, now } => told(alloc, &("shrunk", key.items(), now)),
+        ReadError::View { fault } => told_line(alloc, fault),
+        ReadError::StoreFailed { event } => told_line(alloc, &("store failed", event)),
+        ReadError::Damaged { key, cause } => told_line(alloc, &("damaged", key.items(), cause)),
+        ReadError::Shrunk { key, now } => told_line(alloc, &("shrunk", key.items(), now)),
         ReadError::Memory => Err(Fault::Memory),
     }
 }
@@ -164,7 +163,7 @@ fn numbers_told(alloc: Global, dtype: Dtype, words: &[u64]) -> Result<String, Fa
     requires typed { AllByRecursion (IsWord dtype) words.now }
 {
     let numbers = numbers(alloc, dtype, words)?;
-    told(alloc, &numbers)
+    told_line(alloc, &numbers)
 }
 
 fn numbers(alloc: Global, dtype: Dtype, words: &[u64]) -> Result<Vec<i128>, Fault>
@@ -189,7 +188,7 @@ pub(crate) fn commit<K: KvStore, R: Wait, G: Gate>(
 {
     match seat.txn.take() {
         Some(t) => committed(rt, alloc, book, seat, t, gate),
-        None => told(alloc, &"no transaction"),
+        None => told_line(alloc, &"no transaction"),
     }
 }
 
@@ -208,7 +207,7 @@ fn committed<K: KvStore, R: Wait, G: Gate>(
     ensures seat { OnOk result (IsSeatThen book.now seat.old.pass seat.new.pass seat.new.arrays.items seat.new.txn) }
 {
     match t.commit(alloc, rt, book, &mut seat.pass, gate) {
-        Ok(numbers) => told(alloc, &numbers.items()),
+        Ok(numbers) => told_line(alloc, &numbers.items()),
         Err(CommitError { why, left }) => {
             seat.txn = left;
             refused(alloc, &why)
@@ -220,13 +219,13 @@ fn committed<K: KvStore, R: Wait, G: Gate>(
 fn refused(alloc: Global, why: &CommitRefused) -> Result<String, Fault> {
     match why {
         CommitRefused::Conflict { key, read, now } => {
-            told(alloc, &("conflict", key.items(), read, now))
+            told_line(alloc, &("conflict", key.items(), read, now))
         }
-        CommitRefused::Shrunk { key, now } => told(alloc, &("shrunk", key.items(), now)),
-        CommitRefused::NotAtomic { keys } => told(alloc, &("not atomic", keys)),
-        CommitRefused::Damaged { key, cause } => told(alloc, &("damaged", key.items(), cause)),
+        CommitRefused::Shrunk { key, now } => told_line(alloc, &("shrunk", key.items(), now)),
+        CommitRefused::NotAtomic { keys } => told_line(alloc, &("not atomic", keys)),
+        CommitRefused::Damaged { key, cause } => told_line(alloc, &("damaged", key.items(), cause)),
         CommitRefused::StoreFailed { event, done } => {
-            told(alloc, &("store failed", event, done.items()))
+            told_line(alloc, &("store failed", event, done.items()))
         }
         CommitRefused::Memory => Err(Fault::Memory),
     }

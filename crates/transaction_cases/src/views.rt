@@ -6,9 +6,8 @@ ghost use Rattle.history.specs.History.{History};
 ghost use Rattle.history.specs.Refs.{HasKnownRefs, IsKnownRef};
 ghost use Rattle.stack_driver.specs.Conditions.{IsView};
 
-use crate::fault::Fault;
-use crate::read::{member, number, text};
-use cells::{Boxed, Dtype, Sizes};
+use case_lines::{Fault, dtype, member, number};
+use cells::{Boxed, Sizes};
 use index_transform::Transform;
 use serde_json::Value;
 use stack_driver::{ArrayRef, View};
@@ -34,7 +33,7 @@ fn cast(alloc: Global, v: &Value, base: View) -> Result<View, Fault>
     if v.get("cast").is_none() {
         return Ok(base);
     }
-    let to = Dtype::named(text(v, "cast")?).ok_or(Fault::Line)?;
+    let to = dtype(v, "cast")?;
     Ok(View::Cast {
         to,
         base: Boxed::new(alloc, base)?,

@@ -1,2 +1,0 @@
-pub mod MountLaws
-pub mod SessionLaws

@@ -1,8 +1,0 @@
-use Rattle.session_cases.proofs.SessionLaws.{between_fresh}
-use Rattle.session_cases.proofs.runs.answers.Goals as goal
-
-pub by_steps-requires-clause-one : goal.by_steps-requires-clause-one
-by_steps-requires-clause-one g c = between_fresh c.args.book.now 0 _ c.requires.one
-
-pub by_steps-requires-clause-other : goal.by_steps-requires-clause-other
-by_steps-requires-clause-other g c = between_fresh c.args.book.now 1 _ c.requires.other

@@ -1,6 +1,0 @@
-use Rattle.std.specs.List.{AllByRecursion}
-use Rattle.stack_driver.specs.Conditions.{IsView}
-use Rattle.view_cases.proofs.building.built.Given as goal
-
-abbrev pub invariant-loop-act : goal.invariant-loop-act
-invariant-loop-act l = AllByRecursion IsView l.made.items
