@@ -259,7 +259,7 @@ fn run_texts<O: Writer, K: KvStore + Send, R: Threads + Wait + Sync, G: Gate + S
 {
     let list = mem::replace(mounts, Vec::new(alloc));
     match run_over(alloc, rt, list, texts, workers, cache, behind(report), gate) {
-        Ok(finished) => told(alloc, sink, report, mounts, finished),
+        Ok(finished) => told(alloc, rt, workers, sink, report, mounts, finished),
         Err(back) => {
             *mounts = back;
             unstarted(alloc, 5, None)
@@ -276,13 +276,16 @@ fn behind(report: Report) -> usize {
 }
 
 // Puts the mounts back and writes what is to be told.
-fn told<O: Writer, K: KvStore>(
+fn told<O: Writer, K: KvStore, R: Threads + Sync>(
     alloc: Global,
+    rt: &R,
+    workers: u32,
     sink: &mut O,
     report: Report,
     mounts: &mut Vec<Mount<K>>,
     finished: Finished<K>,
 ) -> Outcome
+    requires workers { 0 < workers }
     ensures mounts { mounts.new.items ≡ finished.mounts.items }
     ensures history { result.history ≡ finished.history.items }
     ensures logs { result.logs ≡ finished.logs.items }
@@ -311,6 +314,8 @@ fn told<O: Writer, K: KvStore>(
     *mounts = back;
     let status = status_of(
         alloc,
+        rt,
+        workers,
         sink,
         report,
         logs.as_slice(),

@@ -1,5 +1,5 @@
 // The status of a run whose sessions were started, and what is written of it.
-ghost use Rattle.std.specs.Prelude.{◌≡◌, ◌≢◌, ◌≤◌, ◌⊎◌, ◌&&◌, ◌++◌, [], Some, true, false, OnOk, IsErrOf, if◌then◌else◌};
+ghost use Rattle.std.specs.Prelude.{◌≡◌, ◌≢◌, ◌≤◌, ◌<◌, ◌⊎◌, ◌&&◌, ◌++◌, [], Some, true, false, OnOk, IsErrOf, if◌then◌else◌};
 ghost use Rattle.kv_face.specs.Streams.{WhereTold, Rises, IsPartOf};
 ghost use Rattle.made_scripts.specs.Summary.{summary_text};
 ghost use Rattle.script_runner.specs.Promises.{HasAnswers, IsPut, is_empty, text_of};
@@ -10,8 +10,9 @@ use answer_text::Answer;
 use cells::List;
 use history::Event;
 use made_scripts::summary;
-use script_streams::{Unwritten, Writer, are_all_ok, has_memory, write_logs};
+use script_streams::{Unwritten, Writer, are_all_ok, has_memory, write_logs_beside};
 use std::alloc::Global;
+use std::thread::Threads;
 
 /// What is written of a run: the answers of all sessions, or one line about them.
 #[derive(Clone, Copy)]
@@ -21,8 +22,10 @@ pub(crate) enum Report {
 }
 
 /// Writes what is to be told of a run, unless a session ended without an answer to a line, and tells the status.
-pub(crate) fn status_of<O: Writer>(
+pub(crate) fn status_of<O: Writer, R: Threads + Sync>(
     alloc: Global,
+    rt: &R,
+    workers: u32,
     sink: &mut O,
     report: Report,
     logs: &[List<Answer>],
@@ -30,6 +33,7 @@ pub(crate) fn status_of<O: Writer>(
     whole: bool,
     unfinished: &[u32],
 ) -> u8
+    requires workers { 0 < workers }
     ensures known { (result ≤ 5) × (result ≢ 2) × (result ≢ 3) }
     ensures status { HasAnswers result → result ≡ (if are_all_ok logs.now && is_empty unfinished.now then 0 else 1) }
     ensures answers { HasAnswers result → holds_memory logs.now ≡ false }
@@ -45,20 +49,23 @@ pub(crate) fn status_of<O: Writer>(
     if !whole {
         return 5;
     }
-    match write_report(alloc, sink, report, logs, history) {
+    match write_report(alloc, rt, workers, sink, report, logs, history) {
         Ok(()) => status_by(logs, unfinished),
         Err(Unwritten::Failed) => 4,
         Err(Unwritten::Memory) => 5,
     }
 }
 
-fn write_report<O: Writer>(
+fn write_report<O: Writer, R: Threads + Sync>(
     alloc: Global,
+    rt: &R,
+    workers: u32,
     sink: &mut O,
     report: Report,
     logs: &[List<Answer>],
     history: &[Event],
 ) -> Result<(), Unwritten>
+    requires workers { 0 < workers }
     ensures all { OnOk result (WhereTold (O.content sink.old) (λ before.
         O.content sink.new ≡ Some (before ++ text_of report logs.now history.now))) }
     ensures part { WhereTold (O.content sink.old) (λ before.
@@ -67,7 +74,7 @@ fn write_report<O: Writer>(
     ensures run { IsPutting O.takes sink.old (text_of report logs.now history.now) result [] sink.new }
 {
     match report {
-        Report::Answers => write_logs(alloc, sink, logs),
+        Report::Answers => write_logs_beside(alloc, rt, workers as usize, sink, logs),
         Report::Summary => write_summary(alloc, sink, logs, history),
     }
 }

@@ -4,7 +4,7 @@ use Rattle.std.specs.List.{flat_map}
 use Rattle.std.proofs.lemmas.List.{take_all}
 use Rattle.std.proofs.lemmas.Grind.{flat_map-append}
 use Rattle.script_streams.specs.Putting.{Takes, AreTaken, IsGoing, IsBroken, IsPutting, text_of_pieces}
-use Rattle.script_streams.proofs.Pieces.{text_more, text_parts}
+use Rattle.script_streams.proofs.Pieces.{text_more, text_parts, texts_more, texts_parts}
 use Rattle.script_streams.specs.declared.writing.Unwritten.{Unwritten}
 use Rattle.script_streams.specs.declared.writing.Unwritten.TheVariants.{Failed, Memory}
 
@@ -120,3 +120,20 @@ module _ {X : Type 0} (takes : Takes X) where
   pub items_given : {Y : Type 0} (f : Y → List ℕ) (start : List ℕ) (ys : List Y) (place : ℕ) (from to : X) (waiting : List ℕ) → length ys ≤ place
       → IsGoing takes from (start ++ flat_map f (take place ys)) waiting to → IsGoing takes from (start ++ flat_map f ys) waiting to
   items_given f start ys place from to waiting past going = subst (λ zs. IsGoing takes from (start ++ flat_map f zs) waiting to) (take_all place ys past) going
+
+  -- the texts of some items more were given
+  pub some_given : {Y : Type 0} (f : Y → List ℕ) (ys some : List Y) (first count : ℕ) (from between to : X) (waiting left : List ℕ) → some ≡ take count (drop first ys)
+      → IsGoing takes from (flat_map f (take first ys)) waiting between → IsGoing takes between (waiting ++ flat_map f some) left to
+      → IsGoing takes from (flat_map f (take (first + count) ys)) left to
+  some_given f ys some first count from between to waiting left is going next =
+      subst (λ t. IsGoing takes from t left to) (ap (λ zs. flat_map f (take first ys) ++ flat_map f zs) is ∙ texts_more f ys first count)
+      (goes_on from between to (flat_map f (take first ys)) waiting (flat_map f some) left (Ok tt) going next)
+
+  -- it ended within the texts of some items
+  pub some_ended : {Y : Type 0} (f : Y → List ℕ) (ys some : List Y) (first count : ℕ) (from between to : X) (waiting left : List ℕ) (e : Unwritten) → some ≡ take count (drop first ys)
+      → IsGoing takes from (flat_map f (take first ys)) waiting between → IsPutting takes between (waiting ++ flat_map f some) (Err e) left to
+      → IsPutting takes from (flat_map f ys) (Err e) left to
+  some_ended f ys some first count from between to waiting left e is going next =
+      subst (λ t. IsPutting takes from t (Err e) left to) (ap (λ zs. (flat_map f (take first ys) ++ flat_map f zs) ++ flat_map f (drop (first + count) ys)) is ∙ texts_parts f ys first count)
+      (ended_longer from to (flat_map f (take first ys) ++ flat_map f some) (flat_map f (drop (first + count) ys)) left e
+      (goes_on from between to (flat_map f (take first ys)) waiting (flat_map f some) left (Err e) going next))

@@ -1,7 +1,7 @@
 -- Texts that are written piece by piece.
-use Rattle.std.proofs.Common.{◌≡◌, ◌<◌, ◌≤◌, ◌+◌, ◌++◌, [], ℕ, List, Option, Some, length, take, drop, get_or, sym, ap, subst, ◌∙◌, append_assoc, append-nil}
+use Rattle.std.proofs.Common.{◌≡◌, ◌<◌, ◌≤◌, ◌+◌, ◌++◌, [], ℕ, List, Option, Some, length, take, drop, get_or, sym, ap, subst, ◌∙◌, append_assoc, append-nil, arith}
 use Rattle.std.specs.List.{flat_map}
-use Rattle.std.proofs.lemmas.List.{take-append-drop, take_all, take_more, flat_map_more}
+use Rattle.std.proofs.lemmas.List.{take-append-drop, take_all, take_more, take-take, drop-take, flat_map_more}
 use Rattle.std.proofs.lemmas.Grind.{flat_map-append}
 use Rattle.kv_face.specs.Streams.{IsPartOf}
 use Rattle.script_streams.specs.Writing.{IsUnderWay}
@@ -96,3 +96,35 @@ all_behind then now before text waiting under is = is ∙ ap Some (append_assoc 
 pub part_of_waiting : (then now : Option (List ℕ)) (before text waiting : List ℕ) (under : IsUnderWay then before text waiting) → IsPartOf now (before ++ under.front) waiting → IsPartOf now before text
 part_of_waiting then now before text waiting under part =
     subst (λ t. IsPartOf now before t) under.parts (part_behind now before under.front waiting part)
+
+-- the first items and some behind them are the first of more
+first_more : {X : Type 0} (xs : List X) (from count : ℕ) → take from xs ++ take count (drop from xs) ≡ take (from + count) xs
+first_more xs from count =
+    ap (λ ys. ys ++ take count (drop from xs)) (sym (take-take from (from + count) xs (omega arith)))
+    ∙ ap (λ ys. take from (take (from + count) xs) ++ ys) (sym (drop-take from count xs))
+    ∙ take-append-drop from (take (from + count) xs)
+
+-- the texts of some items more
+pub texts_more : {X : Type 0} (f : X → List ℕ) (xs : List X) (from count : ℕ) → flat_map f (take from xs) ++ flat_map f (take count (drop from xs)) ≡ flat_map f (take (from + count) xs)
+texts_more f xs from count = sym (flat_map-append f (take from xs) (take count (drop from xs))) ∙ ap (flat_map f) (first_more xs from count)
+
+-- the texts before some items, theirs, and those of all behind them
+pub texts_parts : {X : Type 0} (f : X → List ℕ) (xs : List X) (from count : ℕ) → (flat_map f (take from xs) ++ flat_map f (take count (drop from xs))) ++ flat_map f (drop (from + count) xs) ≡ flat_map f xs
+texts_parts f xs from count =
+    ap (λ t. t ++ flat_map f (drop (from + count) xs)) (texts_more f xs from count)
+    ∙ sym (flat_map-append f (take (from + count) xs) (drop (from + count) xs))
+    ∙ ap (flat_map f) (take-append-drop (from + count) xs)
+
+-- the texts of some items more were put
+pub some_put : {X : Type 0} (f : X → List ℕ) (xs some : List X) (from count : ℕ) (then now : Option (List ℕ)) (before waiting left : List ℕ) → some ≡ take count (drop from xs)
+    → (under : IsUnderWay then before (flat_map f (take from xs)) waiting) → IsUnderWay now (before ++ under.front) (waiting ++ flat_map f some) left → IsUnderWay now before (flat_map f (take (from + count) xs)) left
+some_put f xs some from count then now before waiting left is under next =
+    subst (λ t. IsUnderWay now before t left) (ap (λ ys. flat_map f (take from xs) ++ flat_map f ys) is ∙ texts_more f xs from count)
+    (under_more then now before (flat_map f (take from xs)) waiting (flat_map f some) left under next)
+
+-- a front part of the texts of some items more was written
+pub some_part : {X : Type 0} (f : X → List ℕ) (xs some : List X) (from count : ℕ) (then now : Option (List ℕ)) (before waiting : List ℕ) → some ≡ take count (drop from xs)
+    → (under : IsUnderWay then before (flat_map f (take from xs)) waiting) → IsPartOf now (before ++ under.front) (waiting ++ flat_map f some) → IsPartOf now before (flat_map f xs)
+some_part f xs some from count then now before waiting is under part =
+    part_more then now before (flat_map f (take from xs)) waiting (flat_map f some) (flat_map f (drop (from + count) xs)) (flat_map f xs) under part
+    (ap (λ ys. (flat_map f (take from xs) ++ flat_map f ys) ++ flat_map f (drop (from + count) xs)) is ∙ texts_parts f xs from count)

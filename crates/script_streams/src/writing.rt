@@ -1,15 +1,17 @@
 // All logs of a run, in pieces.
-ghost use Rattle.std.specs.Prelude.{◌≡◌, ◌++◌, [], Some, OnOk, IsErr, IsErrOf};
+ghost use Rattle.std.specs.Prelude.{◌≡◌, ◌<◌, ◌++◌, [], Some, IfOk, OnOk, IsErr, IsErrOf, length, slice_index_or};
 ghost use Rattle.answer_text.specs.Text.{answer_text, text_of_log};
 ghost use Rattle.kv_face.specs.Streams.{WhereTold, Rises, IsPartOf};
 ghost use Rattle.script_streams.specs.Writing.{text_of_logs, IsUnderWay};
 ghost use Rattle.script_streams.specs.Putting.{IsPutting};
 
+use crate::rendering::{Rendered, render_beside};
 use crate::writer::Writer;
 use answer_text::{Answer, render};
 use cells::List;
 use kv_face::Failed;
 use std::alloc::{AllocError, Global};
+use std::thread::Threads;
 use thiserror::Error;
 
 // The bytes that wait to be written together.
@@ -70,6 +72,88 @@ pub fn write_logs<O: Writer>(
         put_log(alloc, sink, &mut waiting, log.items())?;
     }
     write_waiting(sink, &mut waiting)
+}
+
+/// Writes the lines of all answers, log after log, as `write_logs` does, and renders so many logs beside each other before they are written,
+/// each in a thread of its own where one can be made. What was rendered of a log is one piece where it is longer than 64 KiB; a log that memory
+/// is wanting for is rendered as it is written.
+///
+/// # Errors
+/// `Failed` where the sink failed, or `Memory`, whichever comes first.
+pub fn write_logs_beside<O: Writer, R: Threads + Sync>(
+    alloc: Global,
+    rt: &R,
+    threads: usize,
+    sink: &mut O,
+    logs: &[List<Answer>],
+) -> Result<(), Unwritten>
+    requires threads { 0 < threads }
+    // As `write_logs` says, whatever the number of threads.
+    ensures all { OnOk result (WhereTold (O.content sink.old) (λ before.
+        O.content sink.new ≡ Some (before ++ text_of_logs logs.now))) }
+    ensures part { WhereTold (O.content sink.old) (λ before.
+        IsPartOf (O.content sink.new) before (text_of_logs logs.now)) }
+    ensures faults { Rises (O.faults sink.old) (O.faults sink.new) (IsErrOf result Unwritten.Failed) }
+    ensures run { IsPutting O.takes sink.old (text_of_logs logs.now) result [] sink.new }
+{
+    let mut waiting = Vec::with_capacity(alloc, PIECE)?;
+    let mut from = 0;
+    while from < logs.len() {
+        let count = threads.min(logs.len() - from);
+        put_logs(alloc, rt, sink, &mut waiting, &logs[from..from + count])?;
+        from += count;
+    }
+    write_waiting(sink, &mut waiting)
+}
+
+// Puts the lines of logs behind what waits, rendered beside each other where they are several.
+fn put_logs<O: Writer, R: Threads + Sync>(
+    alloc: Global,
+    rt: &R,
+    sink: &mut O,
+    waiting: &mut Vec<u8>,
+    logs: &[List<Answer>],
+) -> Result<(), Unwritten>
+    ensures put { OnOk result (WhereTold (O.content sink.old) (λ before.
+        IsUnderWay (O.content sink.new) before (waiting.old.items ++ text_of_logs logs.now) waiting.new.items)) }
+    ensures part { WhereTold (O.content sink.old) (λ before.
+        IsPartOf (O.content sink.new) before (waiting.old.items ++ text_of_logs logs.now)) }
+    ensures faults { Rises (O.faults sink.old) (O.faults sink.new) (IsErrOf result Unwritten.Failed) }
+    ensures run { IsPutting O.takes sink.old
+        (waiting.old.items ++ text_of_logs logs.now) result waiting.new.items sink.new }
+{
+    let texts = render_beside(alloc, rt, logs);
+    for place in 0..logs.len() {
+        put_rendered(alloc, sink, waiting, &texts, place, &logs[place])?;
+    }
+    Ok(())
+}
+
+// Puts the lines of a log behind what waits, by its text where there is one at its place.
+fn put_rendered<O: Writer>(
+    alloc: Global,
+    sink: &mut O,
+    waiting: &mut Vec<u8>,
+    texts: &[Rendered],
+    place: usize,
+    log: &List<Answer>,
+) -> Result<(), Unwritten>
+    requires { (d : _) → place < length texts.now
+        → IfOk (slice_index_or texts.now place d) (λ text. text.items ≡ text_of_log log.now) }
+    ensures put { OnOk result (WhereTold (O.content sink.old) (λ before.
+        IsUnderWay (O.content sink.new) before (waiting.old.items ++ text_of_log log.now) waiting.new.items)) }
+    ensures part { WhereTold (O.content sink.old) (λ before.
+        IsPartOf (O.content sink.new) before (waiting.old.items ++ text_of_log log.now)) }
+    ensures faults { Rises (O.faults sink.old) (O.faults sink.new) (IsErrOf result Unwritten.Failed) }
+    ensures run { IsPutting O.takes sink.old
+        (waiting.old.items ++ text_of_log log.now) result waiting.new.items sink.new }
+{
+    if place < texts.len() {
+        if let Ok(text) = &texts[place] {
+            return put_line(sink, waiting, text.as_slice());
+        }
+    }
+    put_log(alloc, sink, waiting, log.items())
 }
 
 // Puts the lines of a log behind what waits.
