@@ -1,7 +1,7 @@
 -- What finishing mounts leaves as it was.
 use Rattle.std.proofs.Common.{◌≡◌, ◌≢◌, ◌∙◌, ℕ, ◌+◌, ◌≤◌, Bool, true, false, List, [], ◌∷◌, ◌++◌, length, map, inl, inr, refl, sym, ap, arith}
 use Rattle.std.specs.Prelude.{◌⊎◌, All, option_map, option_and_then, if◌then◌else◌}
-use Rattle.std.specs.List.{AllByRecursion}
+use Rattle.std.specs.List.{AllByRecursion, AllZip, sum}
 use Rattle.std.specs.FinMap as finmap
 use Rattle.std.proofs.lemmas.List.Elements.{All-from_recursion}
 use Rattle.std.proofs.lemmas.List.Sums.{sum_by-cons}
@@ -9,6 +9,7 @@ use Rattle.kv_face.specs.Store.{Standing, opened, finished, failing}
 use Rattle.kv_mounts.specs.Finish.{IsFinished, AreFinished, failed_from}
 use Rattle.kv_mounts.specs.Parts.{Part, below, names_of}
 use Rattle.kv_mounts.specs.Union.{has_failed, entries_of, entries_below, faults_of, prefixes_of, union_of, sum_told, change_count_of}
+use Rattle.session_workers.specs.Finished.{HasRisen}
 
 module _ (p q : Part) (is : IsFinished p q) where
   name_is : q.name ≡ p.name
@@ -105,6 +106,18 @@ listed_rise n (p ∷ ps) (q ∷ qs) are = by (listed_rise (n + 1) ps qs are.1) (
         let was = faults_parts p ps in
         let is = faults_parts q qs in
         omega (arith, first, later, listed, was, is)
+
+-- a count of each before, and how it rose
+pub counts_rise : (old new : List Part) → AreFinished old new → AllZip HasRisen (map (λ (p : Part). p.faults) old) new
+counts_rise [] [] are = tt
+counts_rise [] (q ∷ qs) are = absurd are
+counts_rise (p ∷ ps) [] are = absurd are
+counts_rise (p ∷ ps) (q ∷ qs) are = ((are.0.later, λ has. are.0.cause (stands_failed q q.standing refl has)), counts_rise ps qs are.1)
+
+-- all of them together
+pub counts_sum : (parts : List Part) → sum (map (λ (p : Part). p.faults) parts) ≡ faults_of parts
+counts_sum [] = refl
+counts_sum (p ∷ ps) = sum_by-cons (λ (n : ℕ). n) p.faults (map (λ (r : Part). r.faults) ps) ∙ ap (λ n. p.faults + n) (counts_sum ps) ∙ sym (faults_parts p ps)
 
 closed_each : (old new : List Part) → AreFinished old new → AllByRecursion (λ (p : Part). p.standing ≢ opened) new
 closed_each [] [] are = tt

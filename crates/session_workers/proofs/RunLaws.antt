@@ -17,7 +17,7 @@ use Rattle.kv_mounts.specs.Union.{union_of, faults_of, prefixes_of, standing_of,
 use Rattle.session_workers.specs.Finished.{AreBack, IsRun}
 use Rattle.session_workers.specs.MountRuns.{fixed_over, IsPrintedRun, IsEmptyMount, IsSerialRun, IsSingleRun}
 use Rattle.session_workers.proofs.Alone.{alone_where, alone_run}
-use Rattle.session_workers.proofs.Finishing.{names_stay, union_stays, prefixes_stay, count_stays, faults_rise, listed_rise, all_closed}
+use Rattle.session_workers.proofs.Finishing.{names_stay, union_stays, prefixes_stay, count_stays, counts_rise, counts_sum, faults_rise, listed_rise, all_closed}
 use Rattle.serial_runs.specs.Runs.{IsRunOf, AreLogs, AreOfMount}
 use Rattle.serial_runs.specs.Serial.{IsSerial}
 use Rattle.serial_runs.proofs.Laws.{serial}
@@ -81,6 +81,9 @@ module _ (scripts : List (List ℕ)) (old mid new : List Part) (limit : ℕ) (lo
         prefixes = prefixes_stay mid new finished ∙ agrees.frame.prefixes;
         closed = all_closed mid new finished;
         failed = refl;
+        counts = map (λ (p : Part). p.faults) mid;
+        called = let more = agrees.faults in let all = counts_sum mid in omega (arith, more, all);
+        own = counts_rise mid new finished;
         risen = let more = agrees.faults in let rise = listed_rise 0 mid new finished in omega (arith, more, rise);
       }
 

@@ -1,6 +1,6 @@
 -- A run over mounts with all that it hands back.
 use Rattle.std.specs.Prelude.{◌≡◌, ◌≢◌, ◌≤◌, ◌<◌, ◌+◌, ℕ, List, [], ◌∷◌, length, map, count_by, All, Bool, true, Some}
-use Rattle.std.specs.List.{slice_get, AllByRecursion}
+use Rattle.std.specs.List.{slice_get, sum, AllByRecursion, AllZip}
 use mathlib.Core.List.{IsPrefix}
 use Rattle.answer_text.specs.declared.answer.Answer.{Answer}
 use Rattle.history.specs.History.{History}
@@ -8,11 +8,15 @@ use Rattle.history.specs.declared.event.Event.{Event}
 use Rattle.kv_face.specs.Store.{Contents, opened}
 use Rattle.kv_mounts.specs.Finish.{failed_places}
 use Rattle.kv_mounts.specs.Parts.{Part, AreMounts, names_of}
-use Rattle.kv_mounts.specs.Union.{faults_of, prefixes_of, union_of}
+use Rattle.kv_mounts.specs.Union.{faults_of, has_failed, prefixes_of, union_of}
 use Rattle.session_workers.specs.MountRuns.{IsPrintedRun, IsEmptyMount, IsSerialRun, IsSingleRun}
 use Rattle.state_laws.specs.Agreement.{is_fault}
 -- what a script asks, and that a log has its answers
 pub use Rattle.session_workers.specs.Workers.{AreWhole, IsWhole, ends_in_want, asked_by, numbers_from}
+
+-- a mount whose count of faults was this before it was finished: the count did not fall, and where the mount stands failed it rose
+abbrev pub HasRisen : ℕ → Part → Type 0
+HasRisen before now = (before ≤ now.faults) × (has_failed now ≡ true → before < now.faults)
 
 -- the mounts as a run hands them back: in their order, and none stands open
 pub record AreBack (old new : List Part) (history : History) (unfinished : List ℕ) : Type 0 where
@@ -22,7 +26,12 @@ pub record AreBack (old new : List Part) (history : History) (unfinished : List 
   pub closed : All (λ (p : Part). p.standing ≢ opened) new
   -- the places of those that stand failed
   pub failed : unfinished ≡ failed_places new
-  -- the counts of faults rose together by the events of failed calls and by one for each of these places, or by more
+  -- before they were finished their counts of faults were these: by the events of failed calls higher together, or by more
+  pub counts : List ℕ
+  pub called : faults_of old + count_by is_fault history ≤ sum counts
+  -- and the own count of each that stands failed rose as it was finished
+  pub own : AllZip HasRisen counts new
+  -- so all counts together rose by the events of failed calls and by one for each of these places, or by more
   pub risen : faults_of old + count_by is_fault history + length unfinished ≤ faults_of new
 
 -- these scripts were run over the mounts, each in a session of its own; where `whole` is so, no session ended without an answer to a line
