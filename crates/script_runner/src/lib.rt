@@ -2,13 +2,14 @@
 //!
 //! Others rest on one call, `run`. Its clause `serial` is what the project is for: over one empty store that makes all changes of a commit
 //! together, the transactions of all sessions are serial, in the order of the numbers that their commits print. `new_mounts` makes the mounts
-//! of a program.
+//! of a program, `mounts_by` those that its words ask for.
 #![tactic(auto)]
 
 mod mounts;
 mod outcome;
 mod store;
 mod top;
+mod words;
 mod writing;
 
 pub use kv_face::{KvStore, MemoryKv};
@@ -18,3 +19,4 @@ pub use script_streams::{FileScripts, MemoryScripts, MemorySink, Scripts, Sink, 
 pub use session_workers::{BoxedStore, Gate, Mount};
 pub use store::Store;
 pub use top::run;
+pub use words::mounts_by;

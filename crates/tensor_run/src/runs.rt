@@ -1,12 +1,14 @@
 // A run by the words of the command line.
-ghost use Rattle.std.specs.Prelude.{IfOk};
+ghost use Rattle.std.specs.Prelude.{◌≡◌, ◌≢◌, [], Option, map, string_bytes, false};
+ghost use Rattle.kv_face.specs.Store.{Contents};
 ghost use Rattle.kv_mounts.specs.Parts.{AreMounts};
-ghost use Rattle.script_runner.specs.Promises.{IsEmptyMount};
+ghost use Rattle.script_runner.specs.Parts.{parts_of};
+ghost use Rattle.script_runner.specs.Words.{mount_words, names_folder};
+ghost use Rattle.script_runner.specs.Promises.{IsSerialOutcome};
 
 use crate::gate::Open;
 use crate::said::{say, say_unfinished};
-use script_runner::{FileScripts, Mount, Outcome, StdoutSink, Store, new_mounts, run};
-use std::alloc::AllocError;
+use script_runner::{FileScripts, Mount, Outcome, StdoutSink, Store, mounts_by, run};
 use std::sync::Wait;
 use std::thread::Threads;
 
@@ -17,34 +19,8 @@ pub(crate) fn run_words<R: Threads + Wait + Sync>(
     rt: &R,
     words: &[String],
 ) -> u8 {
-    match words {
-        [option, folder, rest @ ..] if option.as_str() == "--root" => {
-            run_over(host, rt, rest, new_mounts(host, Some(folder.as_str())))
-        }
-        _ => run_over(host, rt, words, memory_alone(host)),
-    }
-}
-
-// The mount `memory`, over which a run's transactions are serial.
-fn memory_alone(host: HostRuntime) -> Result<Vec<Mount<Store<HostRuntime>>>, AllocError>
-    ensures are { IfOk result (λ m. AreMounts m.items) }
-    ensures empty { IfOk result (λ m. IsEmptyMount m.items) }
-{
-    let mounts = new_mounts(host, None)?;
-    Ok(mounts)
-}
-
-// Over these mounts, if there was memory for them.
-fn run_over<R: Threads + Wait + Sync>(
-    host: HostRuntime,
-    rt: &R,
-    words: &[String],
-    mounts: Result<Vec<Mount<Store<HostRuntime>>>, AllocError>,
-) -> u8
-    requires { IfOk mounts (λ m. AreMounts m.items) }
-{
-    match mounts {
-        Ok(mounts) => run_mounts(host, rt, words, mounts),
+    match mounts_by(host, words) {
+        Ok((mounts, first)) => run_mounts(host, rt, words, first, mounts),
         Err(_) => say(&host, 5, None),
     }
 }
@@ -53,29 +29,40 @@ fn run_mounts<R: Threads + Wait + Sync>(
     host: HostRuntime,
     rt: &R,
     words: &[String],
+    first: usize,
     mut mounts: Vec<Mount<Store<HostRuntime>>>,
 ) -> u8
-    requires { AreMounts mounts.items }
+    requires are { AreMounts mounts.items }
+    requires parts { mounts.items ≡ parts_of (names_folder (map string_bytes words.now)) }
+    requires first { first ≡ mount_words (map string_bytes words.now) }
 {
-    let outcome = ran(host, rt, words, &mut mounts);
+    let outcome = ran(host, rt, words, first, &mut mounts);
     say_unfinished(&host, mounts.as_slice(), outcome.unfinished.items());
     say(&host, outcome.status, outcome.script)
 }
 
+// Runs the words behind the first ones, which are about the mounts, over the mounts that they ask for. Without a folder its transactions are
+// serial.
 fn ran<R: Threads + Wait + Sync>(
     host: HostRuntime,
     rt: &R,
     words: &[String],
+    first: usize,
     mounts: &mut Vec<Mount<Store<HostRuntime>>>,
 ) -> Outcome
-    requires { AreMounts mounts.old.items }
+    requires are { AreMounts mounts.old.items }
+    requires parts { mounts.old.items ≡ parts_of (names_folder (map string_bytes words.now)) }
+    requires first { first ≡ mount_words (map string_bytes words.now) }
+    ensures serial { names_folder (map string_bytes words.now) ≡ false → result.logs ≢ []
+        → (contents : Option Contents) × IsSerialOutcome contents (map string_bytes words.now)
+        (parts_of false) mounts.new.items result }
 {
     let mut scripts = FileScripts::new(host);
     let mut sink = StdoutSink::new(host);
     run(
         host.alloc(),
         rt,
-        words,
+        &words[first..],
         &mut scripts,
         &mut sink,
         mounts,
