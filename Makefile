@@ -1,5 +1,5 @@
 # `make` proves and builds the program (`./run SCRIPT` runs a script), `make test` is the merge gate and tries the program's words.
-.PHONY: all run test edits bench
+.PHONY: all run test edits bench faults
 all: bin/tensor_run
 
 # Each program is proved with all that it stands on, side by side (tools/build.py), whenever a source is newer than it.
@@ -31,3 +31,7 @@ test:
 
 edits:
 	tools/edits.sh
+
+# each allocation of the program refused in turn; wants a C compiler
+faults: bin/tensor_run
+	tools/refused_memory.sh bin/tensor_run
