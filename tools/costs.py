@@ -4,7 +4,7 @@
 tools/costs.py
 
 Runs `rt ci` at the top of the repository, whose output it hands on and with whose status it ends. Meanwhile it looks twice a second at the
-checks that run (each is a process that names its crate) and adds up their processor time by crate: the proof, the proof of the tests, the
+checks that it runs (each is a process that names its crate) and adds up their processor time by crate: the proof, the proof of the tests, the
 must-fail edits. Then it writes docs/costs.md, a line a crate in the order of crates.txt; a crate whose proof was kept from an earlier run has
 `kept` there, and the page says how much was done in this run.
 """
@@ -19,17 +19,37 @@ TICKS = os.sysconf("SC_CLK_TCK")
 KINDS = ("proof", "tests", "edits")
 
 
-def read_process(number):
-    """The crate, the kind of check and the processor seconds of a process, where it is a check."""
+def read_stat(number):
+    """The fields of a process's stat behind its name, the parent's number second; none where it has ended."""
+    try:
+        with open(f"/proc/{number}/stat") as file:
+            return file.read().rsplit(")", 1)[1].split()
+    except (OSError, IndexError):
+        return None
+
+
+def is_below(number, top):
+    """Whether a process was begun by another one, or by one that it began."""
+    while number not in ("0", "1", top):
+        fields = read_stat(number)
+        if fields is None:
+            return False
+        number = fields[1]
+    return number == top
+
+
+def read_process(number, top):
+    """The crate, the kind of check and the processor seconds of a process, where it is a check that another process began."""
     try:
         with open(f"/proc/{number}/cmdline", "rb") as file:
             words = file.read().decode(errors="replace").split("\0")
         if not words[0].endswith("/rattle") or "--crate-name" not in words:
             return None
         folder = os.readlink(f"/proc/{number}/cwd")
-        with open(f"/proc/{number}/stat") as file:
-            fields = file.read().rsplit(")", 1)[1].split()
-    except (OSError, IndexError):
+    except OSError:
+        return None
+    fields = read_stat(number)
+    if fields is None or not is_below(number, top):
         return None
     crate = words[words.index("--crate-name") + 1]
     kind = "edits" if "/rt-edit-" in folder or "seed" in folder else "tests" if "--test" in words else "proof"
@@ -37,16 +57,16 @@ def read_process(number):
 
 
 class Watch(threading.Thread):
-    """The processor seconds of all checks that were seen, by crate and kind."""
+    """The processor seconds of all checks of a gate that were seen, by crate and kind."""
 
-    def __init__(self):
+    def __init__(self, gate):
         super().__init__(daemon=True)
-        self.seen, self.ended = {}, threading.Event()
+        self.gate, self.seen, self.ended = str(gate), {}, threading.Event()
 
     def run(self):
         while not self.ended.wait(0.5):
             for number in filter(str.isdigit, os.listdir("/proc")):
-                found = read_process(number)
+                found = read_process(number, self.gate)
                 if found:
                     crate, kind, seconds = found
                     self.seen[number, crate, kind] = seconds
@@ -83,9 +103,10 @@ def main():
     top = os.path.dirname(os.path.dirname(os.path.abspath(__file__)))
     with open(f"{top}/crates.txt") as file:
         heads = [line.split("#")[0].partition(":")[0].split() for line in file]
-    names, begun, watch, kept, verdict = [head[0] for head in heads if head], time.monotonic(), Watch(), set(), ""
-    watch.start()
+    names, begun, kept, verdict = [head[0] for head in heads if head], time.monotonic(), set(), ""
     with subprocess.Popen(["rt", "ci"], cwd=top, stdout=subprocess.PIPE, text=True) as tool:
+        watch = Watch(tool.pid)
+        watch.start()
         for line in tool.stdout:
             sys.stdout.write(line)
             sys.stdout.flush()
