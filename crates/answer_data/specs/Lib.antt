@@ -1,0 +1,5 @@
+pub mod Lines
+pub mod Causes
+pub mod Members
+pub mod Answers
+pub mod Printable
