@@ -1,0 +1,14 @@
+-- What crates above rest on. Each law with what it says; where it stands, it has its premises.
+
+-- what holds of all lines holds of each of them
+pub use Rattle.transcript_laws.proofs.Cuts.{among}
+-- texts without an LF that an LF ends are the same, where what begins with them is; so are answers
+pub use Rattle.transcript_laws.proofs.Cuts.{cut_once, one_answer, regroup}
+-- a transcript is cut in one way
+pub use Rattle.transcript_laws.proofs.Cuts.{cut_is_one}
+-- what is told of the lines states one history at most
+pub use Rattle.transcript_laws.proofs.OneHistory.{history_is_one}
+-- where part 4 holds, so does part 5
+pub use Rattle.transcript_laws.proofs.Plain.{part_5_follows}
+-- one line at most is that because of which a transcript isn't checked, and one verdict at most is right
+pub use Rattle.transcript_laws.proofs.OneLine.{line_is_one, verdict_is_one}

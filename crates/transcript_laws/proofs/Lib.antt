@@ -1,0 +1,16 @@
+pub mod Cuts
+pub mod ThreeCellsAsks
+pub mod ThreeCells
+pub mod ThreeCellsVerdict
+pub mod ThreeCellsWrong
+pub mod ThreeCellsNumberless
+pub mod ReadConflictAsks
+pub mod ReadConflict
+pub mod ReadConflictVerdicts
+pub mod Stances
+pub mod SameOutline
+pub mod OneHistory
+pub mod Exclusive
+pub mod OneLine
+pub mod Plain
+pub mod Laws

@@ -1,0 +1,17 @@
+pub mod Transcript
+pub mod Numbers
+pub mod Windows
+pub mod Standings
+pub mod Takings
+pub mod Claimed
+pub mod Opening
+pub mod Fitting
+pub mod Unchecked
+pub mod Verdicts
+pub mod ThreeCells
+pub mod ThreeCellsTold
+pub mod ThreeCellsWrong
+pub mod ThreeCellsNumberless
+pub mod ReadConflict
+pub mod ReadConflictTold
+pub mod Stances
