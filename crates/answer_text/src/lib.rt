@@ -16,6 +16,8 @@ mod rendering;
 mod values;
 
 pub use answer::{Answer, Body, MetaWhy, Why};
+pub use layer_join::JoinError;
 pub use lists::has_few_lists;
 pub use ok::is_ok;
 pub use rendering::render;
+pub use spec_open::BuildCause;

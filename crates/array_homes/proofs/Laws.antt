@@ -4,13 +4,13 @@ use Rattle.std.specs.Prelude.{max, slice_index}
 use Rattle.std.specs.List.{AllByRecursion}
 use Rattle.cells.specs.Shapes.{IsShape, IsChunkShape}
 use Rattle.kv_face.specs.Store.{Contents}
-use Rattle.chunk_forms.specs.declared.form.Form.{Form}
-use Rattle.chunk_forms.specs.declared.form.Form.TheVariants as form
-use Rattle.chunk_forms.specs.declared.form.Want.{Want}
-use Rattle.chunk_forms.specs.declared.form.Want.TheVariants as want
-use Rattle.chunk_forms.specs.Metadata.{is_local as is_local_form}
-use Rattle.chunk_forms.specs.Wants.{is_asked_form}
-use Rattle.stack_driver.specs.References.{Reference, IsReference}
+use Rattle.history.specs.declared.Form.{Form}
+use Rattle.history.specs.declared.Form.TheVariants as form
+use Rattle.history.specs.declared.Want.{Want}
+use Rattle.history.specs.declared.Want.TheVariants as want
+use Rattle.history.specs.Metadata.{is_local as is_local_form}
+use Rattle.history.specs.Wants.{is_asked_form}
+use Rattle.history.specs.References.{Reference, IsReference}
 use Rattle.history.specs.declared.array.ArrayInfo.{ArrayInfo}
 use Rattle.history.specs.declared.array.Home.{Home}
 use Rattle.history.specs.declared.array.Home.TheVariants.{Zarr, N5, Zarr3, Local}

@@ -12,8 +12,8 @@ use Rattle.std.proofs.lemmas.Str.Parse.{tells_all_ascii_digits, numerals_by_valu
 use Rattle.zarr_chunks.specs.Key as zarr
 use Rattle.zarr3_chunks.specs.Key as zarr3
 use Rattle.cells.specs.Shapes.{IsChunkShape}
-use Rattle.chunk_forms.specs.Metadata.{IsMetadata}
-use Rattle.chunk_forms.specs.Names.{chunk_name}
+use Rattle.history.specs.Metadata.{IsMetadata}
+use Rattle.history.specs.Names.{chunk_name}
 use Rattle.history.specs.declared.array.ArrayInfo.{ArrayInfo}
 use Rattle.history.specs.declared.array.Home.{Home}
 use Rattle.history.specs.declared.array.Home.TheVariants.{Zarr, N5, Zarr3, Local}

@@ -14,12 +14,12 @@ use Rattle.zarr3_chunks.specs.Metadata as zarr3
 use Rattle.zarr3_chunks.specs.Want as zarr3_want
 use Rattle.zarr3_chunks.specs.Read as zarr3_read
 use Rattle.zarr3_chunks.proofs.PassLaws as zarr3_laws
-use Rattle.chunk_forms.specs.declared.form.Form.{Form}
-use Rattle.chunk_forms.specs.declared.form.Form.TheVariants as form
-use Rattle.chunk_forms.specs.declared.form.Want.{Want}
-use Rattle.chunk_forms.specs.declared.form.Want.TheVariants as want
-use Rattle.chunk_forms.specs.Metadata.{SpellsMetadata}
-use Rattle.chunk_forms.specs.Wants.{is_asked_form}
+use Rattle.history.specs.declared.Form.{Form}
+use Rattle.history.specs.declared.Form.TheVariants as form
+use Rattle.history.specs.declared.Want.{Want}
+use Rattle.history.specs.declared.Want.TheVariants as want
+use Rattle.history.specs.Metadata.{SpellsMetadata}
+use Rattle.history.specs.Wants.{is_asked_form}
 use Rattle.array_homes.specs.Answers.{refused, of_zarr, of_n5, of_zarr3}
 use Rattle.array_homes.specs.Opening.{IsBadBy}
 use Rattle.array_homes.specs.declared.read.FormReadError.{FormReadError}

@@ -5,8 +5,8 @@ use Rattle.meta_forms.specs.declared.error.MetaError.TheVariants as meta
 use Rattle.zarr_chunks.specs.Metadata as zarr
 use Rattle.n5_blocks.specs.Metadata as n5
 use Rattle.zarr3_chunks.specs.Metadata as zarr3
-use Rattle.chunk_forms.specs.declared.form.Form.{Form}
-use Rattle.chunk_forms.specs.declared.form.Form.TheVariants as form
+use Rattle.history.specs.declared.Form.{Form}
+use Rattle.history.specs.declared.Form.TheVariants as form
 use Rattle.array_homes.specs.declared.read.FormReadError.{FormReadError}
 use Rattle.array_homes.specs.declared.read.FormReadError.TheVariants.{Bad, Memory}
 use Rattle.array_homes.specs.declared.read.MetaCause.{MetaCause}

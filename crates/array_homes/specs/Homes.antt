@@ -1,9 +1,9 @@
 -- What a home says of its array.
 use Rattle.std.specs.Prelude.{◌≡◌, ℕ, List, length, Option, Some, None}
 use Rattle.cells.specs.Shapes.{IsShape}
-use Rattle.chunk_forms.specs.declared.form.Form.{Form}
-use Rattle.chunk_forms.specs.Metadata.{shape_of, dtype_of, fill_of}
-use Rattle.stack_driver.specs.References.{Reference}
+use Rattle.history.specs.declared.Form.{Form}
+use Rattle.history.specs.Metadata.{shape_of, dtype_of, fill_of}
+use Rattle.history.specs.References.{Reference}
 use Rattle.history.specs.declared.array.ArrayInfo.{ArrayInfo}
 use Rattle.history.specs.declared.array.Home.{Home}
 use Rattle.history.specs.declared.array.Home.TheVariants.{Zarr, N5, Zarr3, Local}

@@ -3,7 +3,7 @@ use Rattle.std.specs.Prelude.{◌≡◌, ◌≤◌, ℕ, ◌*◌, ◌-◌, ◌^�
 use Rattle.std.specs.List.{AllByRecursion, flat_map}
 use Rattle.zarr_chunks.specs.Key as zarr
 use Rattle.zarr3_chunks.specs.Key as zarr3
-use Rattle.chunk_forms.specs.Names.{chunk_name}
+use Rattle.history.specs.Names.{chunk_name}
 use Rattle.history.specs.declared.array.ArrayInfo.{ArrayInfo}
 use Rattle.history.specs.declared.array.Home.{Home}
 use Rattle.history.specs.declared.array.Home.TheVariants.{Zarr, N5, Zarr3, Local}

@@ -1,13 +1,13 @@
 -- What opening a leaf gives by what the store holds, and by what an array of the history is.
 use Rattle.std.specs.Prelude.{◌≡◌, ◌≢◌, ℕ, List, Bool, Option, Some, None, Result, Ok, Err, if◌then◌else◌}
 use Rattle.meta_forms.specs.declared.error.MetaError.{MetaError}
-use Rattle.chunk_forms.specs.declared.form.Form.{Form}
-use Rattle.chunk_forms.specs.declared.form.Want.{Want}
-use Rattle.chunk_forms.specs.declared.form.Want.TheVariants as want
-use Rattle.chunk_forms.specs.Members.{member_name}
-use Rattle.chunk_forms.specs.Made.{form_made}
-use Rattle.chunk_forms.specs.Metadata.{shape_of, SpellsMetadata}
-use Rattle.chunk_forms.specs.Wants.{mismatch_of}
+use Rattle.history.specs.declared.Form.{Form}
+use Rattle.history.specs.declared.Want.{Want}
+use Rattle.history.specs.declared.Want.TheVariants as want
+use Rattle.history.specs.Members.{member_name}
+use Rattle.history.specs.Made.{form_made}
+use Rattle.history.specs.Metadata.{shape_of, SpellsMetadata}
+use Rattle.history.specs.Wants.{mismatch_of}
 use Rattle.history.specs.Arrays.{Known}
 use Rattle.history.specs.Leaves.{Leaf, Stored, IsStoredAs}
 use Rattle.history.specs.OpenRows.{IsBadFor}

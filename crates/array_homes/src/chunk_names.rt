@@ -1,7 +1,7 @@
 // The names of chunks, read back.
 ghost use Rattle.std.specs.Prelude.{◌≡◌, ◌≤◌, ◌<◌, ◌==◌, ◌↔◌, ◌^◌, ℕ, IfSome, IsTrue, Some, codes, length, position};
 ghost use Rattle.std.specs.List.{position_or_len};
-ghost use Rattle.chunk_forms.specs.Metadata.{IsMetadata};
+ghost use Rattle.history.specs.Metadata.{IsMetadata};
 ghost use Rattle.history.specs.Arrays.{form_of};
 ghost use Rattle.array_homes.specs.Names.{IsChunkName, local_key, IsNameIn, IsJoined, IsEncoded, AreBehind, ArePositive};
 

@@ -1,8 +1,8 @@
 // What opening a leaf gives.
 ghost use Rattle.std.specs.Prelude.{◌≡◌, ◌≢◌, ℕ, List, Bool, Some, Err, Ok, IfOk, option_map, true};
-ghost use Rattle.chunk_forms.specs.Made.{form_made};
-ghost use Rattle.chunk_forms.specs.Metadata.{IsMetadata};
-ghost use Rattle.chunk_forms.specs.Wants.{is_asked_form, mismatch_of};
+ghost use Rattle.history.specs.Made.{form_made};
+ghost use Rattle.history.specs.Metadata.{IsMetadata};
+ghost use Rattle.history.specs.Wants.{is_asked_form, mismatch_of};
 ghost use Rattle.history.specs.Arrays.{Known};
 ghost use Rattle.history.specs.Leaves.{Stored};
 ghost use Rattle.history.specs.Outcomes.{outcome_at, unless_differs, there};
@@ -10,8 +10,7 @@ ghost use Rattle.array_homes.specs.Opening.{leaf_at, IsDecision, meta_in, IsChec
 
 use crate::forms::first_form;
 use crate::read::{FormReadError, MetaCause, read_form};
-use chunk_forms::{Form, MadeError, Member, Want, made, mismatch};
-use history::Home;
+use history::{Form, Home, MadeError, Member, Want, made, mismatch};
 use std::alloc::Global;
 
 /// A new array's metadata.

@@ -1,14 +1,13 @@
 // The metadata of an array that has its present shape, and its written form.
 ghost use Rattle.std.specs.Prelude.{◌≡◌, IfOk, false, length};
 ghost use Rattle.cells.specs.Shapes.{IsShape};
-ghost use Rattle.chunk_forms.specs.Metadata.{with_shape, metadata_text, SpellsMetadata, is_local};
+ghost use Rattle.history.specs.Metadata.{with_shape, metadata_text, SpellsMetadata, is_local};
 ghost use Rattle.history.specs.Arrays.{form_of};
 ghost use Rattle.array_homes.specs.Homes.{MayHaveShape};
 
 use crate::looks::shape_of;
 use cells::Sizes;
-use chunk_forms::Form;
-use history::Home;
+use history::{Form, Home};
 use n5_blocks::N5Meta;
 use std::alloc::{AllocError, Global};
 use zarr_chunks::ZarrMeta;

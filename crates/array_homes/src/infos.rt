@@ -1,7 +1,7 @@
 // Arrays as they are opened, and as views name them.
 ghost use Rattle.std.specs.Prelude.{◌≡◌, IfOk, false};
-ghost use Rattle.chunk_forms.specs.Metadata.{is_local, shape_of, dtype_of, fill_of};
-ghost use Rattle.stack_driver.specs.References.{IsReference};
+ghost use Rattle.history.specs.Metadata.{is_local, shape_of, dtype_of, fill_of};
+ghost use Rattle.history.specs.References.{IsReference};
 ghost use Rattle.history.specs.Arrays.{form_of, chunk_shape};
 ghost use Rattle.history.specs.OpenRows.{given_info};
 ghost use Rattle.history.specs.Outcomes.{home_of};
@@ -10,9 +10,7 @@ ghost use Rattle.array_homes.specs.Homes.{info_at, reference_of};
 use crate::forms::copied;
 use crate::looks::{dtype_of, fill_of, is_local, shape_of};
 use cells::{Dense, Name, Sizes};
-use chunk_forms::{Form, default_chunks};
-use history::{ArrayInfo, Home};
-use stack_driver::ArrayRef;
+use history::{ArrayInfo, ArrayRef, Form, Home, default_chunks};
 use std::alloc::{AllocError, Global};
 
 /// The array that is opened at a place with this metadata.

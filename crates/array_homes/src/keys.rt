@@ -1,13 +1,12 @@
 // The keys of an array's chunks and of its metadata.
 ghost use Rattle.std.specs.Prelude.{◌≡◌, ◌++◌, ◌∷◌, [], ℕ, IfOk, string_bytes, option_map};
-ghost use Rattle.chunk_forms.specs.Names.{chunk_name, metadata_name};
-ghost use Rattle.chunk_forms.specs.Wants.{metadata_name_asked};
+ghost use Rattle.history.specs.Names.{chunk_name, metadata_name};
+ghost use Rattle.history.specs.Wants.{metadata_name_asked};
 ghost use Rattle.history.specs.Arrays.{form_of};
 ghost use Rattle.history.specs.Chunks.{home_text};
 ghost use Rattle.array_homes.specs.Names.{HasRank};
 
-use chunk_forms::Want;
-use history::Home;
+use history::{Home, Want};
 use std::alloc::{AllocError, Global};
 
 /// What stands before each name in the keys of an array: `MOUNT/PATH/`, or for an array of the run `array/N/`, N being the

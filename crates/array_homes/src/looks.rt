@@ -1,6 +1,6 @@
 // What a home says of its array.
 ghost use Rattle.std.specs.Prelude.{◌≡◌, option_map};
-ghost use Rattle.chunk_forms.specs.Metadata.{shape_of, dtype_of, fill_of, IsMetadata};
+ghost use Rattle.history.specs.Metadata.{shape_of, dtype_of, fill_of, IsMetadata};
 ghost use Rattle.history.specs.Arrays.{form_of, is_local};
 ghost use Rattle.array_homes.specs.Homes.{mount_of};
 

@@ -1,14 +1,14 @@
 // Metadata from stored bytes.
 ghost use Rattle.std.specs.Prelude.{◌≡◌, ◌≢◌, IfOk, IfErr, true};
-ghost use Rattle.chunk_forms.specs.declared.form.Form.{Form};
-ghost use Rattle.chunk_forms.specs.Metadata.{SpellsMetadata, IsMetadata};
-ghost use Rattle.chunk_forms.specs.Wants.{is_asked_form};
+ghost use Rattle.history.specs.declared.Form.{Form};
+ghost use Rattle.history.specs.Metadata.{SpellsMetadata, IsMetadata};
+ghost use Rattle.history.specs.Wants.{is_asked_form};
 ghost use Rattle.array_homes.specs.declared.read.MetaCause.{MetaCause};
 ghost use Rattle.array_homes.specs.declared.read.FormReadError.TheVariants as error;
 ghost use Rattle.array_homes.specs.Answers.{of_zarr, of_n5, of_zarr3};
 ghost use Rattle.array_homes.specs.Opening.{IsBadBy};
 
-use chunk_forms::{Form, Want};
+use history::{Form, Want};
 use meta_forms::MetaError;
 use n5_blocks::N5Meta;
 use std::alloc::Global;

@@ -2,7 +2,7 @@
 use Rattle.std.proofs.Common.{◌≡◌, ◌≢◌, ◌∙◌, inl, inr, ℕ, ◌<◌, List, [], ◌∷◌, ◌++◌, length, codes, true, false, Option, Some, None, Result, Ok, Err, refl, sym, ap, subst, arith, eq-eqb}
 use Rattle.std.specs.Prelude.{◌==◌, ◌-◌, slice_index_or, IfOk}
 use Rattle.std.specs.FinMap as finmap
-use Rattle.commits.specs.declared.refused.CommitRefused.{CommitRefused}
+use Rattle.session_turns.specs.declared.CommitRefused.{CommitRefused}
 use Rattle.history.specs.Commit.{Transaction}
 use Rattle.history.specs.History.{History}
 use Rattle.history.specs.Leaves.{Leaf}
@@ -19,7 +19,7 @@ use Rattle.index_transform.specs.Transforms.{DomainAndMaps}
 use Rattle.kv_face.specs.Store.{takes}
 use Rattle.session_turns.specs.Opening.{AreOpenedBy, IsLeafTurn}
 use Rattle.session_turns.specs.Turns.{IsRested, HasPassed}
-use Rattle.session_turns.proofs.Laws.{none_added, passed_of_turn, passed_alone, opens_stored}
+use Rattle.session_turns.proofs.Laws.{none_added, passed_of_turn, passed_alone, opens_stored, recorded_begun, recorded_written}
 use Rattle.stack_driver.specs.Conditions.{IsNode, IsView}
 use Rattle.stack_driver.specs.References.{Reference}
 use Rattle.stack_driver.specs.declared.view.View.{View, every_made-View}
@@ -29,11 +29,10 @@ use Rattle.state_laws.specs.Agreement.{Opening, TakesMount}
 use Rattle.state_laws.specs.Outline.{outline}
 use Rattle.state_laws.specs.declared.opening.Opened.{Opened}
 use Rattle.transaction_cells.proofs.Laws.{none_staged}
-use Rattle.transactions.specs.Committing.{HasCommitted}
-use Rattle.transactions.specs.Conditions.{IsTxnIn}
-use Rattle.transactions.specs.Recording.{IsRecorded}
-use Rattle.transactions.specs.Txn.{TxnSeen, transaction_of, marks_of}
-use Rattle.transactions.proofs.Laws.{recorded_begun, recorded_written}
+use Rattle.session_turns.specs.Committing.{HasCommitted}
+use Rattle.session_turns.specs.Conditions.{IsTxnIn}
+use Rattle.session_turns.specs.Recording.{IsRecorded}
+use Rattle.session_turns.specs.Txn.{TxnSeen, transaction_of, marks_of}
 use Rattle.bench.specs.Ready.{IsReady}
 use Rattle.turn_book.specs.Passes.{AreNew, BookView, PassView, new_pass}
 

@@ -18,11 +18,10 @@ use crate::fault::Fault;
 use crate::opening::opened;
 use history::Mode;
 use kv_face::{KvStore, MemoryKv};
-use shared_state::State;
+use session_turns::{Gate, State, Txn};
 use stack_driver::{View, dtype, transform_of};
 use std::alloc::Global;
 use std::sync::Wait;
-use transactions::{Gate, Txn};
 use turn_book::{Pass, TurnBook};
 
 const CACHED: u64 = 1_048_576;

@@ -6,7 +6,7 @@ use crate::items::{
 };
 use crate::places::count_cells;
 use crate::run::Run;
-use crate::words::Sizes;
+use list_types::Sizes;
 use std::alloc::{AllocError, Global};
 use std::marker::Model;
 

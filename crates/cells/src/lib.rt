@@ -4,7 +4,6 @@
 //! value inside, and a word stands for the number that `number_of` says.
 #![tactic(auto)]
 
-mod boxed;
 mod bytes;
 mod convert;
 mod dense;
@@ -13,15 +12,11 @@ mod dtype_names;
 mod element;
 mod items;
 mod limits;
-mod list;
-mod name;
 mod order;
 mod places;
 mod run;
 mod shapes;
-mod words;
 
-pub use boxed::Boxed;
 pub use bytes::{put_word, take_word};
 pub use convert::conv;
 pub use dense::Dense;
@@ -30,10 +25,8 @@ pub use limits::{
     GREATEST_INDEX, INFINITY, LARGEST_RANK, LARGEST_SIZE, LONGEST_LABEL, MOST_CELLS,
     MOST_CHUNK_CELLS, MOST_ENTRIES,
 };
-pub use list::List;
-pub use name::Name;
+pub use list_types::{Boxed, Index, List, Name, Sizes, Words, copy_name, copy_sizes};
 pub use order::Order;
-pub use places::{count_cells, index_of, place};
+pub use places::{count_cells, divided, index_of, place};
 pub use run::Run;
 pub use shapes::{is_chunk_shape, is_inside, is_shape};
-pub use words::{Index, Sizes, Words};

@@ -1,4 +1,4 @@
-ghost use Rattle.std.specs.Prelude.{◌≡◌, ◌<◌, ◌≤◌, ◌^◌, length};
+ghost use Rattle.std.specs.Prelude.{◌≡◌, ◌<◌, ◌≤◌, ◌^◌, ◌/◌, ◌%◌, length};
 ghost use Rattle.std.specs.Option.{SomeIff};
 ghost use Rattle.cells.specs.Places.{cell_count, IsInside, place_of, index_at, c_place, f_place, c_index, f_index};
 
@@ -107,4 +107,18 @@ fn f_index(shape: &[u64], place: u64, out: &mut [u64])
         out[k] = rest % shape[k];
         rest /= shape[k];
     }
+}
+
+/// A number's quotient and remainder by a size. A guess at the quotient is tried first, since dividing is slow.
+pub fn divided(x: u64, size: u64, guess: u64) -> (u64, u64)
+    requires { 0 < size }
+    ensures quotient { result.0 ≡ x / size }
+    ensures remainder { result.1 ≡ x % size }
+{
+    if let Some(first) = guess.checked_mul(size) {
+        if first <= x && x - first < size {
+            return (guess, x - first);
+        }
+    }
+    (x / size, x % size)
 }

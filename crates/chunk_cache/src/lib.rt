@@ -12,4 +12,4 @@ mod snapshot;
 
 pub use cache::ChunkCache;
 pub use refused::KeepRefused;
-pub use snapshot::Snapshot;
+pub use snapshot::{Snapshot, as_snapshot};

@@ -68,3 +68,13 @@ impl Snapshot {
         self.cells.count() as u64
     }
 }
+
+/// Numbers as the cells of a chunk of this generation.
+pub fn as_snapshot(alloc: Global, generation: u64, cells: Dense) -> Result<Snapshot, AllocError>
+    ensures { IfOk result (λ s. s ≡ record { generation = generation; cells = cells }) }
+{
+    match Arc::new(alloc, cells) {
+        Ok(cells) => Ok(Snapshot::new(generation, cells)),
+        Err(_) => Err(AllocError),
+    }
+}

@@ -11,17 +11,18 @@ use Rattle.chunk_forms.specs.Metadata.{chunk_shape_of, is_local, IsMetadata}
 use Rattle.chunk_forms.specs.Words.{is_inside, zarr_fault, n5_fault, chunk_fault, spelled_word, block_word, unless_damaged, word_in}
 use Rattle.zarr_chunks.specs.Metadata as zarr
 use Rattle.zarr_chunks.specs.Chunk as zarr_chunk
-use Rattle.chunk_elements.specs.Chunk as chunk
-use Rattle.chunk_elements.specs.declared.error.ChunkError.TheVariants.{WrongLength}
+use Rattle.zarr_chunks.specs.ElementChunk as chunk
+use Rattle.zarr_chunks.specs.declared.ChunkError.TheVariants.{WrongLength}
 use Rattle.n5_blocks.specs.Metadata as n5
 use Rattle.n5_blocks.specs.Block as block
-use Rattle.chunk_elements.proofs.Laws.{SpellsChunk-from_len}
+use Rattle.zarr_chunks.proofs.Laws.{SpellsChunk-from_len}
 use Rattle.n5_blocks.specs.Faults.{header_len, block_fault}
 use Rattle.n5_blocks.specs.declared.chunk.BlockError.{BlockError}
 use Rattle.n5_blocks.proofs.Laws.{SpellsBlock-from_no_fault, no_fault-SpellsBlock, parsed}
 use Rattle.std.proofs.lemmas.List.{get_or-replicate}
 use Rattle.zarr3_chunks.specs.Metadata as zarr3
 use Rattle.zarr3_chunks.specs.Chunk as zarr3_chunk
+pub use Rattle.zarr_chunks.proofs.Laws.{IsWord-zero}
 
 -- what is written for a chunk spells its words
 pub spells_of_writes : (form : Form) (index shape bytes : List ℕ) (word : List ℕ → ℕ) → WritesChunk form index shape bytes word → SpellsChunk form bytes word

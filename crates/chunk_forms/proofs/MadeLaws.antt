@@ -17,7 +17,7 @@ use Rattle.cells.specs.declared.dtype.Dtype.{Dtype}
 use Rattle.cells.specs.declared.order.Order.{Order}
 use Rattle.cells.specs.declared.order.Order.TheVariants.{C, F}
 use Rattle.cells.proofs.Laws.{cell_count-pos, else_from, ok_from_then}
-use Rattle.chunk_elements.proofs.Laws.{IsWord-zero}
+use Rattle.zarr_chunks.proofs.Laws.{IsWord-zero}
 use Rattle.zarr_chunks.specs.Metadata as zarr
 use Rattle.zarr_chunks.specs.Want as zarr_want
 use Rattle.zarr_chunks.specs.Written.{order_text}

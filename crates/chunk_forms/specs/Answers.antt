@@ -1,8 +1,8 @@
 -- Answers of the formats' decoders as answers of one.
 use Rattle.std.specs.Prelude.{Result, Ok, Err}
 use Rattle.cells.specs.Dense.{DenseCells}
-use Rattle.chunk_elements.specs.declared.error.ChunkError.{ChunkError}
-use Rattle.chunk_elements.specs.declared.error.ChunkError.TheVariants as chunk
+use Rattle.zarr_chunks.specs.declared.ChunkError.{ChunkError}
+use Rattle.zarr_chunks.specs.declared.ChunkError.TheVariants as chunk
 use Rattle.n5_blocks.specs.declared.chunk.BlockError.{BlockError}
 use Rattle.n5_blocks.specs.declared.chunk.BlockError.TheVariants as block
 use Rattle.chunk_forms.specs.declared.form.FormError.{FormError}

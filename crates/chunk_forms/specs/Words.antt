@@ -7,9 +7,9 @@ use Rattle.chunk_forms.specs.declared.form.Form.{Form}
 use Rattle.chunk_forms.specs.declared.form.Form.TheVariants.{Zarr, N5, Zarr3, Local}
 use Rattle.chunk_forms.specs.declared.form.Damage.{Damage}
 use Rattle.chunk_forms.specs.declared.form.Damage.TheVariants as damage
-use Rattle.chunk_elements.specs.Chunk as chunk
+use Rattle.zarr_chunks.specs.ElementChunk as chunk
 use Rattle.zarr_chunks.specs.Chunk as zarr
-use Rattle.chunk_elements.specs.declared.error.ChunkError.TheVariants.{WrongLength}
+use Rattle.zarr_chunks.specs.declared.ChunkError.TheVariants.{WrongLength}
 use Rattle.n5_blocks.specs.Metadata as n5
 use Rattle.n5_blocks.specs.Block as block
 use Rattle.n5_blocks.specs.Faults.{block_fault, sizes_in, header_len}

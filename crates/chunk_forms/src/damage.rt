@@ -4,8 +4,8 @@ ghost use Rattle.chunk_forms.specs.Answers.{of_zarr, of_n5, of_block};
 
 use crate::form::{Damage, FormError};
 use cells::Dense;
-use chunk_elements::ChunkError;
 use n5_blocks::BlockError;
+use zarr_chunks::ChunkError;
 
 pub(crate) fn of_zarr(answer: Result<Dense, ChunkError>) -> Result<Dense, FormError>
     ensures { result ≡ of_zarr answer }

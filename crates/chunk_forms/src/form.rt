@@ -1,6 +1,5 @@
-use chunk_elements::ChunkError;
 use n5_blocks::{BlockError, N5Meta, N5Want};
-use zarr_chunks::{ZarrMeta, ZarrWant};
+use zarr_chunks::{ChunkError, ZarrMeta, ZarrWant};
 use zarr3_chunks::{Zarr3Meta, Zarr3Want};
 
 /// How an array's chunks are stored. A local array's chunk is held by the run, not stored.

@@ -23,3 +23,9 @@ pub use encode::encode_form;
 pub use form::{Damage, Form, FormError, Want};
 pub use making::{default_chunks, is_small};
 pub use member::{MadeError, Member};
+pub use n5_blocks::{BlockError, N5Meta, N5Want, judged_compression, judged_dtype};
+pub use zarr_chunks::{
+    ElementType, MetaError, ZarrMeta, ZarrWant, judged_compressor, judged_filters, judged_order,
+    judged_separator, judged_type,
+};
+pub use zarr3_chunks::{Zarr3Meta, Zarr3Want, grid_sizes, judged_codecs};

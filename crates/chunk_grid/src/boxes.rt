@@ -2,7 +2,7 @@
 ghost use Rattle.std.specs.Prelude.{◌≡◌, ◌≢◌, ◌≤◌, ◌<◌, ◌+◌, ◌-◌, ◌^◌, ◌∷◌, ◌++◌, ◌/◌, ◌*◌, ◌==◌, [], ℕ, ℤ, pos, ◌+ℤ◌, ◌-ℤ◌, ◌*ℤ◌, ◌≤ℤ◌, ◌<ℤ◌, unsigned_abs, List, IsTrue, IfOk, OnOk, length, map, if◌then◌else◌};
 ghost use Rattle.std.specs.List.{All, AllByRecursion, AllZip, list_all};
 ghost use Rattle.index_transform.specs.Cells.{is_finite, cells_of};
-ghost use Rattle.index_transform.specs.Maps.{is_map, is_plain, size_of};
+ghost use Rattle.index_transform.specs.Maps.{is_map, is_plain};
 ghost use Rattle.index_intervals.specs.Bounds.{is_ordered};
 ghost use Rattle.index_transform.specs.Values.{map_value, value_at};
 ghost use Rattle.index_transform.specs.Walks.{IsCell};
@@ -13,7 +13,7 @@ ghost use Rattle.chunk_grid.specs.Grid.{IsInShape};
 use crate::grid::Grid;
 use cells::{List, Sizes};
 use index_intervals::Interval;
-use index_transform::{OutMap, Transform};
+use index_transform::{OutMap, Transform, copied_interval, size_of};
 use std::alloc::{AllocError, Global};
 
 /// Cells of a view: the first numbers of their chunk's index, and their dimensions.
@@ -247,17 +247,6 @@ fn parted(
     Ok(all)
 }
 
-fn copy_of(dim: &Interval) -> Interval
-    ensures value { result ≡ dim.now }
-    ensures ordered { IsTrue (is_ordered dim.now) }
-{
-    Interval {
-        lo: dim.lo,
-        hi: dim.hi,
-        ..*dim
-    }
-}
-
 // The dimensions copied.
 fn copied(alloc: Global, dims: &[Interval]) -> Result<Vec<Interval>, AllocError>
     ensures value { IfOk result (λ copy. copy.items ≡ dims.now) }
@@ -265,7 +254,7 @@ fn copied(alloc: Global, dims: &[Interval]) -> Result<Vec<Interval>, AllocError>
 {
     let mut copy = Vec::new(alloc);
     for dim in dims {
-        copy.push(copy_of(dim))?;
+        copy.push(copied_interval(dim))?;
     }
     Ok(copy)
 }
@@ -311,11 +300,4 @@ pub(crate) fn boxes_of(alloc: Global, t: &Transform, grid: &Grid) -> Result<Vec<
     ensures within { IfOk result (λ boxes. All (λ b. AllZip IsNarrowed t.now.domain.dims b.dims) boxes.items) }
 {
     boxes_along(alloc, t.domain().dims.items(), t.maps(), grid.chunk())
-}
-
-// The number of indices.
-pub(crate) fn size_of(dim: &Interval) -> u64
-    ensures { result ≡ size_of dim.now }
-{
-    (dim.hi + 1 - dim.lo) as u64
 }

@@ -12,12 +12,12 @@ ghost use Rattle.chunk_grid.specs.Grid.{IsGrid, IsInShape, chunk_index, numbers}
 ghost use Rattle.chunk_grid.specs.Boxes.{is_regular, IsBoxIn, key_along, cell_place, view_steps, added_along, added_by, chunk_steps, loops_of, runs_more_than_once, IsSmallStep, pair_at_cell, IsOfBox, IsCutBox, piece_of_box};
 ghost use Rattle.chunk_grid.specs.Runs.{runs_of_pairs, run_pieces};
 
-use crate::boxes::{Boxed, boxes_of, size_of};
+use crate::boxes::{Boxed, boxes_of};
 use crate::grid::Grid;
 use crate::piece::RunPiece;
 use cells::{List, Run};
 use index_intervals::Interval;
-use index_transform::{OutMap, Transform};
+use index_transform::{OutMap, Transform, size_of};
 use std::alloc::{AllocError, Global};
 use strided_runs::{Loop, runs_of_loops};
 

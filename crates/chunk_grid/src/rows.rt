@@ -1,5 +1,5 @@
 // The runs of a view as the product of its first dimensions and the others.
-ghost use Rattle.std.specs.Prelude.{true, false, ◌≡◌, ◌≢◌, ◌≤◌, ◌<◌, ◌/◌, ◌%◌, ◌^◌, [], pos, unsigned_abs, IsTrue, IfOk, OnOk, length, map, slice_index_or};
+ghost use Rattle.std.specs.Prelude.{true, false, ◌≡◌, ◌≢◌, ◌≤◌, ◌<◌, ◌^◌, [], pos, unsigned_abs, IsTrue, IfOk, OnOk, length, map, slice_index_or};
 ghost use Rattle.std.specs.List.{All, list_all};
 ghost use Rattle.cells.specs.Places.{IsInside, cell_count};
 ghost use Rattle.index_transform.specs.Cells.{is_finite, cells_of};
@@ -10,13 +10,12 @@ ghost use Rattle.chunk_grid.specs.Rows.{are_ones, is_of_heads, is_of_rows, is_sp
 ghost use Rattle.chunk_grid.specs.Runs.{run_pieces};
 ghost use Rattle.chunk_grid.specs.Slots.{chunk_counts, located, located_kept};
 
-use crate::boxes::size_of;
 use crate::grid::Grid;
 use crate::piece::RunPiece;
 use crate::slots::{Located, pieces_of_products};
-use cells::{LARGEST_RANK, List};
+use cells::{LARGEST_RANK, List, divided};
 use index_intervals::Interval;
-use index_transform::{OutMap, Transform, Walk};
+use index_transform::{OutMap, Transform, Walk, size_of};
 use std::alloc::{AllocError, Global};
 
 fn are_ones(sizes: &[u64]) -> bool
@@ -109,20 +108,6 @@ fn kept_at(want: bool, flags: &[bool], target: &[i64], output: usize) -> u64
     }
 }
 
-// A number's quotient and remainder by a size. A guess at the quotient is tried first, since dividing is slow.
-fn parts(x: u64, size: u64, guess: u64) -> (u64, u64)
-    requires { 0 < size }
-    ensures quotient { result.0 ≡ x / size }
-    ensures remainder { result.1 ≡ x % size }
-{
-    if let Some(first) = guess.checked_mul(size) {
-        if first <= x && x - first < size {
-            return (guess, x - first);
-        }
-    }
-    (x / size, x % size)
-}
-
 // Where a cell lies by the outputs whose flag is wanted. `last` has the chunk of the cell before, and then of this one.
 fn located(
     counts: &[u64],
@@ -147,7 +132,7 @@ fn located(
     let mut place = 0;
     for j in 0..counts.len() {
         let x = kept_at(want, flags, target, j);
-        let (at, rest) = parts(x, chunk[j], last[j]);
+        let (at, rest) = divided(x, chunk[j], last[j]);
         last[j] = at;
         number = number * counts[j] + at;
         place = place * chunk[j] + rest;

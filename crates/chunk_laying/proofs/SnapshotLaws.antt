@@ -6,7 +6,7 @@ use Rattle.cells.specs.Elements.{word_at}
 use Rattle.cells.specs.Places.{IsInside, c_place}
 use Rattle.cells.specs.Shapes.{is_inside}
 use Rattle.kv_face.specs.Store.{Contents}
-use Rattle.stack_driver.specs.Targets.{Cell}
+use Rattle.history.specs.Targets.{Cell}
 use Rattle.rebase_writes.specs.Staged.{staged_at}
 use Rattle.history.specs.declared.array.Home.{Home}
 use Rattle.history.specs.declared.array.Home.TheVariants.{Zarr, N5, Zarr3, Local}
@@ -21,8 +21,7 @@ use Rattle.history.specs.Own.{resized_event}
 use Rattle.history.specs.Snapshots.{IsSnapshotOf, chunk_box, box_in}
 use Rattle.history.specs.Touch.{touches}
 use Rattle.history.specs.Writes.{puts_of}
-use Rattle.history.proofs.Laws.{chunk_index-in_array, known_after-more, snapshot_of_done, snapshot_of_resize, words_over, words_cut, content_of_done}
-use Rattle.history.proofs.Laws.{generation_touched, last_put, else_word}
+use Rattle.history.proofs.Laws.{chunk_index-in_array, known_after-more, snapshot_of_done, snapshot_of_resize, words_over, words_cut, content_of_done, generation_touched, last_put, else_word}
 use Rattle.chunk_laying.specs.Laid.{IsCovered, laid_word, cut_word, word_under}
 
 -- what is staged for a chunk is what operations put there last, at each cell in the array's shape

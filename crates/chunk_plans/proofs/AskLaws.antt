@@ -3,9 +3,9 @@ use Rattle.std.proofs.Common.{◌≡◌, ◌∙◌, List, [], ◌∷◌, ◌++�
 use Rattle.std.specs.List.{AllByRecursion}
 use Rattle.std.proofs.lemmas.List.{map-append}
 use Rattle.history.specs.History.{History}
-use Rattle.state_laws.specs.Agreement.{Opening, Agrees, IsState, KeepsAgreement}
-use Rattle.state_laws.specs.Log.{Log}
-use Rattle.state_laws.specs.Seen.{StoreSeen}
+use Rattle.shared_state.specs.Agreement.{Opening, Agrees, IsState, KeepsAgreement}
+use Rattle.shared_state.specs.Log.{Log}
+use Rattle.shared_state.specs.Seen.{StoreSeen}
 use Rattle.chunk_plans.specs.Asking.{IsAsked, IsPart, part_in}
 use Rattle.chunk_plans.specs.declared.asked.Asked.{Asked}
 use Rattle.chunk_plans.specs.declared.asked.Part.{Part}

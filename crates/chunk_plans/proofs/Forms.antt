@@ -16,11 +16,10 @@ use Rattle.history.specs.Resizes.{reaches_into}
 use Rattle.history.proofs.Laws.{IsGood}
 use Rattle.rebase_writes.specs.Staged.{AreWords}
 use Rattle.chunk_laying.specs.Laid.{IsChunkOf}
-use Rattle.state_laws.specs.Agreement.{IsState}
-use Rattle.state_laws.specs.Log.{Log}
-use Rattle.state_laws.specs.Seen.{StoreSeen}
-use Rattle.state_laws.proofs.Laws.{form_stored, form_fill}
-use Rattle.state_laws.proofs.Laws.{good_in}
+use Rattle.shared_state.specs.Agreement.{IsState}
+use Rattle.shared_state.specs.Log.{Log}
+use Rattle.shared_state.specs.Seen.{StoreSeen}
+use Rattle.shared_state.proofs.Laws.{form_stored, form_fill, good_in}
 use Rattle.chunk_plans.specs.declared.write.ChunkWrite.{ChunkWrite}
 use Rattle.chunk_plans.specs.Writes.{IsWriteOf, IsWrite}
 use Rattle.chunk_plans.proofs.Kept.{shape_told, chunk_told}

@@ -16,12 +16,12 @@ use Rattle.history.specs.Resizes.{reaches_into}
 use Rattle.history.specs.Snapshots.{chunk_box}
 use Rattle.history.proofs.Laws.{local_shape}
 use Rattle.rebase_writes.specs.Staged.{AreWords, staged_at}
-use Rattle.state_laws.specs.Agreement.{Opening, Agrees, IsState}
-use Rattle.state_laws.specs.Fetches.{IsAnswered, kept_of}
-use Rattle.state_laws.specs.Log.{Log, cells_held}
-use Rattle.state_laws.specs.Outline.{outline}
-use Rattle.state_laws.specs.Seen.{StoreSeen}
-use Rattle.state_laws.proofs.Laws.{known-outline}
+use Rattle.shared_state.specs.Agreement.{Opening, Agrees, IsState}
+use Rattle.shared_state.specs.Fetches.{IsAnswered, kept_of}
+use Rattle.shared_state.specs.Log.{Log, cells_held}
+use Rattle.shared_state.specs.Outline.{outline}
+use Rattle.shared_state.specs.Seen.{StoreSeen}
+use Rattle.shared_state.proofs.Laws.{known-outline}
 use Rattle.chunk_plans.specs.declared.write.ChunkWrite.{ChunkWrite}
 use Rattle.chunk_plans.specs.Under.{IsHeldOver}
 use Rattle.chunk_plans.specs.Writes.{IsWrite, chunk_of_write}

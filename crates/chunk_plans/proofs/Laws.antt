@@ -25,3 +25,5 @@ pub use Rattle.chunk_plans.proofs.ReadyLaws.{ready_right}
 pub use Rattle.chunk_plans.proofs.UnderLaws.{may_ready}
 -- what stands in the order of distinct keys rises
 pub use Rattle.chunk_plans.proofs.SortLaws.{rising_sorted}
+-- laws of crates below, given on to those above
+pub use Rattle.chunk_laying.proofs.Laws.{IsStagedBy, snapshot_of_cut}

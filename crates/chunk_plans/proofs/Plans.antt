@@ -8,10 +8,10 @@ use Rattle.chunk_forms.specs.declared.form.Damage.{Damage}
 use Rattle.chunk_forms.specs.Metadata.{shape_of, chunk_shape_of, dtype_of, with_shape}
 use Rattle.history.specs.Arrays.{Known, known_after, form_of, is_local, chunk_shape}
 use Rattle.chunk_laying.specs.Laid.{IsChunkOf, IsCovered}
-use Rattle.state_laws.specs.Agreement.{Opening, Agrees, IsState}
-use Rattle.state_laws.specs.Fetches.{IsAnswered, IsDamagedThere}
-use Rattle.state_laws.specs.Log.{Log}
-use Rattle.state_laws.specs.Seen.{StoreSeen}
+use Rattle.shared_state.specs.Agreement.{Opening, Agrees, IsState}
+use Rattle.shared_state.specs.Fetches.{IsAnswered, IsDamagedThere}
+use Rattle.shared_state.specs.Log.{Log}
+use Rattle.shared_state.specs.Seen.{StoreSeen}
 use Rattle.chunk_plans.specs.declared.write.ChunkWrite.{ChunkWrite}
 use Rattle.chunk_plans.specs.Left.{IsLeft}
 use Rattle.chunk_plans.specs.Under.{IsLeftNow}

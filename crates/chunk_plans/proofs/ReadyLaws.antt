@@ -12,12 +12,12 @@ use Rattle.history.specs.Snapshots.{IsSnapshotOf}
 use Rattle.history.specs.Store.{resized_after}
 use Rattle.history.specs.Touch.{generation_of}
 use Rattle.history.proofs.Laws.{known_unresized, resized_after-le-length, snapshot_longer, some_inj}
-use Rattle.state_laws.specs.Agreement.{Opening, Agrees}
-use Rattle.state_laws.specs.Fetches.{IsNamed, generation_in}
-use Rattle.state_laws.specs.Kept.{IsCurrent}
-use Rattle.state_laws.specs.Log.{Log}
-use Rattle.state_laws.specs.Seen.{StoreSeen}
-use Rattle.state_laws.proofs.Laws.{generation_now}
+use Rattle.shared_state.specs.Agreement.{Opening, Agrees}
+use Rattle.shared_state.specs.Fetches.{IsNamed, generation_in}
+use Rattle.shared_state.specs.Kept.{IsCurrent}
+use Rattle.shared_state.specs.Log.{Log}
+use Rattle.shared_state.specs.Seen.{StoreSeen}
+use Rattle.shared_state.proofs.Laws.{generation_now}
 use Rattle.chunk_plans.specs.Left.{IsLeft}
 use Rattle.chunk_plans.specs.Under.{IsLeftNow}
 use Rattle.chunk_plans.specs.Writes.{IsReadyBy, IsReadyWrite, chunk_of_write, is_base, is_usable}

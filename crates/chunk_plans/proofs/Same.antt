@@ -5,9 +5,9 @@ use Rattle.std.specs.Result.{IsErrAnd}
 use Rattle.chunk_cache.specs.Cache.{after_hit, after_keep}
 use Rattle.chunk_cache.specs.Snapshot.{SnapshotCells}
 use Rattle.history.specs.Arrays.{Known, is_local}
-use Rattle.state_laws.specs.Fetches.{IsAnswered, generation_in, looked_at, settled}
-use Rattle.state_laws.specs.Log.{Log}
-use Rattle.state_laws.specs.Seen.{StoreSeen}
+use Rattle.shared_state.specs.Fetches.{IsAnswered, generation_in, looked_at, settled}
+use Rattle.shared_state.specs.Log.{Log}
+use Rattle.shared_state.specs.Seen.{StoreSeen}
 use Rattle.chunk_plans.specs.declared.write.ChunkWrite.{ChunkWrite}
 use Rattle.chunk_plans.specs.Writes.{IsSameButCache, chunk_of_write}
 

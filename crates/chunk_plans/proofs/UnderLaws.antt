@@ -17,11 +17,11 @@ use Rattle.history.specs.declared.array.Home.{Home}
 use Rattle.history.specs.declared.array.Home.TheVariants.{Zarr, N5, Zarr3, Local}
 use Rattle.history.proofs.Laws.{some_inj}
 use Rattle.rebase_writes.specs.Staged.{AreWords}
-use Rattle.state_laws.specs.Agreement.{Agrees, IsState, Opening}
-use Rattle.state_laws.specs.Fetches.{IsAnswered}
-use Rattle.state_laws.specs.Log.{Log}
-use Rattle.state_laws.specs.Seen.{StoreSeen}
-use Rattle.state_laws.proofs.Laws.{form_fill, good_in}
+use Rattle.shared_state.specs.Agreement.{Agrees, IsState, Opening}
+use Rattle.shared_state.specs.Fetches.{IsAnswered}
+use Rattle.shared_state.specs.Log.{Log}
+use Rattle.shared_state.specs.Seen.{StoreSeen}
+use Rattle.shared_state.proofs.Laws.{form_fill, good_in}
 use Rattle.chunk_plans.specs.Asking.{IsAsked, IsPart, IsUnderAt, chunk_of_part}
 use Rattle.chunk_plans.specs.Laying.{MayLay, MayReady}
 use Rattle.chunk_plans.specs.declared.asked.Asked.{Asked}

@@ -6,8 +6,8 @@ use Rattle.history.specs.Arrays.{Known, known_after}
 use Rattle.history.specs.Chunks.{Chunk, key_in}
 use Rattle.history.specs.Generations.{HasKey}
 use Rattle.history.proofs.Laws.{some_inj}
-use Rattle.state_laws.specs.Fetches.{generation_in}
-use Rattle.state_laws.specs.Log.{Log}
+use Rattle.shared_state.specs.Fetches.{generation_in}
+use Rattle.shared_state.specs.Log.{Log}
 use Rattle.chunk_plans.specs.declared.write.ChunkWrite.{ChunkWrite}
 use Rattle.chunk_plans.specs.declared.write.Ready.{Ready}
 use Rattle.chunk_plans.specs.Writes.{IsWrite, chunk_of_write, is_base, is_usable}

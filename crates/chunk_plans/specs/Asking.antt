@@ -10,8 +10,8 @@ use Rattle.history.specs.History.{History}
 use Rattle.history.specs.Store.{resized_after}
 use Rattle.rebase_writes.specs.Staged.{AreWords}
 use Rattle.chunk_laying.specs.Laid.{IsCovered}
-use Rattle.state_laws.specs.Agreement.{Opening}
-use Rattle.state_laws.specs.Kept.{IsCurrent}
+use Rattle.shared_state.specs.Agreement.{Opening}
+use Rattle.shared_state.specs.Kept.{IsCurrent}
 use Rattle.chunk_plans.specs.Laying.{MayLay, IsBaseFor}
 use Rattle.chunk_plans.specs.declared.asked.Asked.{Asked}
 use Rattle.chunk_plans.specs.declared.asked.Part.{Part}

@@ -6,3 +6,6 @@ pub mod Laying
 pub mod Asking
 pub mod Readying
 pub mod Sorting
+-- names of crates below, given on to those above
+pub use Rattle.chunk_laying.specs.Laid
+pub use Rattle.chunk_laying.specs.Resized

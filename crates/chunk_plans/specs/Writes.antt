@@ -8,10 +8,10 @@ use Rattle.history.specs.Chunks.{Chunk, IsIndexOf, chunk_key}
 use Rattle.history.specs.Resizes.{reaches_into}
 use Rattle.history.specs.Store.{resized_after}
 use Rattle.rebase_writes.specs.Staged.{AreWords}
-use Rattle.state_laws.specs.Fetches.{generation_in}
-use Rattle.state_laws.specs.Log.{Log}
-use Rattle.state_laws.specs.declared.plan.Left.{Left}
-use Rattle.state_laws.specs.declared.plan.Left.TheVariants.{Stored, Held}
+use Rattle.shared_state.specs.Fetches.{generation_in}
+use Rattle.shared_state.specs.Log.{Log}
+use Rattle.shared_state.specs.declared.Left.{Left}
+use Rattle.shared_state.specs.declared.Left.TheVariants.{Stored, Held}
 use Rattle.chunk_plans.specs.declared.write.ChunkWrite.{ChunkWrite}
 use Rattle.chunk_plans.specs.declared.write.Ready.{Ready}
 use Rattle.chunk_plans.specs.Under.{IsLeftNow, IsHeldOver}

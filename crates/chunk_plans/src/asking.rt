@@ -3,7 +3,7 @@ ghost use Rattle.std.specs.Prelude.{◌≡◌, Some, IfOk, map};
 ghost use Rattle.std.specs.List.{AllByRecursion};
 ghost use Rattle.chunk_forms.specs.Metadata as meta;
 ghost use Rattle.history.specs.Arrays.{Known, known_after, form_of};
-ghost use Rattle.state_laws.specs.Agreement.{Opening, Agrees, IsState, KeepsAgreement};
+ghost use Rattle.shared_state.specs.Agreement.{Opening, Agrees, IsState, KeepsAgreement};
 ghost use Rattle.chunk_plans.specs.Asking.{IsAsked, IsPart, IsUnderAt, part_in};
 
 use crate::asked::{Asked, Part, Under};

@@ -17,9 +17,11 @@ mod write;
 
 pub use asked::{Asked, Part, Under};
 pub use asking::ask_all;
+pub use chunk_laying::{count_cut, cut, cut_chunks, is_gone, stays_within};
 pub use leaving::left_over;
 pub use mark::Mark;
 pub use planning::plan_write;
 pub use readying::write_of;
+pub use shared_state::{ChangeError, Deed, FetchError, HeldCells, NewShape, State};
 pub use sorting::{sort_marks, sort_writes};
 pub use write::{ChunkWrite, Ready};

@@ -5,14 +5,14 @@ ghost use Rattle.chunk_forms.specs.declared.form.Damage.{Damage as DamageOf};
 ghost use Rattle.kv_face.specs.Store.{Contents};
 ghost use Rattle.history.specs.Arrays.{Known, known_after, form_of, is_local, chunk_shape};
 ghost use Rattle.chunk_laying.specs.Laid.{IsCovered};
-ghost use Rattle.state_laws.specs.Seen.{IsRead};
-ghost use Rattle.state_laws.specs.Agreement.{Opening, Agrees, IsState, KeepsAgreement};
-ghost use Rattle.state_laws.specs.Fetches.{IsAnswered, IsDamagedThere, generation_in};
-ghost use Rattle.state_laws.specs.Kept.{AreCellsOf};
-ghost use Rattle.state_laws.specs.Looks.{IsFailedLook};
+ghost use Rattle.shared_state.specs.Seen.{IsRead};
+ghost use Rattle.shared_state.specs.Agreement.{Opening, Agrees, IsState, KeepsAgreement};
+ghost use Rattle.shared_state.specs.Fetches.{IsAnswered, IsDamagedThere, generation_in};
+ghost use Rattle.shared_state.specs.Kept.{AreCellsOf};
+ghost use Rattle.shared_state.specs.Looks.{IsFailedLook};
 ghost use Rattle.std.specs.Option.{ForSome};
-ghost use Rattle.state_laws.specs.Left.{IsLeftOf};
-ghost use Rattle.state_laws.specs.declared.plan.Left.TheVariants as left;
+ghost use Rattle.shared_state.specs.Left.{IsLeftOf};
+ghost use Rattle.shared_state.specs.declared.Left.TheVariants as left;
 ghost use Rattle.chunk_plans.specs.Under.{IsLeftNow};
 ghost use Rattle.chunk_plans.specs.Writes.{is_base, IsWrite, IsPlanOf, IsReadyWrite, IsSameButCache, chunk_of_write, may_use};
 
@@ -23,8 +23,7 @@ use chunk_cache::Snapshot;
 use chunk_forms::Form;
 use chunk_laying::covers;
 use kv_face::KvStore;
-use shared_state::{FetchError, State};
-use state_laws::{Left, Planned};
+use shared_state::{FetchError, Left, Planned, State};
 use std::alloc::{AllocError, Global};
 
 /// What a commit leaves of a chunk: prepared bytes where they may be used as they are, else the staged words over the chunk as it is,

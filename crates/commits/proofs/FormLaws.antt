@@ -6,7 +6,7 @@ use Rattle.chunk_forms.specs.declared.form.Form.{Form}
 use Rattle.chunk_forms.specs.Metadata.{shape_of, chunk_shape_of, with_shape}
 use Rattle.history.specs.History.{History}
 use Rattle.history.specs.Arrays.{Known, form_of, is_local, chunk_shape}
-use Rattle.chunk_laying.specs.Laid.{IsChunkOf, IsStagedWithin}
+use Rattle.chunk_plans.specs.Laid.{IsChunkOf, IsStagedWithin}
 use Rattle.state_laws.specs.Agreement.{IsState}
 use Rattle.state_laws.specs.Log.{Log}
 use Rattle.state_laws.specs.Seen.{StoreSeen}

@@ -15,7 +15,7 @@ use Rattle.state_laws.specs.Agreement.{Opening, Agrees, IsState}
 use Rattle.state_laws.specs.Changing.{AreMade}
 use Rattle.state_laws.specs.Log.{Log}
 use Rattle.state_laws.specs.Seen.{IsRead, StoreSeen}
-use Rattle.state_parts.proofs.Laws.{together-keys}
+use Rattle.state_laws.proofs.Laws.{together-keys}
 use Rattle.state_laws.specs.declared.plan.Planned.{Planned}
 use Rattle.commits.specs.Plans.{ArePlans, AreRightBy, changes_of}
 use Rattle.chunk_plans.specs.declared.write.ChunkWrite.{ChunkWrite}

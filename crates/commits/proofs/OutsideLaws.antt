@@ -15,7 +15,7 @@ use Rattle.history.specs.Legal.{is_present, is_present_in}
 use Rattle.history.specs.Reads.{is_put}
 use Rattle.history.specs.Writes.{Put, Content, puts_of, put}
 use Rattle.history.proofs.Laws.{in_array-split, inside_within, good_positive, puts_elsewhere, IsGood, chunk_array}
-use Rattle.chunk_laying.specs.Laid.{IsStagedWithin}
+use Rattle.chunk_plans.specs.Laid.{IsStagedWithin}
 use Rattle.chunk_plans.specs.declared.write.ChunkWrite.{ChunkWrite}
 use Rattle.chunk_plans.specs.Writes.{chunk_of_write}
 use Rattle.commits.specs.Prepared.{IsStagedFor, word_put}

@@ -22,7 +22,7 @@ use Rattle.history.specs.Writes.{Put, puts_of}
 use Rattle.std.proofs.lemmas.Bool.Decides.{nat_tests}
 use Rattle.std.proofs.lemmas.List.{length-map}
 use Rattle.history.proofs.Laws.{chunk_array, else_word, last_put, known_good, local_shape, one_key, same_chunks, some_inj, written-is}
-use Rattle.chunk_laying.proofs.Laws.{IsStagedBy}
+use Rattle.chunk_plans.proofs.Laws.{IsStagedBy, kept_of_left, held_snapshot}
 use Rattle.state_laws.specs.declared.commit.Commit.{Commit}
 use Rattle.state_laws.specs.Recorded.{done_event}
 use Rattle.state_laws.specs.Agreement.{Opening, Agrees}
@@ -36,7 +36,6 @@ use Rattle.commits.specs.Plans.{IsPlanned, IsRightLeft, IsRightPlan, keys_of, Ha
 use Rattle.state_laws.specs.Left.{IsLeftOf}
 use Rattle.chunk_plans.specs.declared.write.ChunkWrite.{ChunkWrite}
 use Rattle.chunk_plans.specs.Writes.{IsPlanOf, IsReadyWrite, chunk_of_write}
-use Rattle.chunk_plans.proofs.Laws.{kept_of_left, held_snapshot}
 use Rattle.commits.specs.Keyed.{plan_arrays}
 use Rattle.commits.specs.Planning.{ArePlannedBy, IsPlannedBy, write_arrays}
 use Rattle.commits.specs.Prepared.{AreWrites, HasWrite, IsPutAmong, IsStagedFor, IsStagedWrite, write_keys}

@@ -19,7 +19,7 @@ use Rattle.history.specs.Refusals.{IsShrunkCommit, IsWrittenOutside, key_of_arra
 use Rattle.history.specs.Store.{resized_after}
 use Rattle.history.specs.Writes.{Put, puts_of}
 use Rattle.history.proofs.Laws.{chunk_array, known_apart, known_good, never_itself, other_way, same_cells, some_inj}
-use Rattle.chunk_laying.specs.Laid.{IsStagedWithin}
+use Rattle.chunk_plans.specs.Laid.{IsStagedWithin}
 use Rattle.chunk_plans.specs.declared.write.ChunkWrite.{ChunkWrite}
 use Rattle.chunk_plans.specs.Writes.{chunk_of_write}
 use Rattle.commits.specs.declared.outside.Outside.{Outside}

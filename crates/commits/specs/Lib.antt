@@ -10,3 +10,9 @@ pub mod Refused
 pub mod Ways
 pub mod Keyed
 pub mod Answers
+-- names of crates below, given on to those above
+pub use Rattle.chunk_plans.specs.Asking
+pub use Rattle.chunk_plans.specs.Laying
+pub use Rattle.chunk_plans.specs.Readying
+pub use Rattle.chunk_plans.specs.Sorting
+pub use Rattle.chunk_plans.specs.Writes as PlanWrites

@@ -4,7 +4,7 @@ use Rattle.history.specs.Arrays.{Known, known_after, chunk_shape, is_local}
 use Rattle.history.specs.Chunks.{metadata_key}
 use Rattle.history.specs.Store.{resized_after}
 use Rattle.history.specs.History.{History}
-use Rattle.chunk_laying.specs.Laid.{IsStagedWithin}
+use Rattle.chunk_plans.specs.Laid.{IsStagedWithin}
 use Rattle.chunk_plans.specs.declared.write.ChunkWrite.{ChunkWrite}
 use Rattle.commits.specs.declared.outside.Outside.{Outside}
 

@@ -6,7 +6,7 @@ use Rattle.history.specs.History.{History}
 use Rattle.history.specs.Arrays.{Known, known_after, chunk_shape}
 use Rattle.history.specs.Own.{fault}
 use Rattle.history.specs.ReadRows.{mount_of}
-use Rattle.chunk_laying.specs.Laid.{IsCovered}
+use Rattle.chunk_plans.specs.Laid.{IsCovered}
 use Rattle.state_laws.specs.Agreement.{Opening, Agrees}
 use Rattle.state_laws.specs.Fetches.{IsDamagedThere}
 use Rattle.state_laws.specs.Log.{Log}

@@ -20,8 +20,8 @@ use crate::refused::CommitRefused;
 use crate::way::{Way, way_of};
 use crate::writes::writes_only;
 use cells::List;
+use chunk_plans::State;
 use kv_face::KvStore;
-use shared_state::State;
 use state_laws::Commit;
 use std::alloc::Global;
 

@@ -16,13 +16,11 @@ ghost use Rattle.commits.specs.Right.{IsStateByCommit, KeepsByCommit};
 use crate::making::commit_planned;
 use crate::planning::plan_writes;
 use crate::refused::{CommitRefused, unmade, unplanned};
-use cells::{List, Name};
-use chunk_plans::ChunkWrite;
+use cells::{List, Name, copy_name};
+use chunk_plans::{ChangeError, ChunkWrite, State};
 use history::{Mode, Ops};
 use kv_face::KvStore;
-use shared_state::{ChangeError, State};
 use state_laws::{Commit, Planned};
-use state_parts::copy_name;
 use std::alloc::{AllocError, Global};
 
 /// A transaction of which each key is committed by itself: the operations of the first event, and the writes among them.

@@ -20,9 +20,8 @@ use crate::mount::mount_of_writes;
 use crate::planning::plan_writes;
 use crate::refused::{CommitRefused, unmade, unplanned};
 use cells::{List, Name};
-use chunk_plans::ChunkWrite;
+use chunk_plans::{ChunkWrite, State};
 use kv_face::KvStore;
-use shared_state::State;
 use state_laws::{Commit, Planned};
 use std::alloc::Global;
 

@@ -3,11 +3,9 @@ ghost use Rattle.std.specs.Prelude.{◌≡◌, ◌<◌, Some, IfOk};
 ghost use Rattle.state_laws.specs.Agreement.{IsState};
 ghost use Rattle.commits.specs.Late.{IsFirstLate};
 
-use cells::Name;
-use chunk_plans::Mark;
+use cells::{Name, copy_name};
+use chunk_plans::{Mark, State};
 use kv_face::KvStore;
-use shared_state::State;
-use state_parts::copy_name;
 use std::alloc::{AllocError, Global};
 
 /// A chunk that was read and has a later generation now.

@@ -20,6 +20,7 @@ mod stored;
 mod way;
 mod writes;
 
+pub use chunk_plans::{Asked, ChunkWrite, Mark, Part, ask_all, sort_marks, sort_writes, write_of};
 pub use commit::commit_now;
 pub use prepared::Prepared;
 pub use refused::CommitRefused;

@@ -11,8 +11,8 @@ ghost use Rattle.state_laws.specs.declared.plan.Planned.{Planned as PlannedOf};
 
 use crate::parts::{Parts, parted};
 use cells::Name;
+use chunk_plans::{ChangeError, Deed, State};
 use kv_face::KvStore;
-use shared_state::{ChangeError, Deed, State};
 use state_laws::{Commit, Planned};
 use std::alloc::Global;
 

@@ -6,9 +6,8 @@ ghost use Rattle.chunk_plans.specs.declared.write.ChunkWrite.{ChunkWrite as Writ
 ghost use Rattle.commits.specs.Planning.{IsMountFor};
 
 use cells::Name;
-use chunk_plans::ChunkWrite;
+use chunk_plans::{ChunkWrite, State};
 use kv_face::KvStore;
-use shared_state::State;
 use std::alloc::{AllocError, Global};
 
 /// The mount of the first of the writes of which a store holds the array; no text where there is none.

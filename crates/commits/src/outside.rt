@@ -2,16 +2,14 @@
 ghost use Rattle.std.specs.Prelude.{◌≡◌, ◌↔◌, Some, IfOk, IsTrue, false};
 ghost use Rattle.std.specs.List.{AllByRecursion};
 ghost use Rattle.history.specs.Arrays.{Known, known_after, chunk_shape, is_local};
-ghost use Rattle.chunk_laying.specs.Laid.{IsStagedWithin};
+ghost use Rattle.chunk_plans.specs.Laid.{IsStagedWithin};
 ghost use Rattle.state_laws.specs.Agreement.{IsState};
 ghost use Rattle.commits.specs.Outside.{IsFirstOutside, IsToldOf, TellsOutside};
 ghost use Rattle.commits.specs.Writes.{IsSizedWrite};
 
 use cells::Name;
-use chunk_laying::stays_within;
-use chunk_plans::ChunkWrite;
+use chunk_plans::{ChunkWrite, State, stays_within};
 use kv_face::KvStore;
-use shared_state::State;
 use std::alloc::AllocError;
 
 /// An array of which a written cell lies outside its shape now: the key of its metadata, and the number of the event that gave it the

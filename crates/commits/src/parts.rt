@@ -3,8 +3,8 @@ ghost use Rattle.std.specs.Prelude.{◌≡◌, ◌++◌, ◌∷◌, [], IfOk, On
 ghost use Rattle.commits.specs.Plans.{ArePartsOf, change_of, held_of};
 
 use cells::Name;
+use chunk_plans::HeldCells;
 use kv_face::Change;
-use shared_state::HeldCells;
 use state_laws::{Left, Planned};
 use std::alloc::{AllocError, Global};
 

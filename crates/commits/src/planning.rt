@@ -7,9 +7,8 @@ ghost use Rattle.state_laws.specs.Agreement.{IsState, KeepsAgreement};
 ghost use Rattle.chunk_plans.specs.Writes.{IsSameButCache, IsWrite};
 ghost use Rattle.commits.specs.Planning.{ArePlannedBy, HasFailedFor, IsFirstDamaged, write_arrays};
 
-use chunk_plans::{ChunkWrite, plan_write};
+use chunk_plans::{ChunkWrite, FetchError, State, plan_write};
 use kv_face::KvStore;
-use shared_state::{FetchError, State};
 use state_laws::Planned;
 use std::alloc::Global;
 

@@ -3,7 +3,7 @@ ghost use Rattle.commits.specs.Refused.{unmade, unplanned};
 
 use cells::{List, Name};
 use chunk_forms::Damage;
-use shared_state::{ChangeError, FetchError};
+use chunk_plans::{ChangeError, FetchError};
 use std::alloc::{AllocError, Global};
 
 /// Why a commit isn't done, or not whole. Only `StoreFailed` and `Memory` may leave events behind.

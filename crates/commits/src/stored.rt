@@ -7,10 +7,9 @@ ghost use Rattle.history.specs.Counting.{is_stored};
 ghost use Rattle.chunk_plans.specs.declared.write.ChunkWrite.{ChunkWrite as WriteOf};
 ghost use Rattle.commits.specs.Writes.{stored_write_keys};
 
-use chunk_plans::ChunkWrite;
+use cells::copy_name;
+use chunk_plans::{ChunkWrite, State};
 use kv_face::{Change, KvStore};
-use shared_state::State;
-use state_parts::copy_name;
 use std::alloc::{AllocError, Global};
 
 /// Adds a change of the key of a write, without bytes, where a store holds the array.

@@ -12,9 +12,8 @@ use crate::outside::first_outside;
 use crate::prepared::Prepared;
 use crate::refused::CommitRefused;
 use crate::stored::stored_changes;
-use chunk_plans::ChunkWrite;
+use chunk_plans::{ChunkWrite, State};
 use kv_face::KvStore;
-use shared_state::State;
 use std::alloc::{AllocError, Global};
 
 /// As one change of the store and one event, or as one of each for every key.

@@ -1,7 +1,7 @@
 -- What the forms of lines give is sound in what they do.
 use Rattle.std.proofs.Common.{ℕ, ◌≤◌, List, length, Bool, true, false, cond, Option, Some, None, Ok, Err, arith}
 use Rattle.std.specs.Prelude.{◌==◌}
-use Rattle.transform_composition.specs.declared.error.ComposeError.TheVariants as compose
+use Rattle.stack_driver.specs.declared.ComposeError.TheVariants as compose
 use Rattle.stack_driver.specs.References.{Reference}
 use Rattle.stack_driver.specs.Renewed.{array_of}
 use Rattle.stack_driver.specs.Views.{look_of}

@@ -18,7 +18,7 @@ use Rattle.history.specs.Acts.{Act, opens, binds, reads, stages, writes, begins,
 use Rattle.history.specs.Alone.{AreOnMount, IsLeafOn, IsLineOn}
 use Rattle.history.specs.Answers as body
 use Rattle.history.specs.Answers.{Body, Text}
-use Rattle.transform_composition.specs.declared.error.ComposeError.TheVariants as compose
+use Rattle.stack_driver.specs.declared.ComposeError.TheVariants as compose
 use Rattle.history.specs.Arrays.{Known, known_after, known_step, known_reshaped, is_local}
 use Rattle.history.specs.Bound.{AreKnownNames}
 use Rattle.history.specs.Commit.{Key, Fixed, Transaction, done_each, commit_events, kept_ops, changed_keys, stored_keys, are_together}

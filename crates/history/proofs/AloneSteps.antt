@@ -3,7 +3,7 @@ use Rattle.std.proofs.Common.{◌≡◌, ℕ, List, [], ◌∷◌, ◌++◌, len
 use Rattle.std.specs.Prelude.{◌||◌, ◌==◌}
 use Rattle.std.specs.List.{AllByRecursion}
 use Rattle.std.specs.FinMap as finmap
-use Rattle.transform_composition.specs.declared.error.ComposeError.TheVariants as compose
+use Rattle.stack_driver.specs.declared.ComposeError.TheVariants as compose
 use Rattle.stack_driver.specs.References.{Reference}
 use Rattle.stack_driver.specs.Renewed.{array_of}
 use Rattle.stack_driver.specs.Views.{look_of}

@@ -11,7 +11,7 @@ use Rattle.chunk_forms.specs.declared.form.Form.TheVariants as form
 use Rattle.chunk_forms.specs.declared.form.Damage.TheVariants as damage
 use Rattle.chunk_forms.specs.Words.{stored_word, chunk_fault}
 use Rattle.chunk_forms.specs.Grammar.{cut_sizes}
-use Rattle.n5_blocks.specs.declared.chunk.BlockError.TheVariants.{WrongSize}
+use Rattle.chunk_forms.specs.declared.BlockError.TheVariants.{WrongSize}
 use Rattle.history.specs.declared.array.ArrayInfo.{ArrayInfo}
 use Rattle.history.specs.declared.array.Home.TheVariants.{Zarr, Local}
 use Rattle.history.specs.declared.event.Kind.TheVariants.{Opened, Done, Resized}

@@ -4,9 +4,9 @@ use Rattle.std.specs.List.{AllByRecursion}
 use Rattle.std.proofs.lemmas.Bool.{cases_lt}
 use Rattle.std.proofs.lemmas.List.{take_all, length-take}
 use Rattle.cells.specs.declared.dtype.Dtype.{Dtype}
-use Rattle.index_transform.specs.Transforms.{DomainAndMaps}
-use Rattle.transform_composition.specs.declared.error.ComposeError.{ComposeError}
-use Rattle.transform_composition.specs.Tightening.{tighten_answer}
+use Rattle.stack_driver.specs.Transforms.{DomainAndMaps}
+use Rattle.stack_driver.specs.declared.ComposeError.{ComposeError}
+use Rattle.stack_driver.specs.Tightening.{tighten_answer}
 use Rattle.stack_driver.specs.Arrays.{array_domain}
 use Rattle.stack_driver.specs.References.{Reference}
 use Rattle.stack_driver.specs.Renewed.{array_of, opened, reshaped, leaf_of, cast_renewed, renewed}

@@ -152,3 +152,5 @@ pub use Rattle.history.proofs.Plain.{plain-world, plain-values}
 pub use Rattle.history.proofs.AloneRuns.{run_is_single}
 pub use Rattle.history.proofs.AloneSingle.{IsRunAlone, single_is_run}
 pub use Rattle.history.proofs.AloneEnds.{run_begins_single}
+-- laws of crates below, given on to those above
+pub use Rattle.chunk_forms.proofs.Laws.{no_fault_of_spells, spells_of_writes}

@@ -2,8 +2,8 @@
 use Rattle.std.proofs.Common.{ℕ, ℤ, List, [], ◌∷◌, length, Bool, true, false, cond, Option, Some, None, Result, Ok, Err, refl, sym, subst}
 use Rattle.std.specs.Prelude.{◌==◌}
 use Rattle.std.specs.List.{AllByRecursion}
-use Rattle.transform_composition.specs.declared.error.ComposeError.TheVariants as compose
-use Rattle.index_transform.specs.Cells.{cells_of}
+use Rattle.stack_driver.specs.declared.ComposeError.TheVariants as compose
+use Rattle.stack_driver.specs.Cells.{cells_of}
 use Rattle.stack_driver.specs.References.{Reference}
 use Rattle.stack_driver.specs.Renewed.{array_of}
 use Rattle.stack_driver.specs.Targets.{Target}

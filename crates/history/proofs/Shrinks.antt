@@ -11,8 +11,8 @@ use Rattle.cells.specs.Shapes.{is_inside}
 use Rattle.cells.proofs.Laws.{both_true, true_or_false}
 use Rattle.kv_face.specs.Store.{Contents}
 use Rattle.cells.specs.declared.dtype.Dtype.{Dtype}
-use Rattle.index_transform.specs.Transforms.{DomainAndMaps}
-use Rattle.index_transform.specs.Values.{value_at}
+use Rattle.stack_driver.specs.Transforms.{DomainAndMaps}
+use Rattle.stack_driver.specs.Values.{value_at}
 use Rattle.stack_driver.specs.References.{Reference}
 use Rattle.stack_driver.specs.Targets.{Cell, is_cell, Target, in_shape, has_index, before}
 use Rattle.stack_driver.specs.Views.{Look, look_of, leaf_target, cast_target, last_target, target_of, targets_of}
@@ -23,29 +23,25 @@ use Rattle.stack_driver.specs.declared.view.View.TheOpen.{View-F}
 use Rattle.stack_driver.specs.declared.view.View.TheVariants as view
 use Rattle.stack_driver.proofs.Laws.{every_base, every_layer, look-Leaf, look-Cast, look-Stack}
 use Rattle.history.specs.History.{History}
-use Rattle.history.specs.Arrays.{Known, known_after, is_local}
+use Rattle.history.specs.Arrays.{Known, known_after, is_local, form_of}
 use Rattle.history.specs.Refs.{IsKnownRef, HasKnownRef, HasKnownRefs}
 use Rattle.std.specs.Option.{option_map}
 use Rattle.chunk_forms.specs.Names as names
 use Rattle.history.specs.declared.array.ArrayInfo.{ArrayInfo}
 use Rattle.history.specs.declared.array.Home.{Home}
 use Rattle.history.specs.declared.array.Home.TheVariants.{Zarr, N5, Zarr3, Local}
-use Rattle.history.specs.Arrays.{form_of}
 use Rattle.history.specs.Chunks.{keys_text, metadata_key}
-use Rattle.history.specs.Commit.{Key}
-use Rattle.history.specs.Legal.{IsLegal, is_present, is_present_in}
-use Rattle.history.specs.Refusals.{metadata_key_at, key_of_array}
+use Rattle.history.specs.Commit.{Key, Fixed, Transaction, is_before, commit_events, HasNoConflict}
+use Rattle.history.specs.Legal.{IsLegal, is_present, is_present_in, viewed}
+use Rattle.history.specs.Refusals.{metadata_key_at, key_of_array, IsShrunkCommit}
 use Rattle.history.proofs.Conflicts.{itself}
 use Rattle.history.proofs.Longer.{IsOpenedAs, known-longer}
 use Rattle.history.proofs.Presence.{IsLegal-front}
 use Rattle.history.proofs.Valid.{local_shape}
-use Rattle.index_transform.specs.Cells.{cells_of}
+use Rattle.stack_driver.specs.Cells.{cells_of}
 use Rattle.history.specs.declared.event.Op.{Op}
 use Rattle.history.specs.declared.event.Op.TheVariants.{Write, Read}
-use Rattle.history.specs.Commit.{Fixed, Transaction, is_before, commit_events, HasNoConflict}
-use Rattle.history.specs.Legal.{viewed}
 use Rattle.history.specs.Reads.{is_put}
-use Rattle.history.specs.Refusals.{IsShrunkCommit}
 use Rattle.history.specs.Staged.{AreInShapes, IsStaged, IsTransaction}
 use Rattle.history.specs.Store.{resized_after}
 use Rattle.history.specs.Writes.{Put, put_at, puts_of, puts_of_op}

@@ -3,9 +3,9 @@ use Rattle.std.proofs.Common.{◌≡◌, ℕ, ◌+◌, List, [], ◌∷◌, ◌+
 use Rattle.std.proofs.lemmas.List.{length-map}
 use Rattle.std.specs.Prelude.{◌==◌, ◌&&◌, IsTrue, ℤ}
 use Rattle.std.specs.List.{AllByRecursion, list_all}
-use Rattle.index_intervals.specs.Bounds.{Bounds}
-use Rattle.index_transform.specs.Cells.{cells_of, is_finite}
-use Rattle.index_transform.proofs.Laws.{length-cells_of}
+use Rattle.stack_driver.specs.Bounds.{Bounds}
+use Rattle.stack_driver.specs.Cells.{cells_of, is_finite}
+use Rattle.stack_driver.proofs.Laws.{length-cells_of}
 use Rattle.stack_driver.specs.Renewed.{array_of}
 use Rattle.stack_driver.specs.Targets.{Target}
 use Rattle.stack_driver.specs.Views.{look_of, targets_of}

@@ -4,29 +4,28 @@ use Rattle.std.specs.Prelude.{fold, zip, filter_map, slice_index, unwrap_or, ◌
 use Rattle.std.specs.FinMap as finmap
 use Rattle.std.specs.Option.{ForSome}
 use Rattle.std.specs.List.{AllByRecursion}
-use Rattle.cast_driver.proofs.Laws.{IsWord-word_back}
-use Rattle.cast_driver.specs.Chain.{BeginsWith, dtype_after}
-use Rattle.cast_driver.specs.declared.cast.Cast.{Cast}
+use Rattle.stack_driver.proofs.Laws.{IsWord-word_back, every_base, every_layer, look-Leaf, look-Cast, look-Stack}
+use Rattle.stack_driver.specs.Chain.{BeginsWith, dtype_after}
+use Rattle.stack_driver.specs.declared.Cast.{Cast}
 use Rattle.cells.proofs.Laws.{IsWord-word_of_bytes, c_place-lt}
 use Rattle.cells.specs.Dense.{DenseCells, IsDense}
 use Rattle.cells.specs.Numbers.{IsWord}
 use Rattle.cells.specs.Bytes.{byte_count, word_of_bytes}
-use Rattle.n5_blocks.specs.Block as block
-use Rattle.n5_blocks.specs.Faults.{sizes_in, header_len}
+use Rattle.chunk_forms.specs.Block as block
+use Rattle.chunk_forms.specs.Faults.{sizes_in, header_len}
 use Rattle.cells.specs.Places.{c_place, f_place, IsInside}
 use Rattle.cells.specs.declared.dtype.Dtype.{Dtype}
 use Rattle.cells.specs.declared.dtype.Dtype.TheVariants.{U8}
-use Rattle.chunk_elements.proofs.Laws.{IsWord-zero}
+use Rattle.chunk_forms.proofs.Laws.{IsWord-zero}
 use Rattle.chunk_forms.specs.Metadata.{IsMetadata, dtype_of, fill_of}
 use Rattle.chunk_forms.specs.Words.{is_inside, stored_word, unless_damaged, chunk_fault, spelled_word}
 use Rattle.chunk_forms.specs.declared.form.Damage.{Damage}
 use Rattle.chunk_forms.specs.declared.form.Form.{Form}
 use Rattle.chunk_forms.specs.declared.form.Form.TheVariants as form
-use Rattle.index_transform.specs.Transforms.{DomainAndMaps}
-use Rattle.index_transform.specs.Values.{value_at}
+use Rattle.stack_driver.specs.Transforms.{DomainAndMaps}
+use Rattle.stack_driver.specs.Values.{value_at}
 use Rattle.kv_face.specs.Store.{Contents}
 use Rattle.stack_driver.proofs.Layers.{stack_node}
-use Rattle.stack_driver.proofs.Laws.{every_base, every_layer, look-Leaf, look-Cast, look-Stack}
 use Rattle.stack_driver.specs.Conditions.{HasKind, AreLayers, IsNode, IsView}
 use Rattle.stack_driver.specs.References.{Reference}
 use Rattle.stack_driver.specs.Targets.{Cell, is_cell, Target, inwards, in_shape, has_index}
@@ -63,7 +62,7 @@ use Rattle.history.specs.declared.event.Kind.TheVariants.{Opened, Done, Resized,
 use Rattle.history.proofs.Shrinks.{known_still}
 use Rattle.history.proofs.Transactions.{all_with}
 use Rattle.history.proofs.Written.{same_cells}
-use Rattle.index_transform.specs.Cells.{cells_of}
+use Rattle.stack_driver.specs.Cells.{cells_of}
 
 -- a target lies in an array, and the casts lead from that one's dtype to this one
 record IsTyped (events : History) (dtype : Dtype) (t : Target) : Type 0 where

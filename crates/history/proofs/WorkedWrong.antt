@@ -9,8 +9,8 @@ use Rattle.stack_driver.specs.declared.view.View.TheOpen.{View-F}
 use Rattle.stack_driver.specs.declared.view.View.TheVariants as view
 use Rattle.stack_driver.specs.declared.view.View.TheVariants.{Leaf}
 use Rattle.stack_driver.specs.Renewed.{renewed}
-use Rattle.index_intervals.specs.Bounds.{Bounds}
-use Rattle.index_transform.specs.Transforms.{DomainAndMaps}
+use Rattle.stack_driver.specs.Bounds.{Bounds}
+use Rattle.stack_driver.specs.Transforms.{DomainAndMaps}
 use Rattle.history.proofs.Known.{some_inj}
 use Rattle.history.specs.declared.event.Event.{Event}
 use Rattle.history.specs.declared.event.Kind.TheVariants.{Done}

@@ -1,6 +1,6 @@
 -- What a line does in a session, or the answer that its form, the names, the transaction, the view and the values give alone.
 use Rattle.std.specs.Prelude.{ℕ, List, [], ◌∷◌, length, ◌==◌, Option, Some, None, Result, Ok, Err, if◌then◌else◌}
-use Rattle.transform_composition.specs.declared.error.ComposeError.TheVariants as compose
+use Rattle.stack_driver.specs.declared.ComposeError.TheVariants as compose
 use Rattle.stack_driver.specs.References.{Reference}
 use Rattle.stack_driver.specs.Renewed.{array_of}
 use Rattle.stack_driver.specs.Views.{look_of}

@@ -1,10 +1,10 @@
 -- What a line is answered.
 use Rattle.std.specs.Prelude.{ℕ, ℤ, List, Option}
 use Rattle.cells.specs.declared.dtype.Dtype.{Dtype}
-use Rattle.index_transform.specs.declared.domain.Domain.{Domain}
-use Rattle.index_transform.specs.Transforms.{DomainAndMaps}
-use Rattle.transform_composition.specs.declared.error.ComposeError.{ComposeError}
-use Rattle.meta_forms.specs.declared.error.MetaError.{MetaError}
+use Rattle.stack_driver.specs.declared.Domain.{Domain}
+use Rattle.stack_driver.specs.Transforms.{DomainAndMaps}
+use Rattle.stack_driver.specs.declared.ComposeError.{ComposeError}
+use Rattle.chunk_forms.specs.declared.MetaError.{MetaError}
 use Rattle.chunk_forms.specs.declared.form.Damage.{Damage}
 use Rattle.history.specs.Commit.{Key}
 

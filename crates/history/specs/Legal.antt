@@ -1,7 +1,7 @@
 -- Histories in which each event may follow those before it.
 use Rattle.std.specs.Prelude.{◌≡◌, ◌≢◌, ◌≤◌, ℕ, codes, ◌+◌, ◌-◌, ◌^◌, List, [], ◌∷◌, ◌++◌, length, map, Bool, true, false, Option, Some, None, Result, Ok, Err, IsTrue, count_by}
 use Rattle.std.specs.List.{AllByRecursion, list_all}
-use Rattle.index_transform.specs.Cells.{is_finite}
+use Rattle.stack_driver.specs.Cells.{is_finite}
 use Rattle.cells.specs.Dense.{DenseCells, IsDense}
 use Rattle.cells.specs.Numbers.{IsWord}
 use Rattle.kv_face.specs.Store.{Contents}

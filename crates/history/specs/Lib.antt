@@ -41,3 +41,12 @@ pub mod Alone
 pub mod Single
 pub mod Worked
 pub mod Snapshots
+-- names of crates below, given on to those above
+pub use Rattle.stack_driver.specs.References
+pub use Rattle.chunk_forms.specs.Made
+pub use Rattle.chunk_forms.specs.Members
+pub use Rattle.chunk_forms.specs.Metadata
+pub use Rattle.chunk_forms.specs.Names
+pub use Rattle.chunk_forms.specs.Wants
+pub use Rattle.chunk_forms.specs.Words
+pub use Rattle.stack_driver.specs.Targets

@@ -3,8 +3,8 @@ use Rattle.std.specs.Prelude.{ℕ, ℤ, List, [], ◌∷◌, ◌++◌, codes, Op
 use Rattle.std.specs.Str.{bytes_eq}
 use Rattle.cells.specs.Dense.{DenseCells}
 use Rattle.cells.specs.declared.dtype.Dtype.{Dtype}
-use Rattle.index_intervals.specs.Bounds.{Bounds}
-use Rattle.transform_composition.specs.declared.error.ComposeError.{ComposeError}
+use Rattle.stack_driver.specs.Bounds.{Bounds}
+use Rattle.stack_driver.specs.declared.ComposeError.{ComposeError}
 use Rattle.stack_driver.specs.References.{Reference}
 use Rattle.stack_driver.specs.declared.view.View.{View}
 use Rattle.history.specs.declared.event.Mode.{Mode}

@@ -5,10 +5,10 @@ use Rattle.kv_face.specs.Store.{Contents}
 use Rattle.chunk_forms.specs.declared.form.Form.{Form}
 use Rattle.chunk_forms.specs.declared.form.Want.{Want}
 use Rattle.chunk_forms.specs.declared.form.Want.TheVariants as want
-use Rattle.meta_forms.specs.declared.error.MetaError.{MetaError}
-use Rattle.zarr_chunks.specs.Read as zarr
-use Rattle.n5_blocks.specs.Read as n5
-use Rattle.zarr3_chunks.specs.Read as zarr3
+use Rattle.chunk_forms.specs.declared.MetaError.{MetaError}
+use Rattle.chunk_forms.specs.ZarrRead as zarr
+use Rattle.chunk_forms.specs.N5Read as n5
+use Rattle.chunk_forms.specs.Zarr3Read as zarr3
 use Rattle.stack_driver.specs.References.{Reference}
 use Rattle.history.specs.declared.array.ArrayInfo.{ArrayInfo}
 use Rattle.history.specs.declared.array.Home.TheVariants.{Local}

@@ -5,7 +5,7 @@ use Rattle.std.specs.List.{AllByRecursion, list_all}
 use Rattle.cells.specs.Numbers.{IsWord}
 use Rattle.cells.specs.Places.{cell_count}
 use Rattle.cells.specs.declared.dtype.Dtype.{Dtype}
-use Rattle.index_transform.specs.Cells.{is_finite}
+use Rattle.stack_driver.specs.Cells.{is_finite}
 use Rattle.stack_driver.specs.Targets.{Cell, Target}
 use Rattle.stack_driver.specs.Views.{targets_of, look_of}
 use Rattle.stack_driver.specs.declared.error.TargetError.{TargetError}

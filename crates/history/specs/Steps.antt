@@ -1,7 +1,7 @@
 -- One step of a session, row by row, and a run of its lines.
 use Rattle.std.specs.Prelude.{◌≡◌, ◌≤◌, ℕ, ◌+◌, List, [], ◌∷◌, ◌++◌, length, take, drop, Bool, true, false, Option, Some, None, Ok, Err}
 use Rattle.chunk_forms.specs.declared.form.Damage.{Damage}
-use Rattle.transform_composition.specs.declared.error.ComposeError.{ComposeError}
+use Rattle.stack_driver.specs.declared.ComposeError.{ComposeError}
 use Rattle.stack_driver.specs.References.{Reference}
 use Rattle.stack_driver.specs.Renewed.{renewed}
 use Rattle.stack_driver.specs.declared.error.RenewError.TheVariants.{Refused}

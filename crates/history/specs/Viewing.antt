@@ -1,9 +1,9 @@
 -- What a view alone tells of a line on it: where it is refused before any chunk is looked at.
 use Rattle.std.specs.Prelude.{ℕ, ◌+◌, ◌*◌, ◌^◌, ◌==◌, ℤ, nat_le, List, [], ◌∷◌, map, Option, Some, None, Result, Ok, Err, if◌then◌else◌}
 use Rattle.std.specs.List.{list_any}
-use Rattle.index_intervals.specs.Bounds.{Bounds}
-use Rattle.index_intervals.specs.Members.{is_finite, size_of}
-use Rattle.index_transform.specs.Cells.{cells_of}
+use Rattle.stack_driver.specs.Bounds.{Bounds}
+use Rattle.stack_driver.specs.Members.{is_finite, size_of}
+use Rattle.stack_driver.specs.Cells.{cells_of}
 use Rattle.stack_driver.specs.Targets.{Target}
 use Rattle.stack_driver.specs.Views.{look_of, own_transform, targets_of}
 use Rattle.stack_driver.specs.declared.error.TargetError.{TargetError}

@@ -4,8 +4,8 @@ use Rattle.std.specs.Prelude.{ℕ, List, [], ◌∷◌, take, codes, pos, true, 
 use Rattle.std.specs.FinMap as finmap
 use Rattle.cells.specs.declared.dtype.Dtype.TheVariants.{I32}
 use Rattle.cells.specs.declared.order.Order.TheVariants.{C}
-use Rattle.index_transform.specs.Transforms.{DomainAndMaps}
-use Rattle.index_transform.specs.declared.map.OutMap.TheVariants.{Constant, Strided}
+use Rattle.stack_driver.specs.Transforms.{DomainAndMaps}
+use Rattle.stack_driver.specs.declared.OutMap.TheVariants.{Constant, Strided}
 use Rattle.stack_driver.specs.References.{Reference}
 use Rattle.stack_driver.specs.Targets.{Cell}
 use Rattle.stack_driver.specs.declared.view.View.{View}

@@ -5,3 +5,7 @@ pub mod Shapes
 pub mod Transforms
 pub mod Values
 pub mod Walks
+-- names of crates below, given on to those above
+pub use Rattle.index_intervals.specs.Around
+pub use Rattle.index_intervals.specs.Bounds
+pub use Rattle.index_intervals.specs.Members

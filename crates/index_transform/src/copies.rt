@@ -1,4 +1,5 @@
-ghost use Rattle.std.specs.Prelude.{◌≡◌, ◌≤◌, IfOk, length};
+ghost use Rattle.std.specs.Prelude.{◌≡◌, ◌≤◌, IfOk, IsTrue, length};
+ghost use Rattle.index_intervals.specs.Bounds.{is_ordered};
 ghost use Rattle.index_transform.specs.Identity.{identity_maps};
 
 use crate::domain::{Domain, look_at_all};
@@ -85,4 +86,16 @@ pub fn copied_maps(alloc: Global, maps: &[OutMap]) -> Result<Vec<OutMap>, AllocE
         copies.push(copied_map(alloc, map)?)?;
     }
     Ok(copies)
+}
+
+/// An interval equal to another.
+pub fn copied_interval(dim: &Interval) -> Interval
+    ensures value { result ≡ dim.now }
+    ensures ordered { IsTrue (is_ordered dim.now) }
+{
+    Interval {
+        lo: dim.lo,
+        hi: dim.hi,
+        ..*dim
+    }
 }

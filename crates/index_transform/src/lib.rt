@@ -16,9 +16,10 @@ mod transform;
 mod value;
 mod walk;
 
-pub use copies::{copied_map, copied_maps};
+pub use copies::{copied_interval, copied_map, copied_maps};
 pub use domain::{Domain, are_labels, copied_names, look_at_all};
 pub use error::{AtError, CountError, TransformError};
+pub use index_intervals::{Interval, around_all, is_index};
 pub use map::{OutMap, fits, size_of};
 pub use transform::Transform;
 pub use value::{is_effective, scaled};

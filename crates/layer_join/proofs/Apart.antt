@@ -5,7 +5,7 @@ use Rattle.std.proofs.lemmas.List.{get_or-set_same}
 use Rattle.std.specs.List.{AllByRecursion, zip}
 use Rattle.cells.proofs.Laws.{both}
 use Rattle.index_intervals.specs.Bounds.{Bounds, AreBounds, is_index}
-use Rattle.transform_composition.specs.Reading.{point}
+use Rattle.stack_driver.specs.Reading.{point}
 use Rattle.stack_driver.specs.Targets.{is_member, has_index}
 use Rattle.stack_driver.specs.Views.{Look, look_of}
 use Rattle.stack_driver.specs.declared.view.View.{View}

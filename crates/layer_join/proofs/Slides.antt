@@ -11,7 +11,7 @@ use Rattle.index_transform.specs.Maps.{is_fixed, fits_dim, fits, are_entries, is
 use Rattle.index_transform.specs.Transforms.{DomainAndMaps, IsTransform}
 use Rattle.index_transform.specs.declared.map.OutMap.{OutMap}
 use Rattle.index_transform.specs.declared.map.OutMap.TheVariants.{Constant, Strided, Indexed}
-use Rattle.transform_composition.specs.Reading.{point}
+use Rattle.stack_driver.specs.Reading.{point}
 use Rattle.layer_join.specs.Slid.{slid, slid_dims, slid_offset, slid_map, slid_transform}
 use Rattle.layer_join.proofs.Lists.{list_all-set}
 

@@ -4,7 +4,7 @@ use Rattle.index_intervals.specs.Bounds.{Bounds}
 use Rattle.index_transform.specs.Transforms.{DomainAndMaps}
 use Rattle.index_transform.specs.declared.map.OutMap.{OutMap}
 use Rattle.index_transform.specs.declared.map.OutMap.TheVariants.{Constant, Strided, Indexed}
-use Rattle.transform_composition.specs.Reading.{point}
+use Rattle.stack_driver.specs.Reading.{point}
 use Rattle.stack_driver.specs.Changes.{under}
 use Rattle.stack_driver.specs.Views.{Look, look_of, own_transform}
 use Rattle.stack_driver.specs.declared.view.View.{View}

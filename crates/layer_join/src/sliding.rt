@@ -3,7 +3,7 @@ ghost use Rattle.std.specs.Prelude.{◌≡◌, ◌<◌, ◌≤ℤ◌, ◌+ℤ◌
 ghost use Rattle.std.specs.List.{AllByRecursion, list_all};
 ghost use Rattle.index_intervals.specs.Bounds.{IsIndex};
 ghost use Rattle.index_transform.specs.declared.map.OutMap.TheVariants.{Strided};
-ghost use Rattle.transform_composition.specs.Reading.{point};
+ghost use Rattle.stack_driver.specs.Reading.{point};
 ghost use Rattle.stack_driver.specs.Views.{look_of};
 ghost use Rattle.layer_join.specs.Slid.{slid, slid_dims, slid_offset, slid_map, slid_transform, slid_view, along, shift_to, behind, start_of};
 ghost use Rattle.layer_join.specs.Refusals.{can_slide_map, can_slide, first_stuck};

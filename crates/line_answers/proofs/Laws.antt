@@ -6,8 +6,8 @@ use Rattle.line_answers.specs.Bodies.{body_of}
 use Rattle.line_answers.specs.Refusals.{refusal_body, form_error, spec_form, spec_body, steps_form, steps_body}
 use Rattle.line_parts.specs.declared.error.LineError.{LineError}
 use Rattle.line_parts.specs.declared.error.LineError.TheVariants as line
-use Rattle.spec_forms.specs.declared.error.SpecError.{SpecError}
-use Rattle.spec_forms.specs.declared.error.SpecError.TheVariants as spec
+use Rattle.line_parts.specs.declared.SpecError.{SpecError}
+use Rattle.line_parts.specs.declared.SpecError.TheVariants as spec
 use Rattle.step_forms.specs.declared.error.StepsError.{StepsError}
 use Rattle.step_forms.specs.declared.error.StepsError.TheVariants as steps
 

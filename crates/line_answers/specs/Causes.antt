@@ -8,16 +8,16 @@ use Rattle.chunk_forms.specs.declared.form.Damage.{Damage}
 use Rattle.chunk_forms.specs.declared.form.Damage.TheVariants as damage
 use Rattle.dim_changes.specs.declared.cause.Cause.{Cause}
 use Rattle.dim_changes.specs.declared.cause.Cause.TheVariants as step
-use Rattle.layer_join.specs.declared.error.JoinError.{JoinError}
-use Rattle.layer_join.specs.declared.error.JoinError.TheVariants as join
+use Rattle.answer_text.specs.declared.JoinError.{JoinError}
+use Rattle.answer_text.specs.declared.JoinError.TheVariants as join
 use Rattle.history.specs.Answers.{StepCause, count, rank, target, label, zero_step, unbounded_step, bad_order, out_of_bounds, index_dim, step_overflow, too_large}
 use Rattle.history.specs.Answers as old
 use Rattle.meta_forms.specs.declared.error.MetaError.{MetaError}
 use Rattle.meta_forms.specs.declared.error.MetaError.TheVariants as meta
 use Rattle.n5_blocks.specs.declared.chunk.BlockError.{BlockError}
 use Rattle.n5_blocks.specs.declared.chunk.BlockError.TheVariants as block
-use Rattle.spec_open.specs.declared.error.BuildCause.{BuildCause}
-use Rattle.spec_open.specs.declared.error.BuildCause.TheVariants as build
+use Rattle.answer_text.specs.declared.BuildCause.{BuildCause}
+use Rattle.answer_text.specs.declared.BuildCause.TheVariants as build
 use Rattle.chunk_elements.specs.declared.error.ChunkError.{ChunkError}
 use Rattle.chunk_elements.specs.declared.error.ChunkError.TheVariants as chunk
 

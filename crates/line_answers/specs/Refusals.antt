@@ -5,8 +5,8 @@ use Rattle.answer_text.specs.declared.answer.Body.TheVariants as body
 use Rattle.history.specs.Lines.{FormError, bad_line, bad_spec, unsupported, bad_step}
 use Rattle.line_parts.specs.declared.error.LineError.{LineError}
 use Rattle.line_parts.specs.declared.error.LineError.TheVariants as line
-use Rattle.spec_forms.specs.declared.error.SpecError.{SpecError}
-use Rattle.spec_forms.specs.declared.error.SpecError.TheVariants as spec
+use Rattle.line_parts.specs.declared.SpecError.{SpecError}
+use Rattle.line_parts.specs.declared.SpecError.TheVariants as spec
 use Rattle.step_forms.specs.declared.error.StepsError.{StepsError}
 use Rattle.step_forms.specs.declared.error.StepsError.TheVariants as steps
 

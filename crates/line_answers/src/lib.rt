@@ -7,5 +7,6 @@
 mod causes;
 mod refusing;
 
+pub use answer_text::{Answer, Body};
 pub use causes::{bad_metadata, damaged};
 pub use refusing::refusal;

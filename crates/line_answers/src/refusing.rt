@@ -4,8 +4,7 @@ ghost use Rattle.line_answers.specs.Refusals.{member_text, spec_body, steps_body
 
 use answer_text::Body;
 use cells::Name;
-use line_parts::LineError;
-use spec_forms::SpecError;
+use line_parts::{LineError, SpecError};
 use std::alloc::{AllocError, Global};
 use step_forms::StepsError;
 

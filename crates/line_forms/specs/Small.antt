@@ -7,7 +7,7 @@ use Rattle.json_forms.specs.Lists.{u64_list}
 use Rattle.json_forms.specs.Members.{least_unknown}
 use Rattle.spec_open.specs.Specs.{plan_of_spec}
 use Rattle.spec_open.specs.declared.plan.OpenPlan.{OpenPlan}
-use Rattle.spec_forms.specs.declared.error.SpecError.{SpecError}
+use Rattle.spec_open.specs.declared.SpecError.{SpecError}
 use Rattle.line_forms.specs.Form.{Form, opening, beginning, resizing, resolving}
 use Rattle.line_parts.specs.Parts.{◌>>=◌, has, earlier, unless_so, missing, no_name, name_in, needed, where_sound}
 use Rattle.line_parts.specs.Within.{within}

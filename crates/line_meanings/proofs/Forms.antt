@@ -18,9 +18,9 @@ use Rattle.line_forms.specs.Lines.{command_of_line, command_of_found, command_in
 use Rattle.line_forms.specs.Reads.{read_form, read_fault, read_so, read_as, down_at, write_form, write_fault, written, written_as, written_by}
 use Rattle.line_forms.specs.Small.{open_form, open_fault, opened, opened_as, plan_in, plan_read, begin_form, flags_given, word_form, not_true, resize_form, resize_fault, resized, resized_as, shape_at, resolve_form, resolved}
 use Rattle.line_forms.specs.Views.{view_form, of_form, view_fault, viewed, viewed_as, viewed_of, joined, join_in, join_as, join_by, join_of, overlay_form, concat_form, stack_form}
-use Rattle.line_parts.specs.Parts.{◌>>=◌, has, needed, name_in, steps_in, earlier, no_name}
-use Rattle.line_parts.specs.Within.{transform_in}
-use Rattle.line_parts.specs.declared.error.LineError.{LineError}
+use Rattle.line_forms.specs.Parts.{◌>>=◌, has, needed, name_in, steps_in, earlier, no_name}
+use Rattle.line_forms.specs.Within.{transform_in}
+use Rattle.line_forms.specs.declared.LineError.{LineError}
 use Rattle.line_answers.specs.Refusals.{form_error}
 use Rattle.line_meanings.specs.Meanings.{line_of, line_in, line_of_bytes, refused_by}
 use Rattle.line_meanings.proofs.Sound.{line_on, line_within}

@@ -1,9 +1,9 @@
 -- What holds of each form that the bytes of a line may have.
 use Rattle.std.proofs.Common.{◌≡◌, ℕ, Bool, true, false, cond, List, Option, Some, None, Result, Ok, Err, refl, subst}
 use Rattle.line_forms.specs.Form.{Form}
-use Rattle.line_parts.specs.Parts.{◌>>=◌, where_sound}
-use Rattle.line_parts.specs.Within.{within}
-use Rattle.line_parts.specs.declared.error.LineError.{LineError}
+use Rattle.line_forms.specs.Parts.{◌>>=◌, where_sound}
+use Rattle.line_forms.specs.Within.{within}
+use Rattle.line_forms.specs.declared.LineError.{LineError}
 
 module _ (P : Form → Type 0) where
   -- where there is a form, it keeps P

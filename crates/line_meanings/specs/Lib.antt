@@ -4,3 +4,5 @@ pub mod Joins
 pub mod Numbers
 pub mod Meanings
 pub mod Conditions
+-- names of crates below, given on to those above
+pub use Rattle.line_forms.specs.Form

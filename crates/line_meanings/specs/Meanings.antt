@@ -5,7 +5,7 @@ use Rattle.history.specs.Lines as history
 use Rattle.line_answers.specs.Refusals.{form_error}
 use Rattle.line_forms.specs.Form.{Form, opening, viewing, joining, reading, writing, beginning, committing, aborting, resizing, resolving}
 use Rattle.line_forms.specs.Lines.{command_of_line}
-use Rattle.line_parts.specs.declared.error.LineError.{LineError}
+use Rattle.line_forms.specs.declared.LineError.{LineError}
 use Rattle.line_meanings.specs.Changes.{changes_of}
 use Rattle.line_meanings.specs.Openings.{leaves_of, build_of}
 use Rattle.line_meanings.specs.Joins.{join_of}

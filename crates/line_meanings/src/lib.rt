@@ -3,3 +3,5 @@
 //! A session above does what a command asks. It rests on one definition: `line_of` is the command in the history's words, of which
 //! `act_of` and the rows of a session's step speak.
 #![tactic(auto)]
+
+pub use line_forms::{DownWant, JoinForm};

@@ -12,6 +12,7 @@ mod sizes;
 
 pub use error::{Fault, MetaError};
 pub use faults::{fault_of, named};
+pub use json_forms::{ParseError, compact, list_from_u64s, list_items, parse};
 pub use judged::{judged_format, judged_len, judged_word};
 pub use members::{is_null_at, is_object_at, is_there, list_len_at, text_in, whole_at};
 pub use sizes::{checked_chunks, checked_shape, sizes_at};

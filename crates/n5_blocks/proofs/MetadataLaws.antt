@@ -5,8 +5,8 @@ use Rattle.serde_json.specs.Read.{max_depth}
 use Rattle.serde_json.specs.View.{items_of}
 use Rattle.serde_json.specs.Written.{has_float}
 use Rattle.serde_json.proofs.OnLiterals.{serde_json_on_literals}
-use Rattle.json_forms.specs.Numbers.{natural}
-use Rattle.json_forms.proofs.Laws.{has_float-naturals}
+use Rattle.meta_forms.specs.Numbers.{natural}
+use Rattle.meta_forms.proofs.Laws.{has_float-naturals}
 use Rattle.n5_blocks.specs.Metadata.{Metadata}
 use Rattle.n5_blocks.specs.Written.{raw, metadata_data}
 use Rattle.n5_blocks.specs.Described.{Describes}

@@ -11,7 +11,7 @@ use Rattle.cells.specs.DtypeNames.{dtype_name, dtype_named}
 use Rattle.cells.specs.Shapes.{IsShape}
 use Rattle.cells.specs.declared.dtype.Dtype.{Dtype}
 use Rattle.cells.proofs.Laws.{dtype_named-dtype_name, dtype_name-dtype_named, ok_from_then, ok_from_else, then_from, else_from}
-use Rattle.json_forms.specs.Bytes.{data_of}
+use Rattle.meta_forms.specs.Bytes.{data_of}
 use Rattle.meta_forms.specs.Faults.{named}
 use Rattle.meta_forms.specs.Judged.{text_in, sizes_at, judged_shape, judged_chunks}
 use Rattle.meta_forms.specs.declared.error.MetaError.TheVariants.{NotJson}

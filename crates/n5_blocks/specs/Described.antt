@@ -3,9 +3,9 @@ use Rattle.std.specs.Prelude.{◌≡◌, ℕ, List, map, codes, Some}
 use Rattle.cells.specs.DtypeNames.{dtype_name}
 use Rattle.serde_json.specs.Data.{Data, string}
 use Rattle.serde_json.specs.Find.{get}
-use Rattle.json_forms.specs.Bytes.{data_of}
-use Rattle.json_forms.specs.Numbers.{natural}
-use Rattle.json_forms.specs.Lists.{list_of}
+use Rattle.meta_forms.specs.Bytes.{data_of}
+use Rattle.meta_forms.specs.Numbers.{natural}
+use Rattle.meta_forms.specs.Lists.{list_of}
 use Rattle.n5_blocks.specs.Metadata.{Metadata, IsMetadata}
 
 -- the data describes the array, whatever further members it and its compression have

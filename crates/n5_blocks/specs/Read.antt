@@ -5,7 +5,7 @@ use Rattle.serde_json.specs.Data.{Data}
 use Rattle.serde_json.specs.Find.{get, as_object}
 use Rattle.cells.specs.DtypeNames.{dtype_named}
 use Rattle.cells.specs.declared.dtype.Dtype.{Dtype}
-use Rattle.json_forms.specs.Bytes.{data_of}
+use Rattle.meta_forms.specs.Bytes.{data_of}
 use Rattle.meta_forms.specs.Faults.{named, ◌>>=◌}
 use Rattle.meta_forms.specs.Judged.{text_in, sizes_at, judged_shape, judged_chunks}
 use Rattle.meta_forms.specs.declared.error.MetaError.{MetaError}

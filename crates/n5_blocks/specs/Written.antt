@@ -2,9 +2,9 @@
 use Rattle.std.specs.Prelude.{[], ◌∷◌, map, codes}
 use Rattle.cells.specs.DtypeNames.{dtype_name}
 use Rattle.serde_json.specs.Data.{Data, string}
-use Rattle.json_forms.specs.Numbers.{natural}
-use Rattle.json_forms.specs.Lists.{list_of}
-use Rattle.json_forms.specs.Members.{object_of}
+use Rattle.meta_forms.specs.Numbers.{natural}
+use Rattle.meta_forms.specs.Lists.{list_of}
+use Rattle.meta_forms.specs.Members.{object_of}
 use Rattle.n5_blocks.specs.Metadata.{Metadata}
 
 -- no compression

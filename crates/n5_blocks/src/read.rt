@@ -11,8 +11,9 @@ ghost use Rattle.n5_blocks.specs.Read.{judged_dimensions, judged_dtype, judged_c
 use crate::members::{judged_compression, judged_dtype};
 use crate::metadata::N5Meta;
 use cells::Sizes;
-use json_forms::{ParseError, parse};
-use meta_forms::{Fault, MetaError, checked_chunks, checked_shape, fault_of, named, sizes_at};
+use meta_forms::{
+    Fault, MetaError, ParseError, checked_chunks, checked_shape, fault_of, named, parse, sizes_at,
+};
 use serde_json::Value;
 use std::alloc::Global;
 

@@ -7,7 +7,7 @@ ghost use Rattle.n5_blocks.specs.Read.{metadata_of};
 ghost use Rattle.n5_blocks.specs.Written.{raw, metadata_data};
 
 use crate::metadata::N5Meta;
-use json_forms::{compact, list_from_u64s};
+use meta_forms::{compact, list_from_u64s};
 use serde_json::{Map, Value, put};
 use std::alloc::{AllocError, Global};
 

@@ -4,7 +4,7 @@ use Rattle.std.specs.List.{slice_get, list_any}
 use Rattle.kv_face.specs.Store.{Contents}
 use Rattle.kv_mounts.specs.Parts.{Part, names_of}
 use Rattle.kv_mounts.specs.Union.{faults_of}
-use Rattle.line_answers.specs.Bodies.{answer_of}
+use Rattle.session_workers.specs.Bodies.{answer_of}
 use Rattle.made_scripts.specs.Scripts.{made}
 use Rattle.session_workers.specs.Finished.{IsRun, IsWhole}
 use Rattle.session_workers.specs.MountRuns.{IsEmptyMount, IsSingleRun}

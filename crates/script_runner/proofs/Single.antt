@@ -7,7 +7,7 @@ use Rattle.answer_text.specs.declared.answer.Answer.{Answer}
 use Rattle.history.specs.Answers as old
 use Rattle.history.specs.Lines.{Line}
 use Rattle.history.specs.Steps.{is_memory}
-use Rattle.line_answers.specs.Bodies.{body_of, answer_of}
+use Rattle.session_workers.specs.Bodies.{body_of, answer_of}
 use Rattle.session_workers.specs.Finished.{IsWhole, ends_in_want, asked_by, numbers_from}
 use Rattle.script_streams.specs.Standing as standing
 use Rattle.script_streams.specs.Standing.{holds_memory, is_memory_body}

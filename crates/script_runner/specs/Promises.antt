@@ -6,7 +6,7 @@ use Rattle.history.specs.Single.{single_session}
 use Rattle.kv_face.specs.Store.{Contents}
 use Rattle.kv_mounts.specs.Parts.{Part, names_of}
 use Rattle.kv_mounts.specs.Union.{faults_of}
-use Rattle.line_answers.specs.Bodies.{answer_of}
+use Rattle.session_workers.specs.Bodies.{answer_of}
 use Rattle.made_scripts.specs.Summary.{summary_text}
 use Rattle.session_workers.specs.Finished.{IsRun, AreWhole, asked_by}
 use Rattle.session_workers.specs.MountRuns.{IsSerialRun}

@@ -5,3 +5,4 @@ pub mod RefusalLaws
 pub mod LeafLaws
 pub mod LineLaws
 pub mod LoopLaws
+pub mod Laws

@@ -2,9 +2,9 @@
 use Rattle.std.proofs.Common.{◌≡◌, ◌∙◌, ℕ, ◌+◌, suc, Bool, List, [], ◌∷◌, length, ◌⊎◌, inl, inr, Option, Some, None, Result, Ok, Err, refl, sym, ap, subst, arith, is_some}
 use Rattle.std.specs.Prelude.{false}
 use Rattle.std.specs.List.{AllByRecursion}
-use Rattle.answer_text.specs.Status.{is_ok_body}
-use Rattle.answer_text.specs.declared.answer.Body as printed
-use Rattle.answer_text.specs.declared.answer.Body.TheVariants as body
+use Rattle.session_turns.specs.Status.{is_ok_body}
+use Rattle.session_turns.specs.declared.Body as printed
+use Rattle.session_turns.specs.declared.Body.TheVariants as body
 use Rattle.history.specs.declared.event.Event.{Event}
 use Rattle.history.specs.Acts.{Asked, opens, act_of}
 use Rattle.history.specs.Answers as old
@@ -18,8 +18,8 @@ use Rattle.history.specs.Sessions.{Names, bind}
 use Rattle.history.specs.Steps.{IsRow, IsAnswered, done_line, open_done, open_unbuilt, open_wanting}
 use Rattle.history.specs.Viewing.{opened_body}
 use Rattle.kv_face.specs.Store.{Contents}
-use Rattle.line_answers.specs.Bodies.{body_of}
-use Rattle.line_answers.specs.Causes.{build_cause}
+use Rattle.session_turns.specs.Bodies.{body_of}
+use Rattle.session_turns.specs.Causes.{build_cause}
 use Rattle.line_meanings.specs.Openings.{leaf_of, node_of, leaves_from, leaves_of, build_cause_of, by_built, build_of}
 use Rattle.line_meanings.proofs.Laws.{build_within}
 use Rattle.session_openings.specs.Events.{IsArrayOpened, TellsOpenings, failure_in, AreTold}
@@ -44,9 +44,9 @@ use Rattle.stack_driver.specs.Conditions.{IsView}
 use Rattle.stack_driver.specs.References.{Reference}
 use Rattle.stack_driver.specs.Views.{look_of, own_transform}
 use Rattle.stack_driver.specs.declared.view.View.{View}
-use Rattle.state_laws.specs.Agreement.{Opening}
-use Rattle.state_resizes.specs.Answers.{fixed_by}
-use Rattle.transactions.specs.Txn.{TxnSeen}
+use Rattle.session_turns.specs.Agreement.{Opening}
+use Rattle.session_turns.specs.Answers.{fixed_by}
+use Rattle.session_turns.specs.Txn.{TxnSeen}
 use Rattle.turn_book.specs.Passes.{BookView, PassView}
 
 same_cause : (cause : build_causes.BuildCause) → build_cause (build_cause_of cause) ≡ cause

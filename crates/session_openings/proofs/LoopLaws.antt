@@ -2,7 +2,7 @@
 use Rattle.std.proofs.Common.{◌≡◌, ◌∙◌, ◌+◌, ℕ, suc, List, [], ◌∷◌, length, Option, sym, ap, subst, arith}
 use Rattle.std.specs.Prelude.{unwrap_or}
 use Rattle.std.specs.List.{AllByRecursion}
-use Rattle.answer_text.specs.declared.answer.Body.{Body}
+use Rattle.session_turns.specs.declared.Body.{Body}
 use Rattle.history.specs.declared.event.Event.{Event}
 use Rattle.history.specs.Answers.{Text}
 use Rattle.history.specs.Lines as history
@@ -15,7 +15,7 @@ use Rattle.session_turns.specs.Turns.{IsRested}
 use Rattle.spec_forms.specs.declared.leaf.SpecLeaf.{SpecLeaf}
 use Rattle.spec_open.specs.declared.tree.Tree.{Tree}
 use Rattle.stack_driver.specs.References.{Reference}
-use Rattle.state_laws.specs.Agreement.{Opening}
+use Rattle.session_turns.specs.Agreement.{Opening}
 use Rattle.turn_book.specs.Passes.{BookView, PassView}
 
 module _ (book : BookView Opening) (first : PassView Event Opening) (tree : Tree) (all : List SpecLeaf) where

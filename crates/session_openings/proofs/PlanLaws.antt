@@ -16,7 +16,7 @@ use Rattle.spec_open.specs.declared.plan.OpenPlan.{OpenPlan}
 use Rattle.spec_open.specs.declared.tree.Tree.{Tree}
 use Rattle.spec_open.proofs.Laws.{among-keeps}
 use Rattle.stack_driver.specs.References.{Reference}
-use Rattle.state_laws.specs.Agreement.{TakesMount}
+use Rattle.session_turns.specs.Agreement.{TakesMount}
 
 module _ (names : Option (List (List ℕ))) (mounts : List Text) (valid : AllByRecursion IsMount mounts) (taken : AllByRecursion (TakesMount names) mounts) where
   asked_one : (node : Text) (leaf : SpecLeaf) → IsSoundLeaf mounts leaf → MayBeAsked names (leaf_of node leaf)

@@ -1,7 +1,7 @@
 -- What a session answers to a line that takes a view's bounds anew.
 use Rattle.std.specs.Prelude.{◌≡◌, ◌⊎◌, ℕ, List, Ok, Err}
-use Rattle.answer_text.specs.declared.answer.Body.{Body}
-use Rattle.answer_text.specs.declared.answer.Body.TheVariants.{Resolved, RefusedView, Memory}
+use Rattle.session_turns.specs.declared.Body.{Body}
+use Rattle.session_turns.specs.declared.Body.TheVariants.{Resolved, RefusedView, Memory}
 use Rattle.history.specs.Answers.{Text}
 use Rattle.history.specs.Sessions.{Names}
 use Rattle.session_turns.specs.Told.{IsBoundAs}

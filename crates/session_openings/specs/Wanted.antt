@@ -13,7 +13,7 @@ use Rattle.session_openings.specs.declared.leaves.Wanted.TheVariants.{Stored, Gi
 use Rattle.session_turns.specs.Asked.{asked_leaf}
 use Rattle.spec_open.specs.Conditions.{IsSoundPlan}
 use Rattle.spec_open.specs.declared.plan.OpenPlan.{OpenPlan}
-use Rattle.state_laws.specs.Agreement.{TakesMount}
+use Rattle.session_turns.specs.Agreement.{TakesMount}
 
 -- it as a leaf of the node at a path
 abbrev pub wanted_leaf : Text → Wanted → SpecLeaf

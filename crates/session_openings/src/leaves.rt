@@ -1,26 +1,23 @@
 // The leaves of a Spec, as they are asked of the state.
 ghost use Rattle.std.specs.Prelude.{◌≡◌, ◌⊎◌, [], IfOk, Some, unwrap_or};
-ghost use Rattle.answer_text.specs.declared.answer.Body.TheVariants as body;
+ghost use Rattle.session_turns.specs.declared.Body.TheVariants as body;
 ghost use Rattle.chunk_forms.specs.Members.{member_name};
 ghost use Rattle.history.specs.Answers.{Text};
 ghost use Rattle.history.specs.Leaves.{location_of_leaf};
 ghost use Rattle.history.specs.Lines.{member_of_node};
-ghost use Rattle.line_answers.specs.Bodies.{body_of};
+ghost use Rattle.session_turns.specs.Bodies.{body_of};
 ghost use Rattle.line_meanings.specs.Openings.{leaf_of, node_of};
 ghost use Rattle.session_openings.specs.Wanted.{wanted_leaf, cause_in};
 ghost use Rattle.session_turns.specs.Asked.{asked_leaf};
 ghost use Rattle.session_turns.specs.Opening.{open_answer, IsUnseen};
 
 use crate::nodes::member_path;
-use answer_text::Body;
 use array_homes::MetaCause;
 use cells::{Dense, List, Name};
 use chunk_forms::{Member, Want};
-use line_answers::bad_metadata;
 use meta_forms::MetaError;
-use session_turns::Asked;
+use session_turns::{Asked, Body, OpenError, bad_metadata};
 use spec_open::{SpecLeaf, Tree};
-use state_laws::OpenError;
 use std::alloc::{AllocError, Global};
 
 /// What a leaf asks for: an array of a store, or one with numbers of its own.

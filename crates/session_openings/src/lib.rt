@@ -12,3 +12,7 @@ mod resolving;
 
 pub use opening::open;
 pub use resolving::resolve;
+pub use session_turns::{
+    Answer, Asked, Body, CommitError, CommitRefused, Gate, Kept, Names, ReadError, State, Txn,
+    WriteError, open_given_in_turn, open_in_turn, refusal, resize_in_turn,
+};

@@ -1,13 +1,13 @@
 // Opening what a Spec asks for, leaf by leaf, each in a turn of its own.
 ghost use Rattle.std.specs.Prelude.{◌≡◌, ◌≤◌, ◌^◌, ◌++◌, ◌⊎◌, ℕ, [], ◌∷◌, IfOk, IfErr, length, map, max, option_to_list, unwrap_or};
 ghost use Rattle.std.specs.List.{AllByRecursion};
-ghost use Rattle.answer_text.specs.declared.answer.Body.TheVariants as body;
+ghost use Rattle.session_turns.specs.declared.Body.TheVariants as body;
 ghost use Rattle.cells.specs.Places.{cell_count};
 ghost use Rattle.history.specs.Bound.{AreKnownNames};
 ghost use Rattle.history.specs.Legal.{IsMount};
 ghost use Rattle.history.specs.Lines.{opening, given, stored};
 ghost use Rattle.indexmap.specs.IndexMap.{get_by_text};
-ghost use Rattle.line_answers.specs.Bodies.{body_of};
+ghost use Rattle.session_turns.specs.Bodies.{body_of};
 ghost use Rattle.line_meanings.specs.Openings.{leaf_of, node_of, leaves_from, leaves_of, build_of};
 ghost use Rattle.session_openings.specs.Events.{AreTold};
 ghost use Rattle.session_openings.specs.Opened.{IsBoundOrNot, IsBuiltBy, IsLineOpened};
@@ -20,21 +20,19 @@ ghost use Rattle.session_turns.specs.Standing.{session_state, transaction_in, Ar
 ghost use Rattle.session_turns.specs.Told.{IsToldBy};
 ghost use Rattle.spec_open.specs.Built.{built};
 ghost use Rattle.spec_open.specs.Conditions.{IsTree};
-ghost use Rattle.state_laws.specs.Agreement.{TakesMount};
+ghost use Rattle.session_turns.specs.Agreement.{TakesMount};
 
 use crate::building::built;
 use crate::leaves::{Wanted, leaf_wanted, unopened};
-use answer_text::Body;
 use cells::Dense;
 use kv_face::KvStore;
-use session_turns::{Asked, Names, open_given_in_turn, open_in_turn};
-use shared_state::State;
+use session_turns::{
+    Asked, Body, Names, OpenError, Opened, State, Txn, open_given_in_turn, open_in_turn,
+};
 use spec_open::{OpenPlan, SpecLeaf, Tree};
 use stack_driver::ArrayRef;
-use state_laws::{OpenError, Opened};
 use std::alloc::{AllocError, Global};
 use std::sync::Wait;
-use transactions::Txn;
 use turn_book::{Pass, TurnBook};
 
 /// The arrays of the leaves that were opened, and the numbers of the events that were added.

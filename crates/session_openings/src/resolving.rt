@@ -1,6 +1,6 @@
 // Views with bounds taken anew.
 ghost use Rattle.std.specs.Prelude.{◌≡◌, ◌≢◌, ℕ, List, [], Ok, Err, Some, None, IfOk, IfErr, IsTrue, IsFalse, length};
-ghost use Rattle.answer_text.specs.declared.answer.Body.TheVariants.{Resolved};
+ghost use Rattle.session_turns.specs.declared.Body.TheVariants.{Resolved};
 ghost use Rattle.history.specs.Acts.{resolves, act_of};
 ghost use Rattle.history.specs.Answers.{Text};
 ghost use Rattle.history.specs.Bound.{AreKnownNames};
@@ -21,15 +21,12 @@ ghost use Rattle.stack_driver.specs.Views.{look_of, own_transform};
 ghost use Rattle.stack_driver.specs.declared.error.RenewError.TheVariants as renew_error;
 ghost use Rattle.stack_driver.specs.declared.view.View.{View as ViewOf};
 
-use answer_text::Body;
 use cells::Name;
 use kv_face::KvStore;
-use session_turns::{Names, bound_with, bounds_in_turn, named};
-use shared_state::State;
+use session_turns::{Body, Names, State, Txn, bound_with, bounds_in_turn, named};
 use stack_driver::{RenewError, View, array_of, dtype, renew, transform_of};
 use std::alloc::{AllocError, Global};
 use std::sync::Wait;
-use transactions::Txn;
 use turn_book::{Pass, TurnBook};
 
 /// Binds a name to its view with the bounds that the view's array has now, which one turn tells.

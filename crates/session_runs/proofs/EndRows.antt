@@ -1,6 +1,6 @@
 -- Where want of memory is printed, want of memory may be answered.
 use Rattle.std.proofs.Common.{◌≡◌, ℕ, List, [], length, Option, None, Ok, subst}
-use Rattle.answer_text.specs.declared.answer.Body.TheVariants.{Memory}
+use Rattle.session_openings.specs.declared.Body.TheVariants.{Memory}
 use Rattle.history.specs.Acts.{Act, Asked, writes, commits}
 use Rattle.history.specs.Answers as old
 use Rattle.history.specs.Answers.{Body}
@@ -9,7 +9,7 @@ use Rattle.history.specs.History.{History}
 use Rattle.history.specs.Own.{Numbered}
 use Rattle.history.specs.Sessions.{Names, SessionState}
 use Rattle.history.specs.Steps.{IsRow, open_done, open_refused, open_unbuilt, open_failed, open_wanting, view_done, read_done, read_shrunk, read_damaged, read_failed, write_staged, write_done, begin_done, commit_done, abort_done, resize_done, resize_many, resize_split, resize_damaged, resize_failed, resolve_done, resolve_refused, IsAnswered, refused_line, wanting, done_line, write_alone, as_written}
-use Rattle.line_answers.specs.Bodies.{body_of}
+use Rattle.session_openings.specs.Bodies.{body_of}
 use Rattle.sessions.proofs.Laws.{commit_ends, write_ends}
 
 -- want of memory is answered, with these events

@@ -2,8 +2,8 @@
 use Rattle.std.proofs.Common.{◌≡◌, ◌∙◌, ℕ, List, length, inl, inr, Option, Some, None, Result, Ok, Err, refl, sym, ap, subst}
 use Rattle.std.specs.Prelude.{◌≢◌, ◌⊎◌}
 use Rattle.std.specs.FinMap as finmap
-use Rattle.answer_text.specs.declared.answer.Body.{Body}
-use Rattle.answer_text.specs.declared.answer.Body.TheVariants as printed
+use Rattle.session_openings.specs.declared.Body.{Body}
+use Rattle.session_openings.specs.declared.Body.TheVariants as printed
 use Rattle.history.specs.declared.event.Event.{Event}
 use Rattle.history.specs.Acts.{act_of, form_body}
 use Rattle.history.specs.Bound.{AreKnownNames}
@@ -12,25 +12,24 @@ use Rattle.history.specs.Legal.{IsLegal}
 use Rattle.history.specs.Lines.{FormError, Line, committing}
 use Rattle.history.specs.Lines as history
 use Rattle.history.specs.Sessions.{Names}
-use Rattle.line_answers.specs.Bodies.{body_of}
-use Rattle.line_answers.specs.Refusals.{refusal_body, form_error}
-use Rattle.line_answers.proofs.Laws.{refusal_told}
-use Rattle.line_meanings.specs.Meanings.{refused_by}
+use Rattle.session_openings.specs.Bodies.{body_of}
+use Rattle.session_openings.specs.Refusals.{refusal_body, form_error}
+use Rattle.session_openings.proofs.Laws.{refusal_told, passed_alone, names_then, told_alone, told_without, refusal}
+use Rattle.session_openings.specs.Meanings.{refused_by}
 use Rattle.line_parts.specs.declared.error.LineError.{LineError}
 use Rattle.line_parts.specs.declared.error.LineError.TheVariants as line
 use Rattle.session_runs.specs.Session.{MayGoOn, IsLineTold}
-use Rattle.session_turns.specs.Turns.{IsRested, HasPassed}
-use Rattle.session_turns.proofs.Laws.{passed_alone, names_then, told_alone, told_without, refusal}
+use Rattle.session_openings.specs.Turns.{IsRested, HasPassed}
 use Rattle.sessions.specs.Commits.{HasSoundTxn, IsCommitTold}
 use Rattle.sessions.specs.Reads.{IsReadTold}
-use Rattle.session_turns.specs.Standing.{session_state, transaction_in, AreViews}
-use Rattle.session_turns.specs.Told.{IsToldAlone, IsToldBy, IsAnswerTo}
+use Rattle.session_openings.specs.Standing.{session_state, transaction_in, AreViews}
+use Rattle.session_openings.specs.Told.{IsToldAlone, IsToldBy, IsAnswerTo}
 use Rattle.sessions.proofs.Laws.{sound_later}
 use Rattle.spec_forms.specs.declared.error.SpecError.TheVariants as spec
 use Rattle.state_laws.specs.Agreement.{Opening}
 use Rattle.state_laws.specs.Outline.{outline}
 use Rattle.step_forms.specs.declared.error.StepsError.TheVariants as steps
-use Rattle.transactions.specs.Txn.{TxnSeen}
+use Rattle.session_openings.specs.Txn.{TxnSeen}
 use Rattle.turn_book.specs.Passes.{BookView, PassView}
 
 module _ (book : BookView Opening) (old_pass : PassView Event Opening) (names : Names) (t : Option TxnSeen) (number : ℕ) (asked : Line) (later : Names) (after : Option TxnSeen) (answer : Body) where

@@ -4,7 +4,7 @@ use Rattle.std.specs.Prelude.{◌⊎◌, IfSome, MatchOption}
 use Rattle.std.proofs.lemmas.List.{map-append, length-map}
 use Rattle.history.specs.Lines.{Line}
 use Rattle.kv_face.specs.Store.{Contents}
-use Rattle.line_meanings.specs.Meanings.{line_of_bytes}
+use Rattle.session_openings.specs.Meanings.{line_of_bytes}
 use Rattle.script_lines.specs.Script.{lines_of, lines_left, is_blank}
 use Rattle.session_runs.specs.Scripts.{asked_line, asked_by, HasRunScript, IsGivenMore, IsGivenLast}
 use Rattle.session_runs.specs.Session.{SessionSeen, IsSessionOn}

@@ -5,9 +5,9 @@ use Rattle.std.specs.List.{AllByRecursion}
 use Rattle.std.proofs.lemmas.List.{map-append}
 use Rattle.std.proofs.Math.Seq.{take-length}
 use mathlib.Core.List.{IsPrefix}
-use Rattle.answer_text.specs.declared.answer.Answer.{Answer}
-use Rattle.answer_text.specs.declared.answer.Body.{Body}
-use Rattle.answer_text.specs.declared.answer.Body.TheVariants as printed
+use Rattle.session_openings.specs.declared.Answer.{Answer}
+use Rattle.session_openings.specs.declared.Body.{Body}
+use Rattle.session_openings.specs.declared.Body.TheVariants as printed
 use Rattle.history.specs.declared.event.Event.{Event}
 use Rattle.history.specs.Acts.{act_of}
 use Rattle.history.specs.Answers as old
@@ -19,16 +19,16 @@ use Rattle.history.specs.Sessions.{Names, SessionState, at_first}
 use Rattle.history.specs.Steps.{IsAnswered, SessionStep, is_memory, IsSessionRun, no_line, blank_line, next_line, last_line}
 use Rattle.history.proofs.Laws.{run_longer}
 use Rattle.kv_face.specs.Store.{Contents}
-use Rattle.line_answers.specs.Bodies.{body_of, answer_of}
+use Rattle.session_openings.specs.Bodies.{body_of, answer_of}
 use Rattle.session_runs.specs.Session.{SessionSeen, numbers_from, MayGoOn, IsLineTold, IsOngoing, IsRunTo, IsSessionOn}
 use Rattle.session_runs.proofs.EndRows.{IsWanting, answer_wants}
-use Rattle.session_turns.specs.Turns.{IsRested, HasPassed}
+use Rattle.session_openings.specs.Turns.{IsRested, HasPassed}
 use Rattle.sessions.specs.Commits.{HasSoundTxn}
-use Rattle.session_turns.specs.Standing.{session_state, transaction_in}
-use Rattle.session_turns.specs.Told.{IsTold}
+use Rattle.session_openings.specs.Standing.{session_state, transaction_in}
+use Rattle.session_openings.specs.Told.{IsTold}
 use Rattle.state_laws.specs.Agreement.{Opening}
-use Rattle.state_resizes.specs.Answers.{fixed_by}
-use Rattle.transactions.specs.Txn.{TxnSeen}
+use Rattle.session_openings.specs.Answers.{fixed_by}
+use Rattle.session_openings.specs.Txn.{TxnSeen}
 use Rattle.turn_book.specs.Passes.{BookView, PassView}
 
 -- none of some answers is want of memory

@@ -1,7 +1,7 @@
 -- A session that is given the lines of a script.
 use Rattle.std.specs.Prelude.{◌≡◌, ◌⊎◌, ℕ, ◌+◌, List, [], ◌∷◌, ◌++◌, length, map, true, false, Option, Some, None, if◌then◌else◌}
 use Rattle.history.specs.Lines.{Line}
-use Rattle.line_meanings.specs.Meanings.{line_of_bytes}
+use Rattle.session_openings.specs.Meanings.{line_of_bytes}
 use Rattle.script_lines.specs.Script.{lines_of, is_blank}
 use Rattle.session_runs.specs.Session.{SessionSeen, IsSessionOn}
 use Rattle.state_laws.specs.Agreement.{Opening}

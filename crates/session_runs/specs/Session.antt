@@ -1,9 +1,9 @@
 -- A session between two lines, and what it has answered.
 use Rattle.std.specs.Prelude.{◌≡◌, ◌≢◌, ℕ, ◌+◌, List, [], ◌∷◌, map, length, Bool, false, Option, Some, None}
 use Rattle.std.specs.List.{AllByRecursion}
-use Rattle.answer_text.specs.declared.answer.Answer.{Answer}
-use Rattle.answer_text.specs.declared.answer.Body.{Body}
-use Rattle.answer_text.specs.declared.answer.Body.TheVariants.{Memory}
+use Rattle.session_openings.specs.declared.Answer.{Answer}
+use Rattle.session_openings.specs.declared.Body.{Body}
+use Rattle.session_openings.specs.declared.Body.TheVariants.{Memory}
 use Rattle.history.specs.declared.event.Event.{Event}
 use Rattle.history.specs.Answers as old
 use Rattle.history.specs.Bound.{AreKnownNames}
@@ -13,14 +13,14 @@ use Rattle.history.specs.Lines.{Line}
 use Rattle.history.specs.Sessions.{Names, SessionState, at_first}
 use Rattle.history.specs.Steps.{IsSessionRun, is_memory}
 use Rattle.kv_face.specs.Store.{Contents}
-use Rattle.line_answers.specs.Bodies.{answer_of}
-use Rattle.session_turns.specs.Turns.{IsRested}
+use Rattle.session_openings.specs.Bodies.{answer_of}
+use Rattle.session_openings.specs.Turns.{IsRested}
 use Rattle.sessions.specs.Commits.{HasSoundTxn}
-use Rattle.session_turns.specs.Standing.{session_state, transaction_in, AreViews}
-use Rattle.session_turns.specs.Told.{IsToldBy}
+use Rattle.session_openings.specs.Standing.{session_state, transaction_in, AreViews}
+use Rattle.session_openings.specs.Told.{IsToldBy}
 use Rattle.state_laws.specs.Agreement.{Opening, TakesMount}
-use Rattle.state_resizes.specs.Answers.{fixed_by}
-use Rattle.transactions.specs.Txn.{TxnSeen}
+use Rattle.session_openings.specs.Answers.{fixed_by}
+use Rattle.session_openings.specs.Txn.{TxnSeen}
 use Rattle.turn_book.specs.Passes.{BookView, PassView}
 
 -- these are names of mounts, and the book's store takes every key below each

@@ -1,27 +1,23 @@
 // What a line is answered.
 ghost use Rattle.std.specs.Prelude.{◌≡◌, ◌≢◌, ◌⊎◌, Err, IfErr};
-ghost use Rattle.answer_text.specs.declared.answer.Body.TheVariants as printed;
+ghost use Rattle.session_openings.specs.declared.Body.TheVariants as printed;
 ghost use Rattle.indexmap.specs.IndexMap.{get_by_text};
-ghost use Rattle.line_answers.specs.Refusals.{refusal_body};
+ghost use Rattle.session_openings.specs.Refusals.{refusal_body};
 ghost use Rattle.line_forms.specs.Form.{form_of, IsSound};
-ghost use Rattle.line_meanings.specs.Meanings.{line_of, line_of_bytes};
+ghost use Rattle.session_openings.specs.Meanings.{line_of, line_of_bytes};
 ghost use Rattle.session_runs.specs.Session.{HasMounts, MayGoOn, IsLineTold};
-ghost use Rattle.session_turns.specs.Turns.{HasPassed};
+ghost use Rattle.session_openings.specs.Turns.{HasPassed};
 
 use crate::commands::{joined, opened, resized, resolved, shown, viewed, written};
-use answer_text::Body;
 use cells::Name;
 use history::Mode;
 use kv_face::KvStore;
-use line_answers::refusal;
 use line_forms::{Command, read_command};
 use line_parts::LineError;
-use session_turns::Names;
+use session_openings::{Body, Gate, Names, State, Txn, refusal};
 use sessions::{abort, begin, commit};
-use shared_state::State;
 use std::alloc::Global;
 use std::sync::Wait;
-use transactions::{Gate, Txn};
 use turn_book::{Pass, TurnBook};
 
 /// What the bytes of a line are answered, where these are the names of the mounts.

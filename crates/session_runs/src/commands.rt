@@ -1,41 +1,37 @@
 // Lines by their command, whose parts end with the line.
 ghost use Rattle.std.specs.Prelude.{◌≡◌, ◌≢◌, ℕ, None, Option, All, length};
-ghost use Rattle.answer_text.specs.declared.answer.Body.TheVariants as printed;
+ghost use Rattle.session_openings.specs.declared.Body.TheVariants as printed;
 ghost use Rattle.cells.specs.Shapes.{IsShape};
 ghost use Rattle.history.specs.Bound.{AreKnownNames};
 ghost use Rattle.history.specs.History.{History};
 ghost use Rattle.history.specs.Lines.{opening, viewing, joining, reading, writing, resizing, resolving};
 ghost use Rattle.indexmap.specs.IndexMap.{get_by_text};
 ghost use Rattle.line_forms.specs.Form.{AreLayers, MayHaveFactors};
-ghost use Rattle.line_meanings.specs.Changes.{changes_of};
-ghost use Rattle.line_meanings.specs.Joins.{join_of};
-ghost use Rattle.line_meanings.specs.Numbers.{values_of, downsampling_of};
-ghost use Rattle.line_meanings.specs.Openings.{leaves_of, build_of};
+ghost use Rattle.session_openings.specs.Changes.{changes_of};
+ghost use Rattle.session_openings.specs.Joins.{join_of};
+ghost use Rattle.session_openings.specs.Numbers.{values_of, downsampling_of};
+ghost use Rattle.session_openings.specs.MeaningOpenings.{leaves_of, build_of};
 ghost use Rattle.serde_json.specs.View.{view as data_in};
 ghost use Rattle.session_openings.specs.Wanted.{MayOpen};
-ghost use Rattle.session_turns.specs.Turns.{IsRested, HasPassed};
+ghost use Rattle.session_openings.specs.Turns.{IsRested, HasPassed};
 ghost use Rattle.sessions.specs.Commits.{HasSoundTxn};
 ghost use Rattle.sessions.specs.Reads.{IsReadTold};
-ghost use Rattle.session_turns.specs.Standing.{session_state, transaction_in, AreViews};
-ghost use Rattle.session_turns.specs.Told.{IsToldAlone, IsToldBy};
+ghost use Rattle.session_openings.specs.Standing.{session_state, transaction_in, AreViews};
+ghost use Rattle.session_openings.specs.Told.{IsToldAlone, IsToldBy};
 ghost use Rattle.step_forms.specs.Given.{IsGiven};
-ghost use Rattle.transactions.specs.Txn.{TxnSeen};
+ghost use Rattle.session_openings.specs.Txn.{TxnSeen};
 
-use answer_text::Body;
 use cells::{List, Name, Sizes};
 use index_transform::Transform;
 use kv_face::KvStore;
 use line_forms::{DownWant, JoinForm};
 use serde_json::Value;
-use session_openings::{open, resolve};
-use session_turns::Names;
+use session_openings::{Body, Gate, Names, State, Txn, open, resolve};
 use sessions::{join, read, resize, view, write};
-use shared_state::State;
 use spec_open::OpenPlan;
 use std::alloc::Global;
 use std::sync::Wait;
 use step_forms::Step;
-use transactions::{Gate, Txn};
 use turn_book::{Pass, TurnBook};
 
 /// Opens what a Spec tells.

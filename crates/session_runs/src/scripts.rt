@@ -3,16 +3,15 @@ ghost use Rattle.std.specs.Prelude.{◌≡◌, ◌<◌, ◌^◌, [], length, tru
 ghost use Rattle.session_runs.specs.Scripts.{HasRunScript, IsGivenMore, IsGivenLast, asked_line};
 ghost use Rattle.indexmap.specs.IndexMap.{get_by_text};
 ghost use Rattle.session_runs.specs.Session.{HasMounts, MayGoOn, IsSessionOn, session_with};
-ghost use Rattle.session_turns.specs.Turns.{HasPassed};
+ghost use Rattle.session_openings.specs.Turns.{HasPassed};
 
 use crate::session::Session;
 use cells::Name;
 use kv_face::KvStore;
 use script_lines::{cut, is_blank};
-use shared_state::State;
+use session_openings::{Gate, State};
 use std::alloc::Global;
 use std::sync::Wait;
-use transactions::Gate;
 use turn_book::TurnBook;
 
 /// Gives a session that was given no line yet the lines of a script, up to its end, or to where memory was wanting; these are the names of

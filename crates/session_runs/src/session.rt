@@ -1,25 +1,22 @@
 // A session.
 ghost use Rattle.std.specs.Prelude.{◌≡◌, ℕ, ◌+◌, List, [], ◌∷◌, ◌++◌, length, false, true, Option, Some, None, OnOk, OnErr};
-ghost use Rattle.answer_text.specs.declared.answer.Body.{Body as BodyOf};
-ghost use Rattle.answer_text.specs.declared.answer.Body.TheVariants as printed;
+ghost use Rattle.session_openings.specs.declared.Body.{Body as BodyOf};
+ghost use Rattle.session_openings.specs.declared.Body.TheVariants as printed;
 ghost use Rattle.history.specs.Lines.{Line};
-ghost use Rattle.line_meanings.specs.Meanings.{line_of_bytes};
+ghost use Rattle.session_openings.specs.Meanings.{line_of_bytes};
 ghost use Rattle.indexmap.specs.IndexMap.{get_by_text};
 ghost use Rattle.session_runs.specs.Session.{HasMounts, MayGoOn, IsSessionOn, session_with};
-ghost use Rattle.session_turns.specs.Turns.{HasPassed, IsRested};
+ghost use Rattle.session_openings.specs.Turns.{HasPassed, IsRested};
 ghost use Rattle.state_laws.specs.Agreement.{Opening};
 ghost use Rattle.turn_book.specs.Passes.{BookView};
 
 use crate::answering::answered;
-use answer_text::{Answer, Body};
 use cells::Name;
 use indexmap::IndexMap;
 use kv_face::KvStore;
-use session_turns::Names;
-use shared_state::State;
+use session_openings::{Answer, Body, Gate, Names, State, Txn};
 use std::alloc::{AllocError, Global};
 use std::sync::Wait;
-use transactions::{Gate, Txn};
 use turn_book::{Pass, TurnBook};
 
 /// A session: its pass over a book, the views that its names are bound to, the transaction that stands, and what it has answered.

@@ -1,7 +1,7 @@
 -- A leaf of a line that isn't opened.
 use Rattle.std.proofs.Common.{◌≡◌, ◌∙◌, ℕ, ◌+◌, ◌≤◌, List, [], ◌∷◌, ◌++◌, length, Option, Some, Err, refl, sym, ap, subst, arith, append-nil}
 use Rattle.std.specs.FinMap as finmap
-use Rattle.array_homes.specs.Opening.{cause_of}
+use Rattle.state_laws.specs.Opening.{cause_of}
 use Rattle.chunk_forms.specs.declared.form.Want.{Want}
 use Rattle.chunk_forms.specs.declared.form.Want.TheVariants as want
 use Rattle.chunk_forms.specs.Members.{member_name}

@@ -1,7 +1,7 @@
 -- Rows of lines that take no turn.
 use Rattle.std.proofs.Common.{◌≡◌, ℕ, Bool, true, false, cond, is_some, [], inl, inr, Option, Some, None, Ok, Err, refl, sym, ap, subst, ◌∙◌}
 use Rattle.std.specs.Str.{bytes_eq}
-use Rattle.answer_text.specs.declared.answer.Body.{Body}
+use Rattle.line_answers.specs.declared.Body.{Body}
 use Rattle.history.specs.Acts.{Asked, outside, named, binds, act_of}
 use Rattle.history.specs.Answers as old
 use Rattle.history.specs.Answers.{Text}

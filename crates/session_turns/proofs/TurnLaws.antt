@@ -23,7 +23,7 @@ use Rattle.state_resizes.specs.Answers.{IsAnswer}
 use Rattle.state_resizes.specs.declared.error.ResizeError.{ResizeError}
 use Rattle.state_resizes.specs.declared.error.ResizeError.TheVariants as error
 use Rattle.transactions.specs.Turns.{owner_of, IsPast}
-use Rattle.transactions.proofs.TurnLaws.{has_turned}
+use Rattle.transactions.proofs.Laws.{has_turned}
 use Rattle.turn_book.specs.History.{entries_of, Continues}
 use Rattle.turn_book.specs.Passes.{BookView, PassView, IsIdle, with_turn, without_turn}
 

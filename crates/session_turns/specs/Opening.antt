@@ -1,7 +1,7 @@
 -- How a line's leaves are opened, each in a turn of its own.
 use Rattle.std.specs.Prelude.{◌≡◌, ◌≤◌, ℕ, ◌+◌, List, [], ◌∷◌, length, Some, Result}
 use Rattle.std.specs.List.{AllByRecursion}
-use Rattle.array_homes.specs.declared.read.MetaCause.TheVariants as cause
+use Rattle.state_laws.specs.declared.MetaCause.TheVariants as cause
 use Rattle.cells.specs.Dense.{DenseCells}
 use Rattle.chunk_forms.specs.Members.{member_name}
 use Rattle.history.specs.declared.event.Event.{Event}

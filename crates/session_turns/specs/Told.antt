@@ -1,7 +1,7 @@
 -- What a session answers, for what the history says of the line.
 use Rattle.std.specs.Prelude.{◌≡◌, ◌⊎◌, ℕ, List, [], Option, Some, Err}
-use Rattle.answer_text.specs.declared.answer.Body.{Body}
-use Rattle.answer_text.specs.declared.answer.Body.TheVariants.{Memory}
+use Rattle.line_answers.specs.declared.Body.{Body}
+use Rattle.line_answers.specs.declared.Body.TheVariants.{Memory}
 use Rattle.history.specs.Acts.{Asked, act_of}
 use Rattle.history.specs.Answers as old
 use Rattle.history.specs.Answers.{Text}

@@ -1,13 +1,13 @@
 // Names bound to views, and the answers that they are.
 ghost use Rattle.std.specs.Prelude.{◌≡◌, IfOk};
-ghost use Rattle.answer_text.specs.declared.answer.Body.TheVariants.{Viewed};
+ghost use Rattle.line_answers.specs.declared.Body.TheVariants.{Viewed};
 ghost use Rattle.indexmap.specs.IndexMap.{get_by_text};
 ghost use Rattle.session_turns.specs.Told.{IsBoundAs};
 ghost use Rattle.stack_driver.specs.Views.{look_of, own_transform};
 
 use crate::names::{Names, bind};
-use answer_text::Body;
 use cells::Name;
+use line_answers::Body;
 use stack_driver::{View, dtype, transform_of};
 use std::alloc::{AllocError, Global};
 

@@ -8,9 +8,9 @@ ghost use Rattle.session_turns.specs.Told.{IsAnswerTo};
 ghost use Rattle.stack_driver.specs.Views.{look_of};
 ghost use Rattle.transactions.specs.Faults.{IsFaultOf};
 
-use answer_text::Body;
 use cells::Index;
 use index_transform::{CountError, Walk};
+use line_answers::Body;
 use stack_driver::{View, transform_of};
 use std::alloc::{AllocError, Global};
 use transactions::ViewFault;

@@ -6,9 +6,9 @@ ghost use Rattle.indexmap.specs.IndexMap.{get_by_text};
 ghost use Rattle.session_turns.specs.Told.{IsAnswerTo};
 ghost use Rattle.stack_driver.specs.declared.view.View.{View as ViewOf};
 
-use answer_text::Body;
 use cells::Name;
 use indexmap::IndexMap;
+use line_answers::Body;
 use stack_driver::{View, copy};
 use std::alloc::{AllocError, Global};
 

@@ -19,11 +19,11 @@ ghost use Rattle.turn_book.specs.Passes.{IsIdle};
 use crate::asked::Asked;
 use cells::Dense;
 use kv_face::KvStore;
-use shared_state::State;
 use state_laws::{Bounds, OpenError, Opened};
 use state_resizes::{ResizeError, resize};
 use std::alloc::{AllocError, Global};
 use std::sync::Wait;
+use transactions::State;
 use turn_book::{Pass, TurnBook};
 
 /// The present shape of an array, by one turn.

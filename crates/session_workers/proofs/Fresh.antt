@@ -1,7 +1,7 @@
 -- Sessions before their first line.
 use Rattle.std.proofs.Common.{◌≡◌, ◌∙◌, ℕ, ◌<◌, List, [], ◌∷◌, ◌++◌, length, get_or, refl, sym, ap, subst, arith}
 use Rattle.history.specs.declared.event.Event.{Event}
-use Rattle.session_turns.specs.Turns.{IsRested}
+use Rattle.session_runs.specs.Turns.{IsRested}
 use Rattle.state_laws.specs.Agreement.{Opening}
 use Rattle.turn_book.specs.Passes.{BookView, PassView, new_pass, AreNew}
 

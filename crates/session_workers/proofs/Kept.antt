@@ -15,7 +15,7 @@ use Rattle.session_runs.specs.Session.{SessionSeen, numbers_from}
 use Rattle.session_workers.specs.Workers.{HasRun, IsFull, AreKept, IsKept, AreSessionLogs, IsWhole, AreWhole, ends_in_want, numbers_in}
 use Rattle.session_workers.proofs.Chosen.{below}
 use Rattle.state_laws.specs.Agreement.{Opening}
-use Rattle.transactions.specs.Turns.{owner_of}
+use Rattle.session_runs.specs.TxnTurns.{owner_of}
 use Rattle.turn_book.specs.History.{entries_of}
 use Rattle.turn_book.specs.Passes.{BookView, PassView, IsIdle, HasNumber}
 

@@ -14,17 +14,17 @@ use Rattle.history.specs.Sessions.{at_first}
 use Rattle.history.specs.Steps.{IsSessionRun}
 use Rattle.history.proofs.Laws.{run_longer}
 use Rattle.kv_face.specs.Store.{Contents}
-use Rattle.line_answers.specs.Bodies.{answer_of}
+use Rattle.session_runs.specs.Bodies.{answer_of}
 use Rattle.serial_runs.specs.Runs.{Script, IsLog}
 use Rattle.session_runs.specs.Scripts.{asked_by}
 use Rattle.session_runs.specs.Session.{IsRunTo}
-use Rattle.session_turns.proofs.OwnLaws.{own-none, drop_front, same_rest}
+use Rattle.session_runs.proofs.Laws.{own-none, drop_front, same_rest}
 use Rattle.session_workers.specs.Workers.{IsSessionLog, AreSessionLogs}
 use Rattle.session_workers.specs.Runs.{ArePrinted}
 use Rattle.session_workers.proofs.Chosen.{AreChosen, choose, got, below, got_map, mapped_by}
 use Rattle.state_laws.specs.Agreement.{Opening}
-use Rattle.state_resizes.specs.Answers.{fixed_by}
-use Rattle.transactions.specs.Turns.{owner_of}
+use Rattle.session_runs.specs.Answers.{fixed_by}
+use Rattle.session_runs.specs.TxnTurns.{owner_of}
 use Rattle.turn_book.specs.History.{entries_of}
 use Rattle.turn_book.specs.Passes.{BookView}
 

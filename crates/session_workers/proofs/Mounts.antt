@@ -3,8 +3,8 @@ use Rattle.std.proofs.Common.{ℕ, Bool, true, false, cond, List, [], ◌∷◌,
 use Rattle.std.specs.List.{AllByRecursion}
 use Rattle.history.specs.Alone.{IsOn}
 use Rattle.history.specs.Bound.{IsWithin}
-use Rattle.line_meanings.specs.Meanings.{line_of_bytes}
-use Rattle.line_meanings.proofs.Laws.{bytes_of_mount}
+use Rattle.session_runs.specs.Meanings.{line_of_bytes}
+use Rattle.session_runs.proofs.Laws.{bytes_of_mount}
 use Rattle.script_lines.specs.Script.{lines_of, is_blank}
 use Rattle.serial_runs.specs.Runs.{AreOfMount}
 use Rattle.session_runs.specs.Scripts.{asked_line, asked_by}

@@ -9,7 +9,7 @@ use Rattle.history.specs.Answers as plain
 use Rattle.history.specs.Counting.{IsCounted}
 use Rattle.history.specs.Lines.{Line}
 use Rattle.kv_face.specs.Store.{Contents}
-use Rattle.line_answers.specs.Bodies.{answer_of}
+use Rattle.session_runs.specs.Bodies.{answer_of}
 use Rattle.kv_mounts.specs.Finish.{AreFinished, failed_places}
 use Rattle.history.specs.Store.{RepresentsHistory}
 use Rattle.kv_mounts.specs.Parts.{Part, AreMounts, below, names_of}

@@ -14,15 +14,15 @@ use Rattle.index_transform.proofs.domain.Domain.TheSendSync as domain
 use Rattle.cells.proofs.dtype.Dtype.TheSendSync as dtype
 use Rattle.indexmap.proofs.index_table.group.Group.TheSendSync as group
 use Rattle.history.proofs.array.Home.TheSendSync as home
-use Rattle.cells.proofs.words.Index.TheSendSync as index
+use Rattle.cells.proofs.Index.TheSendSync as index
 use Rattle.index_intervals.proofs.interval.Interval.TheSendSync as interval
-use Rattle.transactions.proofs.kept.Kept.TheSendSync as kept
+use Rattle.session_runs.proofs.Kept.TheSendSync as kept
 use Rattle.history.proofs.event.Mode.TheSendSync as mode
 use Rattle.n5_blocks.proofs.metadata.N5Meta.TheSendSync as n5meta
-use Rattle.cells.proofs.name.Name.TheSendSync as name
+use Rattle.cells.proofs.Name.TheSendSync as name
 use Rattle.cells.proofs.order.Order.TheSendSync as order
 use Rattle.index_transform.proofs.map.OutMap.TheSendSync as outmap
-use Rattle.cells.proofs.words.Sizes.TheSendSync as sizes
+use Rattle.cells.proofs.Sizes.TheSendSync as sizes
 use Rattle.chunk_cache.proofs.snapshot.Snapshot.TheSendSync as snapshot
 use Rattle.rebase_writes.proofs.staged.Staged.TheSendSync as staged
 use Rattle.transaction_cells.proofs.staging.Staging.TheSendSync as staging
@@ -33,7 +33,7 @@ use Rattle.std.proofs.rt.Memory.TheSendSync as std_memory
 use Rattle.std.below.std_collections.proofs.btree.node.Node.TheSendSync as std_node
 use Rattle.std.proofs.vec.Vec.TheSendSync as std_vec
 use Rattle.index_transform.proofs.transform.Transform.TheSendSync as transform
-use Rattle.cells.proofs.words.Words.TheSendSync as words
+use Rattle.cells.proofs.Words.TheSendSync as words
 use Rattle.zarr3_chunks.proofs.metadata.Zarr3Meta.TheSendSync as zarr3meta
 use Rattle.zarr_chunks.proofs.metadata.ZarrMeta.TheSendSync as zarrmeta
 use Rattle.indexmap.proofs.map.IndexMap.TheSendSync as indexmap
@@ -55,7 +55,7 @@ use Rattle.state_laws.specs.contracts.records.Records.TheInside as records_insid
 use Rattle.locations.proofs.table.Locations.TheSendSync as locations
 use Rattle.shared_state.specs.contracts.state.State as state
 use Rattle.shared_state.specs.contracts.state.State.TheInside as state_inside
-use Rattle.transactions.specs.contracts.txn.Txn as txn
+use Rattle.session_runs.specs.contracts.Txn as txn
 use Rattle.answer_text.proofs.answer.Answer.TheSendSync as answer
 use Rattle.answer_text.specs.contracts.answer.Answer as answer_type
 use Rattle.turn_book.proofs.pass.Pass.TheSendSync as pass

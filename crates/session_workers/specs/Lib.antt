@@ -3,3 +3,5 @@ pub mod Runs
 pub mod Alone
 pub mod MountRuns
 pub mod Finished
+-- names of crates below, given on to those above
+pub use Rattle.session_runs.specs.Bodies

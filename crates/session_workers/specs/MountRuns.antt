@@ -8,7 +8,7 @@ use Rattle.history.specs.History.{History}
 use Rattle.kv_face.specs.Store.{Contents}
 use Rattle.kv_mounts.specs.Parts.{Part, names_of}
 use Rattle.kv_mounts.specs.Union.{union_of, prefixes_of, change_count_of}
-use Rattle.line_answers.specs.Bodies.{answer_of}
+use Rattle.session_runs.specs.Bodies.{answer_of}
 use Rattle.session_workers.specs.Alone.{IsAloneRun}
 use Rattle.serial_runs.specs.Runs.{IsRunOf}
 use Rattle.serial_runs.specs.Serial.{IsSerial}

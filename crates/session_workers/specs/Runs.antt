@@ -4,7 +4,7 @@ use Rattle.answer_text.specs.declared.answer.Answer.{Answer}
 use Rattle.history.specs.Answers as old
 use Rattle.history.specs.Commit.{Fixed}
 use Rattle.history.specs.History.{History}
-use Rattle.line_answers.specs.Bodies.{answer_of}
+use Rattle.session_runs.specs.Bodies.{answer_of}
 use Rattle.serial_runs.specs.Runs.{AreLogs}
 use Rattle.session_runs.specs.Scripts.{asked_by}
 

@@ -9,7 +9,7 @@ use Rattle.history.specs.History.{History}
 use Rattle.session_runs.specs.Scripts.{HasRunScript}
 use Rattle.session_runs.specs.Session.{SessionSeen, IsSessionOn}
 use Rattle.state_laws.specs.Agreement.{Opening}
-use Rattle.transactions.specs.Turns.{owner_of}
+use Rattle.session_runs.specs.TxnTurns.{owner_of}
 use Rattle.turn_book.specs.History.{entries_of}
 use Rattle.turn_book.specs.Passes.{BookView, PassView, IsIdle}
 -- what a script asks, line by line, and the numbers of those that aren't blank

@@ -14,11 +14,11 @@ use crate::working::work_in_turn;
 use answer_text::Answer;
 use cells::{List, Name};
 use kv_face::KvStore;
+use session_runs::Gate;
 use shared_state::{State, StateRefused};
 use std::alloc::{AllocError, Global};
 use std::sync::Wait;
 use std::thread::Threads;
-use transactions::Gate;
 use turn_book::{Pass, TurnBook};
 
 /// What a run of scripts leaves: the state, and the log of each session.

@@ -11,10 +11,10 @@ use cells::List;
 use history::Event;
 use kv_face::KvStore;
 use kv_mounts::{FinishList, Mount, Mounts};
+use session_runs::Gate;
 use std::alloc::Global;
 use std::sync::Wait;
 use std::thread::Threads;
-use transactions::Gate;
 
 /// What a run over mounts hands back.
 #[derive(Drop)]

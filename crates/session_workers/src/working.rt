@@ -8,13 +8,12 @@ ghost use Rattle.session_workers.specs.Workers.{IsFresh, IsWorked, AreWorked};
 use crate::dealing::Worker;
 use cells::Name;
 use kv_face::KvStore;
-use session_runs::{Session, run_script};
+use session_runs::{Gate, Session, run_script};
 use shared_state::State;
 use std::alloc::Global;
 use std::sync::Wait;
 use std::thread;
 use std::thread::Threads;
-use transactions::Gate;
 use turn_book::TurnBook;
 
 /// Lets the workers in front work, and the others once these were joined.

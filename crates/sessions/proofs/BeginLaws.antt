@@ -1,6 +1,6 @@
 -- Rows of begin and abort.
 use Rattle.std.proofs.Common.{◌≡◌, ℕ, true, false, [], Option, Some, None, refl, sym, subst, is_some, is_none}
-use Rattle.answer_text.specs.declared.answer.Body.TheVariants as body
+use Rattle.session_turns.specs.declared.Body.TheVariants as body
 use Rattle.history.specs.declared.event.Mode.{Mode}
 use Rattle.history.specs.Answers as old
 use Rattle.history.specs.Lines.{beginning, aborting}
@@ -8,7 +8,7 @@ use Rattle.history.specs.Sessions.{Names}
 use Rattle.history.specs.Steps.{done_line, refused_line, begin_done, abort_done}
 use Rattle.session_turns.specs.Standing.{session_state, transaction_in}
 use Rattle.session_turns.specs.Told.{IsToldAlone}
-use Rattle.transactions.specs.Txn.{TxnSeen}
+use Rattle.session_turns.specs.Txn.{TxnSeen}
 
 -- where a transaction stands none is begun
 pub told_standing : (line : ℕ) (mode : Mode) (t : Option TxnSeen) → is_some t ≡ true → (names : Names) (seen : ℕ) → IsToldAlone (session_state names seen t) line (beginning mode) names (transaction_in t) body.InTransaction

@@ -1,8 +1,8 @@
 -- What refuses a transform, steps or a join, and how it is answered.
 use Rattle.std.proofs.Common.{◌≡◌, ◌≢◌, ◌∙◌, ℕ, List, [], ◌∷◌, Option, Some, None, Result, Ok, Err, refl, sym, ap, subst}
 use Rattle.std.specs.Prelude.{IfErr}
-use Rattle.answer_text.specs.declared.answer.Body.{Body}
-use Rattle.answer_text.specs.declared.answer.Body.TheVariants as body
+use Rattle.session_turns.specs.declared.Body.{Body}
+use Rattle.session_turns.specs.declared.Body.TheVariants as body
 use Rattle.dim_changes.specs.declared.cause.Cause.{Cause}
 use Rattle.dim_changes.specs.declared.cause.Cause.TheVariants as cause
 use Rattle.dim_expressions.specs.Applying.{applied}
@@ -19,7 +19,7 @@ use Rattle.history.specs.Sessions.{Names}
 use Rattle.history.proofs.Asking.{IsAskedBy}
 use Rattle.history.proofs.StepsKnown.{IsActKnown, act_of-known}
 use Rattle.index_transform.specs.Transforms.{DomainAndMaps}
-use Rattle.line_answers.specs.Causes.{step_cause}
+use Rattle.session_turns.specs.Causes.{step_cause}
 use Rattle.line_meanings.specs.Changes.{cause_of, by_view, by_transform, under_steps, by_steps, steps_of, changes_of}
 use Rattle.session_turns.specs.Told.{IsAnswerTo}
 use Rattle.session_turns.proofs.Laws.{refusal}

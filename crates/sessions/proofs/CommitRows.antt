@@ -4,12 +4,12 @@ use Rattle.std.specs.Prelude.{◌≢◌}
 use Rattle.std.proofs.lemmas.Bool.Decides.{nat_tests}
 use Rattle.std.proofs.lemmas.List.Elements.{filter-append}
 use Rattle.std.specs.FinMap as finmap
-use Rattle.answer_text.specs.declared.answer.Body.{Body}
-use Rattle.answer_text.specs.declared.answer.Body.TheVariants.{Memory, NoTransaction}
-use Rattle.commits.specs.Answers as commit
-use Rattle.commits.specs.Answers.{IsCommitRow, Leaves}
-use Rattle.commits.specs.declared.refused.CommitRefused.{CommitRefused}
-use Rattle.commits.specs.declared.refused.CommitRefused.TheVariants as refused
+use Rattle.session_turns.specs.declared.Body.{Body}
+use Rattle.session_turns.specs.declared.Body.TheVariants.{Memory, NoTransaction}
+use Rattle.session_turns.specs.CommitAnswers as commit
+use Rattle.session_turns.specs.CommitAnswers.{IsCommitRow, Leaves}
+use Rattle.session_turns.specs.declared.CommitRefused.{CommitRefused}
+use Rattle.session_turns.specs.declared.CommitRefused.TheVariants as refused
 use Rattle.history.specs.declared.event.Event.{Event}
 use Rattle.history.specs.Acts.{writes, act_of}
 use Rattle.history.specs.Answers as old_answers
@@ -22,20 +22,19 @@ use Rattle.history.specs.Own.{Numbered, numbered}
 use Rattle.history.specs.Sessions.{Names, SessionState}
 use Rattle.history.specs.Steps.{IsAnswered, refused_line, wanting, done_line, commit_done, write_done, write_alone, as_written}
 use Rattle.kv_face.specs.Store.{Contents}
-use Rattle.line_answers.specs.Bodies.{body_of}
+use Rattle.session_turns.specs.Bodies.{body_of}
 use Rattle.session_turns.specs.Turns.{IsRested, IsTurn, HasPassed, added_by}
-use Rattle.session_turns.proofs.Laws.{own_of_turn, none_added, same_rest, passed_of_turn, passed_alone}
+use Rattle.session_turns.proofs.Laws.{own_of_turn, none_added, same_rest, passed_of_turn, passed_alone, txn_later, recorded_later}
 use Rattle.sessions.specs.Commits.{HasSoundTxn, left_behind, IsCommittedAs, IsCommitTold}
 use Rattle.session_turns.specs.Standing.{session_state, transaction_in}
 use Rattle.session_turns.specs.Told.{IsTold, IsToldBy}
 use Rattle.stack_driver.specs.declared.view.View.{View}
-use Rattle.state_laws.specs.Agreement.{Opening}
-use Rattle.state_laws.specs.Outline.{outline}
-use Rattle.state_resizes.specs.Answers.{fixed_by}
-use Rattle.transactions.specs.Committing.{HasCommitted, IsCommitTurn, IsCommittedIn, left_after}
-use Rattle.transactions.specs.Turns.{owner_of}
-use Rattle.transactions.specs.Txn.{TxnSeen, transaction_of}
-use Rattle.transactions.proofs.Laws.{txn_later, recorded_later}
+use Rattle.session_turns.specs.Agreement.{Opening}
+use Rattle.session_turns.specs.Outline.{outline}
+use Rattle.session_turns.specs.Answers.{fixed_by}
+use Rattle.session_turns.specs.Committing.{HasCommitted, IsCommitTurn, IsCommittedIn, left_after}
+use Rattle.session_turns.specs.TxnTurns.{owner_of}
+use Rattle.session_turns.specs.Txn.{TxnSeen, transaction_of}
 use Rattle.turn_book.specs.History.{entries_of}
 use Rattle.turn_book.specs.Passes.{BookView, PassView}
 

@@ -2,7 +2,7 @@
 use Rattle.std.proofs.Common.{◌≡◌, ◌∙◌, ℕ, ◌+◌, ◌*◌, Bool, true, false, cond, List, [], ◌∷◌, length, Option, Some, None, refl, ap}
 use Rattle.std.specs.Prelude.{◌≢◌, ◌==◌, nat_lt}
 use Rattle.std.specs.Option.{option_or}
-use Rattle.answer_text.specs.declared.answer.Body.TheVariants.{Memory}
+use Rattle.session_turns.specs.declared.Body.TheVariants.{Memory}
 use Rattle.cells.specs.Bytes.{byte_count}
 use Rattle.cells.specs.Places.{cell_count}
 use Rattle.cells.specs.declared.dtype.Dtype.{Dtype}
@@ -19,8 +19,8 @@ use Rattle.history.specs.CommitRows.{IsCommit, conflicts, is_shrunk, is_split, i
 use Rattle.history.specs.History.{History}
 use Rattle.history.specs.Own.{Numbered}
 use Rattle.history.specs.Steps.{as_written}
-use Rattle.line_answers.specs.Bodies.{body_of}
-use Rattle.line_answers.specs.Causes.{damage_body}
+use Rattle.session_turns.specs.Bodies.{body_of}
+use Rattle.session_turns.specs.Causes.{damage_body}
 use Rattle.n5_blocks.specs.Faults.{size_fault, length_fault, cells_fault, block_fault, mode_in, rank_in, header_len, sizes_in}
 use Rattle.n5_blocks.specs.Metadata as n5
 use Rattle.n5_blocks.specs.declared.chunk.BlockError.{BlockError}

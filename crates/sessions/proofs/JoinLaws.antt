@@ -3,15 +3,15 @@ use Rattle.std.proofs.Common.{◌≡◌, ◌≢◌, ◌∙◌, ℕ, ◌+◌, ◌
 use Rattle.std.specs.Prelude.{IfOk}
 use Rattle.std.specs.List.{AllByRecursion}
 use Rattle.std.proofs.lemmas.List.{drop_more, drop_all}
-use Rattle.answer_text.specs.declared.answer.Body.{Body}
-use Rattle.answer_text.specs.declared.answer.Body.TheVariants as body
+use Rattle.session_turns.specs.declared.Body.{Body}
+use Rattle.session_turns.specs.declared.Body.TheVariants as body
 use Rattle.history.specs.Acts.{Asked, named, all_named, with_join}
 use Rattle.history.specs.Answers as old
 use Rattle.history.specs.Answers.{Text}
 use Rattle.history.specs.Sessions.{Names}
 use Rattle.layer_join.specs.declared.error.JoinError.{JoinError}
 use Rattle.layer_join.specs.declared.error.JoinError.TheVariants as join
-use Rattle.line_answers.specs.Bodies.{body_of}
+use Rattle.session_turns.specs.Bodies.{body_of}
 use Rattle.line_meanings.specs.Joins.{by_join, join_cause_of}
 use Rattle.session_turns.specs.Told.{IsAnswerTo}
 use Rattle.session_turns.proofs.Laws.{refusal}

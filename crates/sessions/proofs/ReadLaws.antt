@@ -2,7 +2,7 @@
 use Rattle.std.proofs.Common.{◌≡◌, ◌∙◌, ℕ, ◌==◌, true, false, cond, List, length, Option, Some, None, Result, Ok, Err, refl, sym, ap, subst, arith}
 use Rattle.std.specs.Prelude.{IfOk, OnOk}
 use Rattle.std.proofs.lemmas.Bool.Decides.{nat_tests}
-use Rattle.answer_text.specs.declared.answer.Body.TheVariants.{Values}
+use Rattle.session_turns.specs.declared.Body.TheVariants.{Values}
 use Rattle.cells.specs.declared.dtype.Dtype.{Dtype}
 use Rattle.downsample_view.specs.Downsampled.{downsampled}
 use Rattle.downsample_view.specs.declared.outcome.Down.{Down}
@@ -11,8 +11,8 @@ use Rattle.history.specs.Answers as old
 use Rattle.history.specs.Answers.{Body}
 use Rattle.history.specs.Viewing.{cell_fault, values_body}
 use Rattle.index_transform.specs.Cells.{count_answer}
-use Rattle.line_answers.specs.Bodies.{body_of}
-use Rattle.line_forms.specs.declared.command.DownWant.{DownWant}
+use Rattle.session_turns.specs.Bodies.{body_of}
+use Rattle.line_meanings.specs.declared.DownWant.{DownWant}
 use Rattle.line_meanings.specs.Numbers.{downsampling, downsampling_of}
 use Rattle.sessions.specs.Reads.{HasRank}
 use Rattle.session_turns.proofs.Laws.{counted_sound}

@@ -5,8 +5,8 @@ use Rattle.std.proofs.lemmas.Bool.Decides.{nat_tests}
 use Rattle.std.proofs.lemmas.List.{append_cancel_right}
 use Rattle.std.proofs.lemmas.List.Elements.{filter-append}
 use mathlib.Core.List.{IsPrefix}
-use Rattle.answer_text.specs.declared.answer.Body.{Body}
-use Rattle.answer_text.specs.declared.answer.Body.TheVariants.{Memory}
+use Rattle.session_turns.specs.declared.Body.{Body}
+use Rattle.session_turns.specs.declared.Body.TheVariants.{Memory}
 use Rattle.history.specs.declared.event.Event.{Event}
 use Rattle.history.specs.Acts.{reads, act_of, without}
 use Rattle.history.specs.Answers as old_answers
@@ -25,9 +25,9 @@ use Rattle.history.specs.Steps.{IsAnswered, IsRow, done_line, read_done, read_sh
 use Rattle.history.specs.Viewing.{cell_fault, values_body}
 use Rattle.history.proofs.Laws.{known_after-more}
 use Rattle.kv_face.specs.Store.{Contents}
-use Rattle.line_answers.specs.Bodies.{body_of}
+use Rattle.session_turns.specs.Bodies.{body_of}
 use Rattle.session_turns.specs.Turns.{IsRested, IsTurn, HasPassed, added_by}
-use Rattle.session_turns.proofs.Laws.{own_of_turn, none_added, passed_of_turn, passed_alone, found_all, told_without, told_wanting}
+use Rattle.session_turns.proofs.Laws.{own_of_turn, none_added, passed_of_turn, passed_alone, found_all, told_without, told_wanting, recorded_read}
 use Rattle.sessions.specs.Commits.{HasSoundTxn}
 use Rattle.sessions.specs.Reads.{IsAnsweredRead, IsReadAs, IsReadTold, IsUnread}
 use Rattle.session_turns.specs.Standing.{session_state, transaction_in}
@@ -36,17 +36,16 @@ use Rattle.sessions.proofs.CommitRows.{sound_later}
 use Rattle.stack_driver.specs.Conditions.{IsView}
 use Rattle.stack_driver.specs.Targets.{Cell}
 use Rattle.stack_driver.specs.declared.view.View.{View}
-use Rattle.state_laws.specs.Agreement.{Opening}
-use Rattle.state_resizes.specs.Answers.{fixed_by}
-use Rattle.transactions.specs.Conditions.{IsTxnIn}
-use Rattle.transactions.specs.Reading.{IsFoundUnless, IsReadError}
-use Rattle.transactions.specs.Recording.{IsRecorded}
-use Rattle.transactions.specs.Turns as turns
-use Rattle.transactions.specs.Turns.{HasTurned, owner_of}
-use Rattle.transactions.specs.Txn.{TxnSeen, transaction_of}
-use Rattle.transactions.specs.declared.error.ReadError.{ReadError}
-use Rattle.transactions.specs.declared.error.ReadError.TheVariants as read
-use Rattle.transactions.proofs.Laws.{recorded_read}
+use Rattle.session_turns.specs.Agreement.{Opening}
+use Rattle.session_turns.specs.Answers.{fixed_by}
+use Rattle.session_turns.specs.Conditions.{IsTxnIn}
+use Rattle.session_turns.specs.Reading.{IsFoundUnless, IsReadError}
+use Rattle.session_turns.specs.Recording.{IsRecorded}
+use Rattle.session_turns.specs.TxnTurns as turns
+use Rattle.session_turns.specs.TxnTurns.{HasTurned, owner_of}
+use Rattle.session_turns.specs.Txn.{TxnSeen, transaction_of}
+use Rattle.session_turns.specs.declared.ReadError.{ReadError}
+use Rattle.session_turns.specs.declared.ReadError.TheVariants as read
 use Rattle.turn_book.specs.History.{entries_of}
 use Rattle.turn_book.specs.Passes.{BookView, PassView}
 

@@ -4,7 +4,7 @@ use Rattle.std.specs.FinMap as finmap
 use Rattle.std.proofs.lemmas.Bool.Decides.{nat_tests}
 use Rattle.std.specs.Prelude.{IfOk}
 use mathlib.Core.List.{IsPrefix}
-use Rattle.answer_text.specs.declared.answer.Body.TheVariants as body
+use Rattle.session_turns.specs.declared.Body.TheVariants as body
 use Rattle.cells.specs.Shapes.{IsShape}
 use Rattle.history.specs.Acts.{resizes, named, outside, on_leaf, on_stored, act_of}
 use Rattle.history.specs.Answers as old
@@ -21,9 +21,9 @@ use Rattle.session_turns.specs.Told.{IsAnswerTo}
 use Rattle.stack_driver.specs.References.{Reference}
 use Rattle.stack_driver.specs.Renewed.{array_of}
 use Rattle.stack_driver.specs.declared.view.View.{View}
-use Rattle.state_laws.specs.Outline.{outline}
-use Rattle.state_resizes.specs.Conditions.{IsAsked}
-use Rattle.transactions.specs.Txn.{TxnSeen}
+use Rattle.session_turns.specs.Outline.{outline}
+use Rattle.session_turns.specs.ResizeConditions.{IsAsked}
+use Rattle.session_turns.specs.Txn.{TxnSeen}
 use Rattle.transform_composition.specs.declared.error.ComposeError.TheVariants as compose
 
 -- the view is no leaf

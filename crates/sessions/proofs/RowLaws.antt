@@ -7,23 +7,21 @@ use Rattle.history.specs.Lines.{resizing}
 use Rattle.history.specs.Own.{numbered}
 use Rattle.history.specs.Sessions.{Names}
 use Rattle.history.specs.Steps.{IsAnswered}
-use Rattle.line_answers.specs.Bodies.{body_of}
+use Rattle.session_turns.specs.Bodies.{body_of}
 use Rattle.sessions.specs.Bodies.{resized_answer}
 use Rattle.session_turns.specs.Standing.{session_state, transaction_in}
 use Rattle.session_turns.specs.Told.{IsToldBy}
 use Rattle.session_turns.specs.Turns.{IsRested, added_by, IsResizeTurn}
-use Rattle.session_turns.proofs.Laws.{own_of_turn, same_rest}
-use Rattle.state_laws.specs.Agreement.{Opening}
-use Rattle.state_resizes.specs.Answers.{fixed_by}
-use Rattle.state_resizes.specs.declared.error.ResizeError.{ResizeError}
-use Rattle.state_resizes.specs.declared.error.ResizeError.TheVariants as error
-use Rattle.state_resizes.proofs.Laws.{HasRow, resize_row}
-use Rattle.state_resizes.proofs.Laws as resizes_laws
+use Rattle.session_turns.proofs.Laws.{own_of_turn, same_rest, resize_row, body_of as resize_body}
+use Rattle.session_turns.specs.Agreement.{Opening}
+use Rattle.session_turns.specs.Answers.{fixed_by}
+use Rattle.session_turns.specs.declared.ResizeError.{ResizeError}
+use Rattle.session_turns.specs.declared.ResizeError.TheVariants as error
 use Rattle.stack_driver.specs.References.{Reference}
-use Rattle.transactions.specs.Txn.{TxnSeen}
+use Rattle.session_turns.specs.Txn.{TxnSeen}
 use Rattle.turn_book.specs.Passes.{BookView, PassView}
 
-same_answer : (r : Result ℕ ResizeError) → resizes_laws.body_of r ≡ resized_answer r
+same_answer : (r : Result ℕ ResizeError) → resize_body r ≡ resized_answer r
 same_answer (Ok n) = refl
 same_answer (Err (error.TooManyChunks at)) = refl
 same_answer (Err (error.NotAtomic keys)) = refl
@@ -47,5 +45,5 @@ told_resized book pass new names t line name shape r answer rested act turn star
       row =
           subst (λ a. IsAnswered fixed pass.number new.seen s line a names (transaction_in t) (resized_answer answer) (added_by pass new)) (sym act)
           (subst (λ b. IsAnswered fixed pass.number new.seen s line (Ok (resizes r shape)) names (transaction_in t) b (added_by pass new)) (same_answer answer)
-          (subst (IsAnswered fixed pass.number new.seen s line (Ok (resizes r shape)) names (transaction_in t) (resizes_laws.body_of answer)) numbers row.row));
+          (subst (IsAnswered fixed pass.number new.seen s line (Ok (resizes r shape)) names (transaction_in t) (resize_body answer)) numbers row.row));
     }

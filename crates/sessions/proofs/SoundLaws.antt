@@ -5,11 +5,11 @@ use Rattle.history.specs.declared.event.Mode.{Mode}
 use Rattle.history.specs.History.{History}
 use Rattle.history.specs.Legal.{IsLegal}
 use Rattle.sessions.specs.Commits.{HasSoundTxn}
-use Rattle.state_laws.specs.Agreement.{Opening}
-use Rattle.state_laws.specs.Outline.{outline}
+use Rattle.session_turns.specs.Agreement.{Opening}
+use Rattle.session_turns.specs.Outline.{outline}
 use Rattle.transaction_cells.proofs.Laws.{none_staged}
-use Rattle.transactions.specs.Txn.{TxnSeen, transaction_of}
-use Rattle.transactions.proofs.Laws.{recorded_begun}
+use Rattle.session_turns.specs.Txn.{TxnSeen, transaction_of}
+use Rattle.session_turns.proofs.Laws.{recorded_begun}
 
 -- one that is begun is both
 pub sound_begun : (opening : Opening) (events : History) (line : ℕ) (mode : Mode) → IsLegal finmap.empty (outline events) → HasSoundTxn opening events (Some (record { line = line; mode = mode; ops = []; staged = []; kept = [] }))

@@ -1,6 +1,6 @@
 -- A write in a transaction as a row of a session's step.
 use Rattle.std.proofs.Common.{◌≡◌, ◌∙◌, ℕ, List, [], ◌∷◌, ◌++◌, length, Some, None, Ok, refl, sym, ap, subst}
-use Rattle.answer_text.specs.declared.answer.Body.{Body}
+use Rattle.session_turns.specs.declared.Body.{Body}
 use Rattle.history.specs.Acts.{stages, act_of, without}
 use Rattle.history.specs.Answers as old_answers
 use Rattle.history.specs.Commit.{Transaction}
@@ -11,18 +11,17 @@ use Rattle.history.specs.Sessions.{Names}
 use Rattle.history.specs.Staged.{IsStaged}
 use Rattle.history.specs.Steps.{IsAnswered, done_line, write_staged, with_write}
 use Rattle.history.specs.Viewing.{cell_fault}
-use Rattle.line_answers.specs.Bodies.{body_of}
+use Rattle.session_turns.specs.Bodies.{body_of}
 use Rattle.sessions.specs.Commits.{HasSoundTxn}
 use Rattle.session_turns.specs.Standing.{session_state}
 use Rattle.session_turns.specs.Told.{IsTold, IsToldAlone, IsAnswerTo}
-use Rattle.session_turns.proofs.Laws.{told_refused}
+use Rattle.session_turns.proofs.Laws.{told_refused, recorded_written}
 use Rattle.stack_driver.specs.Conditions.{IsView}
 use Rattle.stack_driver.specs.declared.view.View.{View}
-use Rattle.state_laws.specs.Agreement.{Opening}
-use Rattle.transactions.specs.Conditions.{IsTxnIn}
-use Rattle.transactions.specs.Recording.{IsRecorded}
-use Rattle.transactions.specs.Txn.{TxnSeen, transaction_of, marks_of}
-use Rattle.transactions.proofs.Laws.{recorded_written}
+use Rattle.session_turns.specs.Agreement.{Opening}
+use Rattle.session_turns.specs.Conditions.{IsTxnIn}
+use Rattle.session_turns.specs.Recording.{IsRecorded}
+use Rattle.session_turns.specs.Txn.{TxnSeen, transaction_of, marks_of}
 
 module _ (old new : TxnSeen) (v : View) (words given : List ℕ) (same : given ≡ words) (wrote : (new.ops ≡ old.ops ++ Write v given ∷ []) × (new ≡ record old { ops = new.ops; staged = new.staged })) where
   -- a transaction with one more write

@@ -1,20 +1,19 @@
 -- A write of its own, from its words to its commit.
 use Rattle.std.proofs.Common.{◌≡◌, ◌∙◌, ℕ, List, [], ◌∷◌, ◌++◌, length, Some, None, Ok, Err, refl, sym, ap, subst}
 use Rattle.std.specs.FinMap as finmap
-use Rattle.answer_text.specs.declared.answer.Body.{Body}
-use Rattle.commits.specs.Answers as commit
-use Rattle.commits.specs.declared.refused.CommitRefused.{CommitRefused}
-use Rattle.commits.specs.declared.refused.CommitRefused.TheVariants as refused
+use Rattle.session_turns.specs.declared.Body.{Body}
+use Rattle.session_turns.specs.CommitAnswers as commit
+use Rattle.session_turns.specs.declared.CommitRefused.{CommitRefused}
+use Rattle.session_turns.specs.declared.CommitRefused.TheVariants as refused
 use Rattle.history.specs.declared.event.Event.{Event}
 use Rattle.history.specs.declared.event.Op.TheVariants.{Write}
 use Rattle.history.specs.Acts.{writes, act_of, without}
 use Rattle.history.specs.History.{History}
 use Rattle.history.specs.Legal.{IsLegal}
 use Rattle.history.specs.Lines.{Line}
-use Rattle.history.specs.Sessions.{Names}
+use Rattle.history.specs.Sessions.{Names, plain_mode}
 use Rattle.history.specs.Staged.{IsStaged}
 use Rattle.history.specs.Steps.{write_alone, as_written}
-use Rattle.history.specs.Sessions.{plain_mode}
 use Rattle.history.specs.Viewing.{cell_fault}
 use Rattle.session_turns.specs.Turns.{IsRested, HasPassed}
 use Rattle.sessions.specs.Commits.{HasSoundTxn}
@@ -24,14 +23,14 @@ use Rattle.sessions.specs.Writes.{IsWrittenAs}
 use Rattle.sessions.proofs.CommitRows.{commit_passed, write_told}
 use Rattle.stack_driver.specs.Conditions.{IsView}
 use Rattle.stack_driver.specs.declared.view.View.{View}
-use Rattle.state_laws.specs.Agreement.{Opening}
-use Rattle.state_laws.specs.Outline.{outline}
+use Rattle.session_turns.specs.Agreement.{Opening}
+use Rattle.session_turns.specs.Outline.{outline}
 use Rattle.transaction_cells.proofs.Laws.{none_staged}
-use Rattle.transactions.specs.Committing.{HasCommitted}
-use Rattle.transactions.specs.Conditions.{IsTxnIn}
-use Rattle.transactions.specs.Recording.{IsRecorded}
-use Rattle.transactions.specs.Txn.{TxnSeen, transaction_of}
-use Rattle.transactions.proofs.Laws.{recorded_begun, recorded_written}
+use Rattle.session_turns.specs.Committing.{HasCommitted}
+use Rattle.session_turns.specs.Conditions.{IsTxnIn}
+use Rattle.session_turns.specs.Recording.{IsRecorded}
+use Rattle.session_turns.specs.Txn.{TxnSeen, transaction_of}
+use Rattle.session_turns.proofs.Laws.{recorded_begun, recorded_written}
 use Rattle.turn_book.specs.Passes.{BookView, PassView}
 
 -- a transaction that is begun here

@@ -2,8 +2,8 @@
 use Rattle.std.specs.Prelude.{ℕ, [], None, Result, Ok, Err}
 use Rattle.history.specs.Answers as body
 use Rattle.history.specs.Answers.{Body}
-use Rattle.state_resizes.specs.declared.error.ResizeError.{ResizeError}
-use Rattle.state_resizes.specs.declared.error.ResizeError.TheVariants as error
+use Rattle.session_turns.specs.declared.ResizeError.{ResizeError}
+use Rattle.session_turns.specs.declared.ResizeError.TheVariants as error
 
 -- the answer of a resize
 abbrev pub resized_answer : Result ℕ ResizeError → Body

@@ -1,22 +1,22 @@
 -- What a session answers to a line that commits, and what its transaction has recorded for that.
 use Rattle.std.specs.Prelude.{◌≡◌, ◌≢◌, ℕ, List, length, Option, Some, None, Result, Ok, Err}
-use Rattle.answer_text.specs.declared.answer.Body.{Body}
-use Rattle.answer_text.specs.declared.answer.Body.TheVariants.{Memory}
-use Rattle.commits.specs.Answers as commit
-use Rattle.commits.specs.declared.refused.CommitRefused.{CommitRefused}
+use Rattle.session_turns.specs.declared.Body.{Body}
+use Rattle.session_turns.specs.declared.Body.TheVariants.{Memory}
+use Rattle.session_turns.specs.CommitAnswers as commit
+use Rattle.session_turns.specs.declared.CommitRefused.{CommitRefused}
 use Rattle.history.specs.declared.event.Event.{Event}
 use Rattle.history.specs.Commit.{Transaction}
 use Rattle.history.specs.History.{History}
 use Rattle.history.specs.Lines.{committing}
 use Rattle.history.specs.Sessions.{Names}
-use Rattle.line_answers.specs.Bodies.{body_of}
+use Rattle.session_turns.specs.Bodies.{body_of}
 use Rattle.session_turns.specs.Standing.{session_state, transaction_in}
 use Rattle.session_turns.specs.Told.{IsToldBy}
-use Rattle.state_laws.specs.Agreement.{Opening}
-use Rattle.transactions.specs.Committing.{HasCommitted, left_after}
-use Rattle.transactions.specs.Conditions.{IsTxnIn}
-use Rattle.transactions.specs.Recording.{IsRecorded}
-use Rattle.transactions.specs.Txn.{TxnSeen, transaction_of}
+use Rattle.session_turns.specs.Agreement.{Opening}
+use Rattle.session_turns.specs.Committing.{HasCommitted, left_after}
+use Rattle.session_turns.specs.Conditions.{IsTxnIn}
+use Rattle.session_turns.specs.Recording.{IsRecorded}
+use Rattle.session_turns.specs.Txn.{TxnSeen, transaction_of}
 use Rattle.turn_book.specs.Passes.{BookView, PassView}
 
 -- where a transaction stands, what is staged and kept is right beside these events, and what its commit asks for is recorded

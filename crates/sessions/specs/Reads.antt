@@ -1,27 +1,27 @@
 -- What a session answers to a line that reads, and what its transaction is then.
 use Rattle.std.specs.Prelude.{◌≡◌, ◌≢◌, ◌⊎◌, ℕ, List, [], length, Option, Some, None}
-use Rattle.answer_text.specs.declared.answer.Body.{Body}
-use Rattle.answer_text.specs.declared.answer.Body.TheVariants.{StoreFailed, Shrunk, Memory}
+use Rattle.session_turns.specs.declared.Body.{Body}
+use Rattle.session_turns.specs.declared.Body.TheVariants.{StoreFailed, Shrunk, Memory}
 use Rattle.history.specs.declared.event.Event.{Event}
 use Rattle.history.specs.Acts.{Asked, without}
 use Rattle.history.specs.Commit.{Transaction}
 use Rattle.history.specs.Lines.{Downsampling, Line}
 use Rattle.history.specs.Sessions.{Names}
 use Rattle.history.specs.Viewing.{cell_fault, values_body}
-use Rattle.line_answers.specs.Bodies.{body_of}
-use Rattle.line_answers.specs.Causes.{damage_body}
-use Rattle.line_forms.specs.declared.command.DownWant.{DownWant}
+use Rattle.session_turns.specs.Bodies.{body_of}
+use Rattle.session_turns.specs.Causes.{damage_body}
+use Rattle.line_meanings.specs.declared.DownWant.{DownWant}
 use Rattle.session_turns.specs.Standing.{session_state, transaction_in}
 use Rattle.session_turns.specs.Told.{IsAnswerTo, IsToldBy}
 use Rattle.stack_driver.specs.Views.{look_of}
 use Rattle.stack_driver.specs.declared.view.View.{View}
-use Rattle.state_laws.specs.Agreement.{Opening}
-use Rattle.transactions.specs.Faults.{IsFaultOf}
-use Rattle.transactions.specs.Reading.{HasRead, IsFoundUnless, IsReadError}
-use Rattle.transactions.specs.Turns.{HasPassed}
-use Rattle.transactions.specs.Txn.{TxnSeen}
-use Rattle.transactions.specs.declared.error.ReadError.{ReadError}
-use Rattle.transactions.specs.declared.error.ReadError.TheVariants as read
+use Rattle.session_turns.specs.Agreement.{Opening}
+use Rattle.session_turns.specs.Faults.{IsFaultOf}
+use Rattle.session_turns.specs.Reading.{HasRead, IsFoundUnless, IsReadError}
+use Rattle.session_turns.specs.TxnTurns.{HasPassed}
+use Rattle.session_turns.specs.Txn.{TxnSeen}
+use Rattle.session_turns.specs.declared.ReadError.{ReadError}
+use Rattle.session_turns.specs.declared.ReadError.TheVariants as read
 use Rattle.turn_book.specs.Passes.{BookView, PassView}
 
 -- a read that is downsampled has a factor for each dimension

@@ -1,14 +1,14 @@
 -- What a session answers to a line that writes outside of a transaction.
 use Rattle.std.specs.Prelude.{◌≡◌, ℕ, List, Result}
-use Rattle.answer_text.specs.declared.answer.Body.{Body}
-use Rattle.commits.specs.Answers as commit
-use Rattle.commits.specs.declared.refused.CommitRefused.{CommitRefused}
+use Rattle.session_turns.specs.declared.Body.{Body}
+use Rattle.session_turns.specs.CommitAnswers as commit
+use Rattle.session_turns.specs.declared.CommitRefused.{CommitRefused}
 use Rattle.history.specs.declared.event.Event.{Event}
 use Rattle.history.specs.Commit.{Transaction}
 use Rattle.history.specs.Steps.{as_written}
-use Rattle.line_answers.specs.Bodies.{body_of}
-use Rattle.state_laws.specs.Agreement.{Opening}
-use Rattle.transactions.specs.Committing.{HasCommitted}
+use Rattle.session_turns.specs.Bodies.{body_of}
+use Rattle.session_turns.specs.Agreement.{Opening}
+use Rattle.session_turns.specs.Committing.{HasCommitted}
 use Rattle.turn_book.specs.Passes.{BookView, PassView}
 
 -- a transaction was committed or refused, which is printed as of a write of so many cells

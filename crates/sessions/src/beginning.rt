@@ -8,13 +8,12 @@ ghost use Rattle.history.specs.Sessions.{Names};
 ghost use Rattle.sessions.specs.Commits.{HasSoundTxn};
 ghost use Rattle.session_turns.specs.Standing.{session_state, transaction_in};
 ghost use Rattle.session_turns.specs.Told.{IsToldAlone};
-ghost use Rattle.state_laws.specs.Agreement.{Opening};
-ghost use Rattle.state_laws.specs.Outline.{outline};
+ghost use Rattle.session_turns.specs.Agreement.{Opening};
+ghost use Rattle.session_turns.specs.Outline.{outline};
 
-use answer_text::Body;
 use history::Mode;
+use session_turns::{Body, Txn};
 use std::alloc::Global;
-use transactions::Txn;
 
 /// Begins a transaction at a line, where none stands. No turn is taken.
 pub fn begin(alloc: Global, line: u64, mode: Mode, txn: &mut Option<Txn>) -> Body

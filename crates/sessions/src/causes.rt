@@ -11,9 +11,9 @@ ghost use Rattle.session_turns.specs.Told.{IsAnswerTo};
 ghost use Rattle.stack_driver.specs.declared.view.View.{View};
 ghost use Rattle.transform_composition.specs.declared.error.ComposeError.TheVariants as compose;
 
-use answer_text::Body;
 use dim_expressions::ApplyError;
 use layer_join::JoinError;
+use session_turns::Body;
 use transform_composition::ComposeError;
 
 /// The answer where a view isn't seen through a transform.

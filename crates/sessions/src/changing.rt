@@ -10,9 +10,9 @@ ghost use Rattle.stack_driver.specs.declared.view.View.{View as ViewOf};
 ghost use Rattle.step_forms.specs.Given.{IsGiven};
 
 use crate::causes::{applied_body, composed_body};
-use answer_text::Body;
 use dim_expressions::apply;
 use index_transform::Transform;
+use session_turns::Body;
 use stack_driver::{View, set_transform, transform_of, with_transform};
 use std::alloc::Global;
 use step_forms::Step;

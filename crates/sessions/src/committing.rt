@@ -1,19 +1,15 @@
 // Commits.
 ghost use Rattle.std.specs.Prelude.{◌≡◌, None, Some, Err};
-ghost use Rattle.commits.specs.Answers as commit_answers;
-ghost use Rattle.line_answers.specs.Bodies.{body_of};
+ghost use Rattle.session_turns.specs.CommitAnswers as commit_answers;
+ghost use Rattle.session_turns.specs.Bodies.{body_of};
 ghost use Rattle.session_turns.specs.Turns.{IsRested, HasPassed};
 ghost use Rattle.sessions.specs.Commits.{HasSoundTxn, IsCommittedAs, IsCommitTold};
 ghost use Rattle.turn_book.specs.Passes.{IsIdle};
 
-use answer_text::Body;
-use commits::CommitRefused;
 use kv_face::KvStore;
-use line_answers::damaged;
-use shared_state::State;
+use session_turns::{Body, CommitError, CommitRefused, Gate, State, Txn, damaged};
 use std::alloc::Global;
 use std::sync::Wait;
-use transactions::{CommitError, Gate, Txn};
 use turn_book::{Pass, TurnBook};
 
 /// Commits the transaction that stands. It stands on where a chunk was damaged, and where the store failed before anything of it was

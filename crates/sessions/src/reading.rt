@@ -1,6 +1,6 @@
 // Reads.
 ghost use Rattle.std.specs.Prelude.{◌≡◌, ◌⊎◌, Ok, Err, None, Some, Option, All, IfOk, IfErr, OnOk, length, true, false};
-ghost use Rattle.answer_text.specs.declared.answer.Body.TheVariants as printed;
+ghost use Rattle.session_turns.specs.declared.Body.TheVariants as printed;
 ghost use Rattle.history.specs.Acts.{Asked, reads, read_of, without, with_factors, act_of};
 ghost use Rattle.history.specs.Answers as old_answers;
 ghost use Rattle.history.specs.Bound.{AreKnownNames};
@@ -12,8 +12,8 @@ ghost use Rattle.history.specs.Sessions.{Names as NamesOf};
 ghost use Rattle.history.specs.Viewing.{cell_fault, origin_of as origin_in, shape_of as sizes_of, values_body};
 ghost use Rattle.index_transform.specs.Cells.{cells_of, count_answer};
 ghost use Rattle.indexmap.specs.IndexMap.{get_by_text};
-ghost use Rattle.line_answers.specs.Bodies.{body_of};
-ghost use Rattle.line_forms.specs.Form.{HasFactors, MayHaveFactors};
+ghost use Rattle.session_turns.specs.Bodies.{body_of};
+ghost use Rattle.line_meanings.specs.Form.{HasFactors, MayHaveFactors};
 ghost use Rattle.line_meanings.specs.Changes.{changes_of};
 ghost use Rattle.line_meanings.specs.Numbers.{downsampling, downsampling_of};
 ghost use Rattle.session_turns.specs.Turns.{IsRested, HasPassed};
@@ -24,26 +24,22 @@ ghost use Rattle.session_turns.specs.Told.{IsAnswerTo};
 ghost use Rattle.stack_driver.specs.Conditions.{IsView};
 ghost use Rattle.stack_driver.specs.Views.{look_of};
 ghost use Rattle.step_forms.specs.Given.{IsGiven};
-ghost use Rattle.transactions.specs.Conditions.{IsTxnIn};
+ghost use Rattle.session_turns.specs.Conditions.{IsTxnIn};
 ghost use Rattle.transform_composition.specs.declared.error.ComposeError.TheVariants as compose;
 ghost use Rattle.turn_book.specs.Passes.{IsIdle};
 
 use crate::writing::seen;
-use answer_text::Body;
 use cells::{Index, List, Sizes, Words};
 use downsample_view::down as downsampled;
 use history::Mode;
 use index_transform::size_of;
 use kv_face::KvStore;
-use line_answers::damaged;
-use line_forms::DownWant;
-use session_turns::{Names, counted, fault_body};
-use shared_state::State;
+use line_meanings::DownWant;
+use session_turns::{Body, Gate, Names, ReadError, State, Txn, counted, damaged, fault_body};
 use stack_driver::{View, dtype, transform_of};
 use std::alloc::{AllocError, Global};
 use std::sync::Wait;
 use step_forms::Step;
-use transactions::{Gate, ReadError, Txn};
 use transform_composition::ComposeError;
 use turn_book::{Pass, TurnBook};
 

@@ -1,7 +1,7 @@
 // Writes.
 ghost use Rattle.std.specs.Prelude.{◌≡◌, ◌≢◌, ℕ, Ok, None, Some, All, length};
 ghost use Rattle.std.specs.List.{AllByRecursion};
-ghost use Rattle.answer_text.specs.declared.answer.Body.TheVariants as printed;
+ghost use Rattle.session_turns.specs.declared.Body.TheVariants as printed;
 ghost use Rattle.cells.specs.Numbers.{IsWord};
 ghost use Rattle.history.specs.Acts.{stages, without, act_of};
 ghost use Rattle.history.specs.Bound.{AreKnownNames};
@@ -21,21 +21,18 @@ ghost use Rattle.session_turns.specs.Standing.{session_state, transaction_in, Ar
 ghost use Rattle.session_turns.specs.Told.{IsToldAlone, IsToldBy};
 ghost use Rattle.stack_driver.specs.Conditions.{IsView};
 ghost use Rattle.stack_driver.specs.Views.{look_of};
-ghost use Rattle.state_laws.specs.Agreement.{Opening};
+ghost use Rattle.session_turns.specs.Agreement.{Opening};
 ghost use Rattle.step_forms.specs.Given.{IsGiven};
-ghost use Rattle.transactions.specs.Conditions.{IsTxnIn, MayUse};
-ghost use Rattle.transactions.specs.Txn.{transaction_of};
+ghost use Rattle.session_turns.specs.Conditions.{IsTxnIn, MayUse};
+ghost use Rattle.session_turns.specs.Txn.{transaction_of};
 
 use crate::writing::{Worded, taken_write, unwritten, write_alone};
-use answer_text::Body;
 use kv_face::KvStore;
 use serde_json::Value;
-use session_turns::Names;
-use shared_state::State;
+use session_turns::{Body, Gate, Names, State, Txn};
 use std::alloc::Global;
 use std::sync::Wait;
 use step_forms::Step;
-use transactions::{Gate, Txn};
 use turn_book::{Pass, TurnBook};
 
 /// Writes values to a view: they are staged in the transaction that stands, and are a transaction of their own where none does.

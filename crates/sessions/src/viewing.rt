@@ -12,12 +12,11 @@ ghost use Rattle.session_turns.specs.Standing.{session_state, transaction_in, Ar
 ghost use Rattle.session_turns.specs.Told.{IsToldAlone, IsAnswerTo};
 ghost use Rattle.stack_driver.specs.Conditions.{IsView};
 ghost use Rattle.step_forms.specs.Given.{IsGiven};
-ghost use Rattle.transactions.specs.Txn.{TxnSeen};
+ghost use Rattle.session_turns.specs.Txn.{TxnSeen};
 
 use crate::changing::changed;
-use answer_text::Body;
 use index_transform::Transform;
-use session_turns::{Names, bound, named};
+use session_turns::{Body, Names, bound, named};
 use stack_driver::View;
 use std::alloc::Global;
 use step_forms::Step;

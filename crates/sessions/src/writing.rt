@@ -4,7 +4,7 @@ ghost use Rattle.std.specs.FinMap as finmap;
 ghost use Rattle.std.specs.List.{AllByRecursion};
 ghost use Rattle.cells.specs.Numbers.{IsWord};
 ghost use Rattle.cells.specs.Places.{cell_count};
-ghost use Rattle.commits.specs.Answers as commit_answers;
+ghost use Rattle.session_turns.specs.CommitAnswers as commit_answers;
 ghost use Rattle.history.specs.Acts.{Asked, changed as changed_by, named as only_named, with_changes, with_values, without, write_act, act_of};
 ghost use Rattle.history.specs.Bound.{AreKnownNames};
 ghost use Rattle.history.specs.Commit.{Transaction};
@@ -17,7 +17,7 @@ ghost use Rattle.history.specs.Steps.{write_alone as alone};
 ghost use Rattle.history.specs.Viewing.{shape_of as sizes_of, view_fault, cell_fault};
 ghost use Rattle.index_transform.specs.Cells.{cells_of, count_answer};
 ghost use Rattle.indexmap.specs.IndexMap.{get_by_text};
-ghost use Rattle.line_answers.specs.Bodies.{body_of};
+ghost use Rattle.session_turns.specs.Bodies.{body_of};
 ghost use Rattle.line_meanings.specs.Changes.{changes_of};
 ghost use Rattle.line_meanings.specs.Numbers.{values_of};
 ghost use Rattle.script_lines.specs.NestedWords.{words_of};
@@ -30,29 +30,28 @@ ghost use Rattle.sessions.specs.Writes.{IsWrittenAs};
 ghost use Rattle.stack_driver.specs.Conditions.{IsView};
 ghost use Rattle.stack_driver.specs.Views.{look_of};
 ghost use Rattle.stack_driver.specs.declared.view.View.{View as ViewOf};
-ghost use Rattle.state_laws.specs.Agreement.{Opening};
-ghost use Rattle.state_laws.specs.Outline.{outline};
+ghost use Rattle.session_turns.specs.Agreement.{Opening};
+ghost use Rattle.session_turns.specs.Outline.{outline};
 ghost use Rattle.step_forms.specs.Given.{IsGiven};
-ghost use Rattle.transactions.specs.Faults.{IsLocateFault};
-ghost use Rattle.transactions.specs.Txn.{transaction_of};
+ghost use Rattle.session_turns.specs.Faults.{IsLocateFault};
+ghost use Rattle.session_turns.specs.Txn.{transaction_of};
 ghost use Rattle.turn_book.specs.Passes.{IsIdle};
 
 use crate::changing::changed;
 use crate::committing::refused_body;
-use answer_text::Body;
 use cells::{Dtype, Words};
 use history::Mode;
 use index_transform::size_of;
 use kv_face::KvStore;
 use script_lines::{ValuesError, words_of_values};
 use serde_json::Value;
-use session_turns::{Names, counted, fault_body, named};
-use shared_state::State;
+use session_turns::{
+    Body, CommitError, Gate, Names, State, Txn, WriteError, counted, fault_body, named,
+};
 use stack_driver::{View, dtype, transform_of};
 use std::alloc::{AllocError, Global};
 use std::sync::Wait;
 use step_forms::Step;
-use transactions::{CommitError, Gate, Txn, WriteError};
 use turn_book::{Pass, TurnBook};
 
 /// A view, and a word for each of its cells in C order.

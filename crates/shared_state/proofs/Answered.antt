@@ -1,14 +1,14 @@
 -- What opening a leaf that the history doesn't have answers.
 use Rattle.std.proofs.Common.{◌≡◌, ◌≢◌, ℕ, ◌+◌, List, [], ◌∷◌, ◌++◌, length, Option, Some, None, inl, inr, refl, sym, ap, subst, ◌∙◌}
 use Rattle.std.specs.Prelude.{Result, Ok, Err, IfOk, OnOk, OnErr, count_by}
-use Rattle.chunk_forms.specs.declared.form.Form.{Form}
-use Rattle.chunk_forms.specs.Metadata.{shape_of}
+use Rattle.state_laws.specs.declared.Form.{Form}
+use Rattle.state_laws.specs.Metadata.{shape_of}
 use Rattle.kv_face.specs.Store.{Contents}
-use Rattle.array_homes.specs.Homes.{info_at, reference_of}
-use Rattle.array_homes.specs.Opening.{Tells}
-use Rattle.array_homes.specs.declared.deciding.Decided.{Decided}
-use Rattle.array_homes.specs.declared.deciding.OpeningRefusal.{OpeningRefusal}
-use Rattle.array_homes.specs.declared.deciding.OpeningRefusal.TheVariants as refusal
+use Rattle.state_laws.specs.Homes.{info_at, reference_of}
+use Rattle.state_laws.specs.Opening.{Tells}
+use Rattle.state_laws.specs.declared.Decided.{Decided}
+use Rattle.state_laws.specs.declared.OpeningRefusal.{OpeningRefusal}
+use Rattle.state_laws.specs.declared.OpeningRefusal.TheVariants as refusal
 use Rattle.history.specs.History.{History}
 use Rattle.history.specs.Arrays.{Known}
 use Rattle.history.specs.Leaves.{Leaf, nothing, location_of_leaf, metadata_key_asked}

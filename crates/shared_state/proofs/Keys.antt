@@ -1,7 +1,7 @@
 -- The key of a stored array's metadata.
 use Rattle.std.proofs.Common.{◌≡◌, ◌≢◌, ℕ, List, None, false}
 use Rattle.std.specs.Option.{option_map}
-use Rattle.chunk_forms.specs.Names.{metadata_name}
+use Rattle.state_laws.specs.FormNames.{metadata_name}
 use Rattle.history.specs.declared.array.Home.{Home}
 use Rattle.history.specs.declared.array.Home.TheVariants.{Zarr, N5, Zarr3, Local}
 use Rattle.history.specs.Arrays.{form_of, is_local}

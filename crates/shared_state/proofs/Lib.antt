@@ -4,3 +4,4 @@ pub mod Answered
 pub mod Beside
 pub mod Written
 pub mod Keys
+pub mod Laws

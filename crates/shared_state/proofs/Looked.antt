@@ -2,7 +2,7 @@
 use Rattle.std.proofs.Common.{◌≡◌, ℕ, List, true, false, Bool, cond, Some, None, refl, sym, ap, ◌∙◌}
 use Rattle.chunk_cache.specs.Cache.{kept}
 use Rattle.chunk_cache.specs.Snapshot.{SnapshotCells}
-use Rattle.chunk_forms.specs.declared.form.Damage.{Damage}
+use Rattle.state_laws.specs.declared.Damage.{Damage}
 use Rattle.history.specs.declared.array.Home.{Home}
 use Rattle.history.specs.declared.array.Home.TheVariants.{Zarr, N5, Zarr3, Local}
 use Rattle.history.specs.Arrays.{Known, known_after, is_local}

@@ -8,7 +8,7 @@ ghost use Rattle.state_laws.specs.Fetches.{IsChunkOf};
 
 use crate::state::State;
 use kv_face::{Change, KvStore};
-use state_parts::{is_index_of, together};
+use state_laws::{is_index_of, together};
 
 impl<K: KvStore> State<K> {
     /// Whether the run has an array of this number.

@@ -13,8 +13,7 @@ ghost use Rattle.state_laws.specs.Fetches.{HasFailed};
 use crate::state::State;
 use cells::Name;
 use kv_face::{Change, KvError, KvStore};
-use state_laws::{ChangeError, Deed};
-use state_parts::{apply, enter_commit, prepare_all};
+use state_laws::{ChangeError, Deed, apply, enter_commit, prepare_all};
 use std::alloc::AllocError;
 
 impl<K: KvStore> State<K> {

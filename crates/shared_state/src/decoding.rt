@@ -2,7 +2,7 @@
 ghost use Rattle.std.specs.Prelude.{◌≡◌, ◌≢◌, ℕ, List, Some, None, Err, IfOk, OnOk, OnErr, IsSome, false, option_map, string_bytes};
 ghost use Rattle.std.specs.FinMap as finmap;
 ghost use Rattle.chunk_cache.specs.Cache.{kept};
-ghost use Rattle.chunk_forms.specs.declared.form.Damage.{Damage as DamageOf};
+ghost use Rattle.state_laws.specs.declared.Damage.{Damage as DamageOf};
 ghost use Rattle.kv_face.specs.Store.{Contents};
 ghost use Rattle.history.specs.Arrays.{Known, known_after, is_local};
 ghost use Rattle.history.specs.Chunks.{chunk_key};
@@ -14,10 +14,8 @@ ghost use Rattle.state_laws.specs.Looks.{HasBounds, IsFailedLook};
 use crate::state::State;
 use cells::{Dense, Name};
 use chunk_cache::Snapshot;
-use chunk_forms::FormError;
 use kv_face::KvStore;
-use state_laws::{Bounds, FetchError, Fetched, GetError};
-use state_parts::decode;
+use state_laws::{Bounds, FetchError, Fetched, FormError, GetError, decode};
 use std::sync::Arc;
 
 impl<K: KvStore> State<K> {

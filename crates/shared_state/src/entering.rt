@@ -13,8 +13,7 @@ ghost use Rattle.state_laws.specs.Placed.{IsNext, entered};
 use crate::state::State;
 use cells::Name;
 use kv_face::{Change, KvStore};
-use state_laws::{NewArray, OpenError, Opened};
-use state_parts::{add_new, make_place, write_array};
+use state_laws::{NewArray, OpenError, Opened, add_new, make_place, write_array};
 
 impl<K: KvStore> State<K> {
     /// Enters an array whose metadata the store has.

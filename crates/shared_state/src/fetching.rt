@@ -1,7 +1,7 @@
 // Reading a chunk.
 ghost use Rattle.std.specs.Prelude.{◌≡◌, ◌≢◌, ℕ, List, Some, None, Err, IfOk, OnOk, OnErr, IsSome, false, option_map};
 ghost use Rattle.std.specs.FinMap as finmap;
-ghost use Rattle.chunk_forms.specs.declared.form.Damage.{Damage as DamageOf};
+ghost use Rattle.state_laws.specs.declared.Damage.{Damage as DamageOf};
 ghost use Rattle.kv_face.specs.Store.{Contents};
 ghost use Rattle.history.specs.Arrays.{Known, known_after, is_local};
 ghost use Rattle.history.specs.Chunks.{chunk_key};
@@ -13,11 +13,9 @@ ghost use Rattle.state_laws.specs.Looks.{HasBounds, IsLook, IsFailedLook};
 ghost use Rattle.chunk_cache.specs.Cache.{kept};
 
 use crate::state::State;
-use array_homes::mount_of;
-use cells::Name;
+use cells::{Name, copy_name};
 use kv_face::KvStore;
-use state_laws::{Bounds, FetchError, GetError, Look};
-use state_parts::{copy_name, listed};
+use state_laws::{Bounds, FetchError, GetError, Look, listed, mount_of};
 use std::alloc::AllocError;
 
 impl<K: KvStore> State<K> {

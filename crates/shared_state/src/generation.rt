@@ -1,6 +1,6 @@
 // The generation of any key.
 ghost use Rattle.std.specs.Prelude.{◌≡◌, ◌≢◌, ◌<◌, ◌^◌, ℕ, length, None, Some, IfSome, IsSome};
-ghost use Rattle.array_homes.specs.Names.{local_key};
+ghost use Rattle.state_laws.specs.Names.{local_key};
 ghost use Rattle.kv_face.specs.Store.{Contents};
 ghost use Rattle.history.specs.Arrays.{Known, known_after};
 ghost use Rattle.history.specs.Chunks.{Chunk};
@@ -10,9 +10,8 @@ ghost use Rattle.state_laws.specs.Fetches.{generation_in};
 ghost use Rattle.state_laws.specs.Keyed.{IsKeyIn, IsNobodys};
 
 use crate::state::State;
-use array_homes::{is_chunk_name, local_number};
 use kv_face::KvStore;
-use state_parts::{local_at, name_in};
+use state_laws::{is_chunk_name, local_at, local_number, name_in};
 
 impl<K: KvStore> State<K> {
     /// The stored array one of whose chunks has the key.

@@ -7,9 +7,9 @@ ghost use Rattle.state_laws.specs.Agreement.{IsState, KeepsAgreement};
 ghost use Rattle.state_laws.specs.Fetches.{IsAnswered, IsChunkOf, IsNamed, KeepsSettled, kept_of, looked_at, settled};
 
 use crate::state::State;
-use array_homes::is_local;
 use chunk_cache::Snapshot;
 use kv_face::KvStore;
+use state_laws::is_local;
 use std::alloc::AllocError;
 
 impl<K: KvStore> State<K> {

@@ -1,7 +1,7 @@
 // Opening an array of a store.
 ghost use Rattle.std.specs.Prelude.{◌≡◌, ◌<◌, ℕ, length, Some, None, Err, IfOk, OnErr, IsSome, option_map};
 ghost use Rattle.std.specs.FinMap as finmap;
-ghost use Rattle.array_homes.specs.Opening.{leaf_at};
+ghost use Rattle.state_laws.specs.Opening.{leaf_at};
 ghost use Rattle.kv_face.specs.Store.{Contents};
 ghost use Rattle.stack_driver.specs.References.{IsReference};
 ghost use Rattle.history.specs.Arrays.{Known, known_after, ref_of};
@@ -15,12 +15,13 @@ ghost use Rattle.state_laws.specs.Openings.{IsOpening, AnswersKnown, IsBeside};
 ghost use Rattle.state_laws.specs.Placed.{place_at};
 
 use crate::state::State;
-use array_homes::{Decided, array_ref};
-use chunk_forms::{Want, mismatch};
+use cells::copy_name;
 use kv_face::KvStore;
 use locations::Found;
-use state_laws::{GetError, OpenError, Opened, Place};
-use state_parts::{copy_name, decided, place_of, refused};
+use state_laws::{
+    Decided, GetError, OpenError, Opened, Place, Want, array_ref, decided, mismatch, place_of,
+    refused,
+};
 
 impl<K: KvStore> State<K> {
     /// Opens an array of a store, by what is asked of it: an array of the run, one whose metadata the store has, or a new one,

@@ -7,10 +7,9 @@ ghost use Rattle.state_laws.specs.Placed.{IsGiven, entered};
 
 use crate::state::State;
 use cells::Dense;
-use chunk_cache::Snapshot;
+use chunk_cache::{Snapshot, as_snapshot};
 use kv_face::KvStore;
-use state_laws::{NewArray, Opened};
-use state_parts::{add_given, as_snapshot, given_array};
+use state_laws::{NewArray, Opened, add_given, given_array};
 use std::alloc::AllocError;
 
 impl<K: KvStore> State<K> {

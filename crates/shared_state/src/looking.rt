@@ -2,16 +2,13 @@
 ghost use Rattle.std.specs.Prelude.{◌≡◌, Some, IfOk, IsSome, false, string_bytes};
 ghost use Rattle.history.specs.Arrays.{Known, known_after, form_of, is_local};
 ghost use Rattle.history.specs.Chunks.{chunk_key, metadata_key};
-ghost use Rattle.chunk_forms.specs.Metadata.{with_shape};
+ghost use Rattle.state_laws.specs.Metadata.{with_shape};
 ghost use Rattle.state_laws.specs.Fetches.{IsChunkOf, bounds_in};
 
 use crate::state::State;
-use array_homes::{chunk_key, metadata_key};
-use cells::Name;
-use chunk_forms::Form;
+use cells::{Name, copy_sizes};
 use kv_face::KvStore;
-use state_laws::Bounds;
-use state_parts::copy_sizes;
+use state_laws::{Bounds, Form, chunk_key, metadata_key};
 use std::alloc::AllocError;
 
 impl<K: KvStore> State<K> {

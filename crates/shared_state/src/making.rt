@@ -1,9 +1,9 @@
 // New arrays of a store, found or made.
 ghost use Rattle.std.specs.Prelude.{◌≡◌, ◌+◌, ℕ, List, length, None, Some, Err, IfOk, OnOk, OnErr, true, count_by};
 ghost use Rattle.std.specs.FinMap as finmap;
-ghost use Rattle.array_homes.specs.Homes.{info_at, reference_of};
-ghost use Rattle.chunk_forms.specs.Metadata.{shape_of, IsMetadata};
-ghost use Rattle.chunk_forms.specs.Wants.{is_asked_form};
+ghost use Rattle.state_laws.specs.Homes.{info_at, reference_of};
+ghost use Rattle.state_laws.specs.Metadata.{shape_of, IsMetadata};
+ghost use Rattle.state_laws.specs.Wants.{is_asked_form};
 ghost use Rattle.kv_face.specs.Store.{Contents};
 ghost use Rattle.history.specs.Legal.{IsMount, is_opening};
 ghost use Rattle.history.specs.Places.{IsFree};
@@ -14,10 +14,9 @@ ghost use Rattle.state_laws.specs.Openings.{IsStoreError};
 ghost use Rattle.state_laws.specs.Placed.{place_at, entered};
 
 use crate::state::State;
-use chunk_forms::{Form, Want};
+use cells::copy_name;
 use kv_face::KvStore;
-use state_laws::{OpenError, Opened, Place};
-use state_parts::{copy_name, metadata_change, new_array};
+use state_laws::{Form, OpenError, Opened, Place, Want, metadata_change, new_array};
 
 impl<K: KvStore> State<K> {
     /// Enters an array whose metadata the store has.

@@ -1,7 +1,7 @@
 // Giving an array a new shape.
 ghost use Rattle.std.specs.Prelude.{◌≡◌, ◌≤◌, ◌<◌, ◌+◌, ℕ, length, Some, Err, IfOk, OnOk, OnErr, false};
 ghost use Rattle.std.specs.List.{AllByRecursion};
-ghost use Rattle.chunk_forms.specs.Metadata.{with_shape};
+ghost use Rattle.state_laws.specs.Metadata.{with_shape};
 ghost use Rattle.kv_face.specs.Store.{Contents, OneMore, after};
 ghost use Rattle.history.specs.Arrays.{Known, known_after, form_of, is_local};
 ghost use Rattle.state_laws.specs.Numbers.{IsPrepared, KeepsPrepared};
@@ -12,8 +12,7 @@ ghost use Rattle.state_laws.specs.Fetches.{HasFailed};
 
 use crate::state::State;
 use kv_face::{Change, KvError, KvStore};
-use state_laws::{ChangeError, NewShape};
-use state_parts::{apply, enter_shape};
+use state_laws::{ChangeError, NewShape, apply, enter_shape};
 
 impl<K: KvStore> State<K> {
     /// Gives a stored array a new shape, by changes that the store makes together, and adds its event, whose number it gives. Room

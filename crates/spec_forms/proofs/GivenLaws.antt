@@ -11,7 +11,7 @@ use Rattle.cells.specs.Numbers.{IsWord}
 use Rattle.cells.specs.Places.{cell_count}
 use Rattle.cells.specs.declared.dtype.Dtype.{Dtype}
 use Rattle.cells.proofs.Laws.{some_from_then}
-use Rattle.chunk_forms.specs.Made.{default_chunks}
+use Rattle.want_forms.specs.Made.{default_chunks}
 use Rattle.json_forms.specs.Lists.{list_items, all_of}
 use Rattle.json_forms.specs.Numbers.{whole_number}
 use Rattle.meta_forms.specs.declared.error.Fault.{Fault}

@@ -4,8 +4,8 @@ use Rattle.std.specs.Prelude.{codes, not, ◌||◌, option_and_then, unwrap_or, 
 use Rattle.serde_json.specs.Data.{Data}
 use Rattle.serde_json.specs.Find.{get, as_object, as_str}
 use Rattle.cells.proofs.Laws.{some_from_then}
-use Rattle.chunk_forms.specs.declared.form.Want.{Want}
-use Rattle.chunk_forms.specs.declared.form.Want.TheVariants as want
+use Rattle.want_forms.specs.declared.Want.{Want}
+use Rattle.want_forms.specs.declared.Want.TheVariants as want
 use Rattle.json_forms.specs.Members.{is_among, least_unknown}
 use Rattle.meta_forms.specs.Judged.{text_in}
 use Rattle.meta_forms.specs.declared.error.Fault.{Fault}

@@ -4,7 +4,7 @@ use Rattle.serde_json.specs.Data.{Data}
 use Rattle.serde_json.specs.Find.{get, as_str, as_bool}
 use Rattle.cells.specs.DtypeNames.{dtype_named}
 use Rattle.cells.specs.declared.dtype.Dtype.{Dtype}
-use Rattle.chunk_forms.specs.Wants.{same_dtype}
+use Rattle.want_forms.specs.FormWants.{same_dtype}
 use Rattle.index_transform.specs.Transforms.{DomainAndMaps}
 use Rattle.meta_forms.specs.declared.error.Fault.{Fault}
 use Rattle.meta_forms.specs.declared.error.Fault.TheVariants.{Bad, Unsupported}

@@ -5,7 +5,7 @@ use Rattle.serde_json.specs.Data.{Data}
 use Rattle.serde_json.specs.Find.{get}
 use Rattle.cells.specs.Places.{cell_count}
 use Rattle.cells.specs.declared.dtype.Dtype.{Dtype}
-use Rattle.chunk_forms.specs.Made.{default_chunks}
+use Rattle.want_forms.specs.Made.{default_chunks}
 use Rattle.json_forms.specs.Lists.{list_items, all_of}
 use Rattle.json_forms.specs.Numbers.{whole_number}
 use Rattle.meta_forms.specs.declared.error.Fault.{Fault}

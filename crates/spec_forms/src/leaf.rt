@@ -1,7 +1,5 @@
 use cells::{Dense, Name};
-use n5_blocks::N5Want;
-use zarr_chunks::ZarrWant;
-use zarr3_chunks::Zarr3Want;
+use want_forms::{N5Want, Zarr3Want, ZarrWant};
 
 /// An array that a Spec names.
 ///

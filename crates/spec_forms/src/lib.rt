@@ -21,3 +21,4 @@ pub use leaf::SpecLeaf;
 pub use members::{Tail, false_at, judged_dtype, required, tail_at};
 pub use places::{at_path, joined, judged_in_turn, none_before, own_fault};
 pub use stored::stored_at;
+pub use want_forms::Format;

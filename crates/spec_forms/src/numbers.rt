@@ -3,15 +3,14 @@ ghost use Rattle.std.specs.Prelude.{◌≡◌, ◌≤◌, ◌^◌, ◌++◌, [],
 ghost use Rattle.serde_json.specs.View.{view};
 ghost use Rattle.cells.specs.Numbers.{IsWord};
 ghost use Rattle.cells.specs.Places.{cell_count};
-ghost use Rattle.chunk_forms.specs.Made.{default_chunks};
+ghost use Rattle.want_forms.specs.Made.{default_chunks};
 ghost use Rattle.spec_forms.specs.Numbers.{nested_sizes, sizes_in, nested_words, numbers_in};
 
 use cells::{Dtype, MOST_CELLS, Sizes, Words, count_cells};
-use chunk_forms::default_chunks;
 use json_forms::{list_items, whole_number};
 use serde_json::Value;
 use std::alloc::{AllocError, Global};
-use want_forms::word_asked;
+use want_forms::{default_chunks, word_asked};
 
 /// Nested lists of one shape: their sizes, and a word for each number, in C order.
 #[derive(Debug, Drop)]

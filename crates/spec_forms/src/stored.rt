@@ -15,11 +15,10 @@ use crate::leaf::SpecLeaf;
 use crate::members::{agreeing, false_at, judged_dtype, judged_flag};
 use crate::places::{fault_at, joined, judged_in_turn, none_before, own_fault};
 use cells::{Dtype, Name};
-use chunk_forms::Want;
 use meta_forms::{Fault, MetaError};
 use serde_json::Value;
 use std::alloc::Global;
-use want_forms::Format;
+use want_forms::{Format, Want};
 
 /// The leaf of a stored array, whose members come in byte order.
 #[tactic(auto, unfolding(crate::specs::Stored::stored_at))]

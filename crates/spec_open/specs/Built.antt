@@ -2,7 +2,7 @@
 use Rattle.std.specs.Prelude.{ℕ, List, [], ◌∷◌, codes, slice_index_or, true, Option, Some, None, Result, Ok, Err, if◌then◌else◌}
 use Rattle.cells.specs.declared.dtype.Dtype.{Dtype}
 use Rattle.cells.specs.declared.dtype.Dtype.TheVariants.{I32}
-use Rattle.chunk_forms.specs.Wants.{same_dtype}
+use Rattle.spec_forms.specs.FormWants.{same_dtype}
 use Rattle.index_transform.specs.Transforms.{DomainAndMaps}
 use Rattle.transform_composition.specs.declared.error.ComposeError.{ComposeError}
 use Rattle.stack_driver.specs.Arrays.{whole_view}

@@ -7,7 +7,7 @@ use Rattle.json_forms.specs.Members.{least_unknown}
 use Rattle.meta_forms.specs.Judged.{text_in}
 use Rattle.meta_forms.specs.declared.error.Fault.{Fault}
 use Rattle.meta_forms.specs.declared.error.Fault.TheVariants.{Bad, Unsupported}
-use Rattle.want_forms.specs.declared.format.Format.TheVariants as format
+use Rattle.spec_forms.specs.declared.Format.TheVariants as format
 use Rattle.spec_open.specs.declared.driver.Driver.{Driver}
 use Rattle.spec_open.specs.declared.driver.Driver.TheVariants.{Stored, Array, Cast, Stack}
 use Rattle.spec_forms.specs.declared.error.SpecError.{SpecError}

@@ -6,9 +6,8 @@ ghost use Rattle.spec_forms.specs.declared.error.SpecError.{SpecError};
 
 use meta_forms::{Fault, text_in};
 use serde_json::Value;
-use spec_forms::{SpecError, at_path, own_fault};
+use spec_forms::{Format, SpecError, at_path, own_fault};
 use std::alloc::Global;
-use want_forms::Format;
 
 /// The drivers of Specs.
 #[derive(Clone, Copy, Debug, PartialEq, Eq)]

@@ -16,9 +16,10 @@ use cells::Name;
 use json_forms::{least_unknown, list_items};
 use meta_forms::Fault;
 use serde_json::Value;
-use spec_forms::{SpecError, SpecLeaf, Tail, given_at, joined, own_fault, stored_at, tail_at};
+use spec_forms::{
+    Format, SpecError, SpecLeaf, Tail, given_at, joined, own_fault, stored_at, tail_at,
+};
 use std::alloc::{AllocError, Global};
-use want_forms::Format;
 
 const MOST_LEAVES: usize = 256;
 

@@ -3,7 +3,7 @@ use Rattle.std.proofs.Common.{◌≡◌, ◌<◌, ◌∙◌, ℕ, ℤ, false, Li
 use Rattle.std.specs.Prelude.{slice_index_or}
 use Rattle.cells.specs.declared.dtype.Dtype.{Dtype}
 use Rattle.cells.proofs.Laws.{else_from}
-use Rattle.index_intervals.specs.Bounds.{Bounds}
+use Rattle.index_transform.specs.Bounds.{Bounds}
 use Rattle.index_transform.specs.Transforms.{DomainAndMaps}
 use Rattle.index_transform.specs.Values.{value_at}
 use Rattle.stack_driver.specs.References.{Reference}

@@ -8,3 +8,6 @@ pub use Rattle.stack_driver.proofs.Moves.{Moves, moves}
 pub use Rattle.stack_driver.proofs.Renewals.{array-Leaf, array-Cast, renewed-Leaf, renewed-Cast, renewed-Stack}
 pub use Rattle.stack_driver.proofs.StackRules.{layers_alike, length-stacked_dims, length-stacked_labels}
 pub use Rattle.stack_driver.proofs.StackTargets.{last_targets}
+-- laws of crates below, given on to those above
+pub use Rattle.cast_driver.proofs.Laws.{IsWord-word_back}
+pub use Rattle.index_transform.proofs.Laws.{length-cells_of}

@@ -3,7 +3,7 @@ use Rattle.std.proofs.Common.{◌≡◌, ◌≢◌, ◌<◌, ◌∙◌, ◌+◌,
 use Rattle.std.proofs.lemmas.List.{map_more, get_or-take, get_or_default, length-take-le}
 use Rattle.std.specs.List.{position_from, zip, list_all}
 use Rattle.std.specs.Prelude.{int_le}
-use Rattle.index_intervals.specs.Bounds.{Bounds, is_index}
+use Rattle.index_transform.specs.Bounds.{Bounds, is_index}
 use Rattle.index_transform.specs.Transforms.{DomainAndMaps}
 use Rattle.index_transform.specs.Values.{is_effective, value_at, first_overflow, unless_overflow, unless_outside, numbers_of, at_answer}
 use Rattle.index_transform.specs.declared.error.AtError.TheVariants.{OutOfRange, Overflow}

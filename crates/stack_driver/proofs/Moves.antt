@@ -1,7 +1,7 @@
 -- The targets of a view under another own transform.
 use Rattle.std.proofs.Common.{◌≡◌, ◌∙◌, ℤ, List, length, map, Err, sym, ap, subst}
 use Rattle.cells.specs.declared.dtype.Dtype.{Dtype}
-use Rattle.index_intervals.specs.Bounds.{Bounds}
+use Rattle.index_transform.specs.Bounds.{Bounds}
 use Rattle.index_transform.specs.Transforms.{DomainAndMaps}
 use Rattle.index_transform.specs.Values.{value_at}
 use Rattle.transform_composition.specs.Agreeing.{Agrees, IsCovered}

@@ -4,8 +4,8 @@ use Rattle.std.proofs.lemmas.List.{take_more, length-take-le}
 use Rattle.std.specs.List.{list_all, list_any, zip}
 use Rattle.cells.specs.declared.dtype.Dtype.{Dtype}
 use Rattle.cells.proofs.Laws.{both, both_true}
-use Rattle.index_intervals.specs.Bounds.{Bounds, is_index}
-use Rattle.index_intervals.specs.Members.{effective_bounds}
+use Rattle.index_transform.specs.Bounds.{Bounds, is_index}
+use Rattle.index_transform.specs.Members.{effective_bounds}
 use Rattle.index_transform.specs.Maps.{is_map, is_fixed, fits_dim, fits, are_entries, size_of}
 use Rattle.index_transform.specs.Transforms.{DomainAndMaps}
 use Rattle.index_transform.specs.declared.map.OutMap.{OutMap}

@@ -1,12 +1,11 @@
 -- The domain of a stack: what is done of it after some dimensions, and that it keeps the rules.
 use Rattle.std.proofs.Common.{◌≡◌, ◌∙◌, ◌≤◌, ◌<◌, ℕ, get_or, take, subst, ◌+◌, ◌==◌, ◌&&◌, ◌||◌, cond, nat_le, nat_eq, Bool, true, false, not, List, [], ◌∷◌, Some, None, ◌++◌, length, refl, sym, ap, arith}
 use Rattle.std.proofs.lemmas.Bool.Decides.{nat_tests}
-use Rattle.std.specs.List.{list_any, list_all}
+use Rattle.std.specs.List.{list_any, list_all, AllByRecursion, position_from}
 use Rattle.std.specs.Cmp.Lexicographic.{pointwise}
-use Rattle.index_intervals.specs.Bounds.{Bounds}
-use Rattle.index_intervals.specs.Around.{around_all}
+use Rattle.index_transform.specs.Bounds.{Bounds}
+use Rattle.index_transform.specs.Around.{around_all}
 use Rattle.std.proofs.lemmas.List.{take_more, length-take-le}
-use Rattle.std.specs.List.{AllByRecursion, position_from}
 use Rattle.std.specs.Str.{bytes_eq}
 use Rattle.std.proofs.lemmas.Slice.Eq.{bytes_eq-Decides}
 use Rattle.cells.specs.DtypeNames.{dtype_name, dtype_named}

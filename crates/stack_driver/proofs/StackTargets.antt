@@ -2,7 +2,7 @@
 use Rattle.std.proofs.Common.{◌≡◌, ◌∙◌, ℕ, ◌+◌, ◌<◌, suc, ℤ, pos, ◌+ℤ◌, ◌*ℤ◌, List, [], ◌∷◌, length, map, get_or, Err, refl, ap, arith}
 use Rattle.std.proofs.Math.IntN.{*ℤ_comm, *ℤ-one, one}
 use Rattle.std.proofs.lemmas.Int.{ints}
-use Rattle.index_intervals.specs.Bounds.{Bounds}
+use Rattle.index_transform.specs.Bounds.{Bounds}
 use Rattle.index_transform.specs.declared.domain.Domain.{Domain}
 use Rattle.index_transform.specs.Identity.{identity_maps, identity_over}
 use Rattle.index_transform.specs.Values.{map_value, value_at}

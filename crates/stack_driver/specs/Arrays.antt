@@ -1,6 +1,6 @@
 -- The view of a whole array.
 use Rattle.std.specs.Prelude.{ℕ, pos, ◌-ℤ◌, [], map, Bool, false, not}
-use Rattle.index_intervals.specs.Bounds.{Bounds}
+use Rattle.index_transform.specs.Bounds.{Bounds}
 use Rattle.index_transform.specs.Identity.{identity_over}
 use Rattle.index_transform.specs.declared.domain.Domain.{Domain}
 use Rattle.stack_driver.specs.References.{Reference}

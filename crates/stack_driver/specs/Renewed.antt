@@ -3,8 +3,8 @@ use Rattle.std.specs.Prelude.{◌≡◌, ℕ, ◌+◌, ◌==◌, Bool, false, if
 use Rattle.std.specs.List.{list_any}
 use Rattle.cells.specs.Shapes.{IsShape}
 use Rattle.cells.specs.declared.dtype.Dtype.{Dtype}
-use Rattle.index_intervals.specs.Bounds.{Bounds}
-use Rattle.index_intervals.specs.Members.{effective_bounds}
+use Rattle.index_transform.specs.Bounds.{Bounds}
+use Rattle.index_transform.specs.Members.{effective_bounds}
 use Rattle.index_transform.specs.Transforms.{DomainAndMaps, on_dims}
 use Rattle.index_transform.specs.declared.map.OutMap.{OutMap}
 use Rattle.index_transform.specs.declared.map.OutMap.TheVariants.{Constant, Strided, Indexed}

@@ -17,15 +17,18 @@ mod targeting;
 mod view;
 mod wholes;
 
+pub use cast_driver::Cast;
 pub use changing::{set_transform, with_transform};
 pub use copying::copy;
 pub use counting::{casts, deepest, depth, leaves};
 pub use error::{RenewError, StackError, TargetError};
+pub use index_transform::{Domain, OutMap};
 pub use look::{array_of, dtype, transform_of};
 pub use place::Target;
 pub use reference::ArrayRef;
 pub use renewing::renew;
 pub use stacking::{first_unlike, stacked_domain};
 pub use targeting::{contains, target};
+pub use transform_composition::ComposeError;
 pub use view::View;
 pub use wholes::whole;

@@ -8,8 +8,7 @@ ghost use Rattle.stack_driver.specs.Arrays.{array_dim, array_domain, whole_view}
 use crate::reference::ArrayRef;
 use crate::view::View;
 use cells::{List, Name};
-use index_intervals::Interval;
-use index_transform::{Domain, Transform};
+use index_transform::{Domain, Interval, Transform};
 use std::alloc::{AllocError, Global};
 
 /// The view of a whole array. Its domain begins at 0 along each dimension; its upper bounds are implicit where a store holds

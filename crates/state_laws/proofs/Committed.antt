@@ -17,7 +17,7 @@ use Rattle.history.specs.declared.event.Event.{Event}
 use Rattle.history.specs.History.{History}
 use Rattle.history.specs.Arrays.{Known, known_after, form_of, is_local}
 use Rattle.history.specs.declared.array.ArrayInfo.{ArrayInfo}
-use Rattle.chunk_forms.specs.Names as names
+use Rattle.history.specs.Names as names
 use Rattle.history.specs.Chunks.{Chunk, IsIndexOf, key_in, chunk_key, home_text}
 use Rattle.history.specs.Snapshots.{chunk_box}
 use Rattle.history.specs.Stored.{AreChangesOf}
@@ -26,8 +26,7 @@ use Rattle.history.specs.Generations.{Generations, IsNumbered}
 use Rattle.history.specs.Legal.{IsLegal, IsLegalKind, is_opening}
 use Rattle.history.specs.ReadRows.{mount_of}
 use Rattle.history.specs.Touch.{touches}
-use Rattle.history.proofs.Laws.{changes_applied, counted_more, counted_same, generations_more, known_after-more, legal_more, represents_event}
-use Rattle.history.proofs.Laws.{some_inj, opened_le, snapshot_longer, generation_untouched}
+use Rattle.history.proofs.Laws.{changes_applied, counted_more, counted_same, generations_more, known_after-more, legal_more, represents_event, some_inj, opened_le, snapshot_longer, generation_untouched}
 use Rattle.std.specs.FinMap.{get-insert}
 use Rattle.std.specs.Cmp.Lexicographic.{nat_list_cmp_total}
 use Rattle.std.proofs.lemmas.Map.Text.{is_eq-slice_cmp}

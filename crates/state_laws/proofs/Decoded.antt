@@ -6,12 +6,12 @@ use Rattle.cells.specs.Elements.{word_at}
 use Rattle.cells.specs.Places.{IsInside}
 use Rattle.chunk_cache.specs.Snapshot.{SnapshotCells}
 use Rattle.kv_face.specs.Store.{Contents}
-use Rattle.chunk_forms.specs.declared.form.Form.{Form}
-use Rattle.chunk_forms.specs.declared.form.Form.TheVariants as form
-use Rattle.chunk_forms.specs.declared.form.Damage.{Damage}
-use Rattle.chunk_forms.specs.Metadata.{chunk_shape_of, dtype_of, fill_of, with_shape, IsMetadata}
-use Rattle.chunk_forms.specs.Words.{stored_word, stored_fault, chunk_fault}
-use Rattle.chunk_forms.proofs.Laws.{spells_of_writes, no_fault_of_spells}
+use Rattle.history.specs.declared.Form.{Form}
+use Rattle.history.specs.declared.Form.TheVariants as form
+use Rattle.history.specs.declared.Damage.{Damage}
+use Rattle.history.specs.Metadata.{chunk_shape_of, dtype_of, fill_of, with_shape, IsMetadata}
+use Rattle.history.specs.Words.{stored_word, stored_fault, chunk_fault}
+use Rattle.history.proofs.Laws.{spells_of_writes, no_fault_of_spells, known_good, none_is_none, words_of_store, same_as_start}
 use Rattle.history.specs.declared.array.ArrayInfo.{ArrayInfo}
 use Rattle.history.specs.declared.array.Home.{Home}
 use Rattle.history.specs.declared.array.Home.TheVariants.{Zarr, N5, Zarr3, Local}
@@ -23,7 +23,6 @@ use Rattle.history.specs.Legal.{IsLegal, IsAsKept}
 use Rattle.history.specs.Snapshots.{box_in, chunk_box}
 use Rattle.history.specs.Store.{RepresentsHistory, IsChunkKept, shape_when_touched}
 use Rattle.history.specs.Touch.{generation_of}
-use Rattle.history.proofs.Laws.{known_good, none_is_none, words_of_store, same_as_start}
 use Rattle.state_laws.specs.Kept.{AreCellsOf, IsCurrent}
 
 -- another shape leaves what bytes say

@@ -6,7 +6,7 @@ use Rattle.std.specs.Option.{option_map, option_map_or}
 use Rattle.std.specs.FinMap as finmap
 use Rattle.cells.proofs.Laws.{true_or_false}
 use Rattle.chunk_cache.specs.Snapshot.{SnapshotCells}
-use Rattle.chunk_forms.specs.Names.{chunk_name, metadata_name}
+use Rattle.history.specs.Names.{chunk_name, metadata_name}
 use Rattle.kv_face.specs.Store.{Contents}
 use Rattle.history.specs.declared.array.ArrayInfo.{ArrayInfo}
 use Rattle.history.specs.declared.event.Event.{Event}
@@ -20,8 +20,7 @@ use Rattle.history.specs.ReadRows.{mount_of}
 use Rattle.history.specs.Store.{RepresentsHistory}
 use Rattle.history.specs.Stored.{IsApplied}
 use Rattle.history.specs.Touch.{touches}
-use Rattle.history.proofs.Laws.{apart_texts, key_is, opening_numbers_none, known_after-more, legal_more, opened_as, some_inj, none_is_none}
-use Rattle.history.proofs.Laws.{known_below}
+use Rattle.history.proofs.Laws.{apart_texts, key_is, opening_numbers_none, known_after-more, legal_more, opened_as, some_inj, none_is_none, known_below}
 use Rattle.state_laws.specs.Seen.{StoreSeen, IsFrame}
 use Rattle.state_laws.specs.Log.{Log, cells_held}
 use Rattle.state_laws.specs.Kept.{AreCellsOf, IsCurrent}

@@ -10,11 +10,11 @@ use Rattle.cells.specs.declared.dtype.Dtype.{Dtype}
 use Rattle.cells.specs.declared.dtype.Dtype.TheVariants.{U8}
 use Rattle.chunk_cache.specs.Snapshot.{SnapshotCells}
 use Rattle.chunk_elements.proofs.Laws.{IsWord-zero}
-use Rattle.chunk_forms.specs.declared.form.Damage.{Damage}
-use Rattle.chunk_forms.specs.declared.form.Form.{Form}
-use Rattle.chunk_forms.specs.declared.form.Form.TheVariants as form
-use Rattle.chunk_forms.specs.Metadata.{chunk_shape_of, dtype_of, fill_of, with_shape, is_local, IsMetadata}
-use Rattle.chunk_forms.specs.Words.{stored_word, stored_fault}
+use Rattle.history.specs.declared.Damage.{Damage}
+use Rattle.history.specs.declared.Form.{Form}
+use Rattle.history.specs.declared.Form.TheVariants as form
+use Rattle.history.specs.Metadata.{chunk_shape_of, dtype_of, fill_of, with_shape, is_local, IsMetadata}
+use Rattle.history.specs.Words.{stored_word, stored_fault}
 use Rattle.kv_face.specs.Store.{Contents}
 use Rattle.history.specs.Arrays as arrays
 use Rattle.history.specs.Arrays.{Known, known_after, form_of}

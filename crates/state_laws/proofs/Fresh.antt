@@ -3,12 +3,12 @@ use Rattle.std.proofs.Common.{◌≡◌, ℕ, List, [], ◌∷◌, ◌++◌, cod
 use Rattle.std.specs.Prelude.{count_by}
 use Rattle.std.specs.FinMap as finmap
 use Rattle.std.proofs.lemmas.List.{append_assoc}
-use Rattle.chunk_forms.specs.declared.form.Form.{Form}
-use Rattle.chunk_forms.specs.declared.form.Form.TheVariants as form
-use Rattle.chunk_forms.specs.declared.form.Want.{Want}
-use Rattle.chunk_forms.specs.declared.form.Want.TheVariants as want
-use Rattle.chunk_forms.specs.Metadata.{shape_of, is_local, IsMetadata, with_shape}
-use Rattle.chunk_forms.specs.Wants.{is_asked_form, metadata_name_asked}
+use Rattle.history.specs.declared.Form.{Form}
+use Rattle.history.specs.declared.Form.TheVariants as form
+use Rattle.history.specs.declared.Want.{Want}
+use Rattle.history.specs.declared.Want.TheVariants as want
+use Rattle.history.specs.Metadata.{shape_of, is_local, IsMetadata, with_shape}
+use Rattle.history.specs.Wants.{is_asked_form, metadata_name_asked}
 use Rattle.stack_driver.specs.References.{IsReference}
 use Rattle.array_homes.specs.Homes.{info_at, reference_of}
 use Rattle.history.specs.History.{History}

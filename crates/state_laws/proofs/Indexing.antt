@@ -4,8 +4,8 @@ use Rattle.std.proofs.lemmas.Grind.{fold-append}
 use Rattle.std.specs.Prelude.{◌==◌, count_by, IsSome}
 use Rattle.std.specs.List.{slice_get, AllByRecursion}
 use Rattle.std.specs.Option.{option_map}
-use Rattle.chunk_forms.specs.declared.form.Form.{Form}
-use Rattle.chunk_forms.specs.Metadata.{shape_of, with_shape}
+use Rattle.history.specs.declared.Form.{Form}
+use Rattle.history.specs.Metadata.{shape_of, with_shape}
 use Rattle.cells.proofs.Laws.{true_or_false, equal_or_not, less_or_not}
 use Rattle.history.specs.declared.array.ArrayInfo.{ArrayInfo}
 use Rattle.history.specs.declared.array.Home.{Home}

@@ -7,7 +7,7 @@ use Rattle.std.specs.FinMap as finmap
 use Rattle.std.proofs.lemmas.List.{append_assoc}
 use Rattle.std.proofs.lemmas.Option.{slice_get-map, slice_get_past}
 use Rattle.cells.proofs.Laws.{true_or_false, less_or_not, equal_or_not}
-use Rattle.chunk_forms.specs.Names.{chunk_name}
+use Rattle.history.specs.Names.{chunk_name}
 use Rattle.kv_face.specs.Store.{Contents}
 use Rattle.locations.specs.Paths.{Located, begins, is_below, clashes, AreApart as AreLocationsApart, HasNoneAbove}
 use Rattle.array_homes.specs.Names.{local_key, IsChunkName}
@@ -23,8 +23,7 @@ use Rattle.history.specs.Chunks.{Chunk, IsIndexOf, AreStarts, IsWholeIfLocal, ho
 use Rattle.history.specs.Generations.{HasKey}
 use Rattle.history.specs.Legal.{IsLegal, IsMount, IsPlaced}
 use Rattle.history.specs.Places.{location, array_at, IsTable}
-use Rattle.history.proofs.Laws.{known_apart, key_is, opened_itself, as_opened, each_history, legal_step, opened_as, some_inj, none_is_none}
-use Rattle.history.proofs.Laws.{known_split, no_array, opening_of, opened_le, known-longer, none_there, array_at-known, array_by_table, opened_then}
+use Rattle.history.proofs.Laws.{known_apart, key_is, opened_itself, as_opened, each_history, legal_step, opened_as, some_inj, none_is_none, known_split, no_array, opening_of, opened_le, known-longer, none_there, array_at-known, array_by_table, opened_then}
 use Rattle.state_laws.specs.Keyed.{IsKeyIn, IsNobodys, local_by, local_in, local_at}
 use Rattle.state_laws.specs.Outline.{outline, outlined, outlined_event}
 use Rattle.state_laws.proofs.Located.{located}

@@ -50,3 +50,7 @@ pub use Rattle.state_laws.proofs.Committed.{agrees_deed}
 pub use Rattle.state_laws.proofs.Reshaped.{agrees_shape}
 -- a history and its outline have the same arrays, each as its metadata or its cells say
 pub use Rattle.state_laws.proofs.Outline.{known-outline, good_in}
+-- changes go together where their keys do
+pub use Rattle.state_laws.proofs.OneCall.{together-keys}
+-- laws of crates below, given on to those above
+pub use Rattle.array_homes.proofs.Laws.{taken_shape}

@@ -6,12 +6,12 @@ use Rattle.std.specs.Prelude.{count_by}
 use Rattle.std.specs.FinMap as finmap
 use Rattle.cells.specs.declared.dtype.Dtype.TheVariants.{U8}
 use Rattle.cells.specs.declared.order.Order.TheVariants.{C}
-use Rattle.chunk_forms.specs.declared.form.Form.{Form}
-use Rattle.chunk_forms.specs.declared.form.Form.TheVariants as form
-use Rattle.chunk_forms.specs.declared.form.Want.{Want}
-use Rattle.chunk_forms.specs.declared.form.Want.TheVariants as want
-use Rattle.chunk_forms.specs.Metadata.{is_local, IsMetadata, with_shape, metadata_text}
-use Rattle.chunk_forms.specs.Wants.{is_asked_form, metadata_name_asked, mismatch_of}
+use Rattle.history.specs.declared.Form.{Form}
+use Rattle.history.specs.declared.Form.TheVariants as form
+use Rattle.history.specs.declared.Want.{Want}
+use Rattle.history.specs.declared.Want.TheVariants as want
+use Rattle.history.specs.Metadata.{is_local, IsMetadata, with_shape, metadata_text}
+use Rattle.history.specs.Wants.{is_asked_form, metadata_name_asked, mismatch_of}
 use Rattle.kv_face.specs.Store.{Contents, OneMore, put_bytes}
 use Rattle.array_homes.specs.Opening.{IsStoreOutcome}
 use Rattle.history.specs.declared.array.ArrayInfo.{ArrayInfo}

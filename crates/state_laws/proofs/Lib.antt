@@ -19,4 +19,6 @@ pub mod Keyed
 pub mod Asked
 pub mod Committed
 pub mod Reshaped
+pub mod Tables
+pub mod OneCall
 pub mod Laws

@@ -2,8 +2,8 @@
 use Rattle.std.proofs.Common.{◌≡◌, ◌≢◌, ℕ, zero, suc, ◌+◌, ◌<◌, List, [], ◌∷◌, ◌++◌, length, Bool, true, false, cond, Option, Some, None, inl, inr, refl, sym, ap, subst, ◌∙◌, arith, eq-eqb}
 use Rattle.std.specs.Prelude.{◌==◌, count_by, map, set, slice_index_or, take, drop}
 use Rattle.std.specs.List.{slice_get, AllByRecursion}
-use Rattle.chunk_forms.specs.declared.form.Form.{Form}
-use Rattle.chunk_forms.specs.Metadata.{shape_of, with_shape}
+use Rattle.history.specs.declared.Form.{Form}
+use Rattle.history.specs.Metadata.{shape_of, with_shape}
 use Rattle.cells.proofs.Laws.{equal_or_not}
 use Rattle.history.specs.declared.array.Home.{Home}
 use Rattle.history.specs.declared.array.Home.TheVariants.{Zarr, N5, Zarr3, Local}

@@ -6,9 +6,9 @@ use Rattle.cells.specs.Elements.{word_at}
 use Rattle.cells.specs.Places.{IsInside}
 use Rattle.chunk_cache.specs.Cache.{after_hit}
 use Rattle.chunk_cache.specs.Snapshot.{SnapshotCells}
-use Rattle.chunk_forms.specs.declared.form.Form.{Form}
-use Rattle.chunk_forms.specs.Metadata.{chunk_shape_of, dtype_of, fill_of}
-use Rattle.chunk_forms.specs.Words.{stored_word}
+use Rattle.history.specs.declared.Form.{Form}
+use Rattle.history.specs.Metadata.{chunk_shape_of, dtype_of, fill_of}
+use Rattle.history.specs.Words.{stored_word}
 use Rattle.history.specs.declared.array.ArrayInfo.{ArrayInfo}
 use Rattle.history.specs.History.{History}
 use Rattle.history.specs.Arrays.{Known, known_after, is_local}

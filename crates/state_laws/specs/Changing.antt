@@ -14,7 +14,7 @@ use Rattle.history.specs.Counting.{is_change}
 use Rattle.history.specs.Generations.{IsKeyTouched}
 use Rattle.history.specs.Legal.{IsLegalDone, MayTake}
 use Rattle.history.specs.Own.{resized_event}
-use Rattle.chunk_forms.specs.Metadata.{with_shape}
+use Rattle.history.specs.Metadata.{with_shape}
 use Rattle.history.specs.Stored.{AreChangesOf}
 use Rattle.history.specs.Touch.{touches}
 use Rattle.state_laws.specs.Recorded.{with_numbers, without_all, done_event}

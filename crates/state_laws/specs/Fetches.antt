@@ -3,7 +3,7 @@ use Rattle.std.specs.Prelude.{◌≡◌, ◌<◌, ◌+◌, ℕ, List, [], ◌∷
 use Rattle.std.specs.FinMap as finmap
 use Rattle.chunk_cache.specs.Cache.{kept, after_hit, after_keep}
 use Rattle.chunk_cache.specs.Snapshot.{SnapshotCells}
-use Rattle.chunk_forms.specs.declared.form.Damage.{Damage}
+use Rattle.history.specs.declared.Damage.{Damage}
 use Rattle.kv_face.specs.Store.{Contents}
 use Rattle.history.specs.History.{History}
 use Rattle.history.specs.Arrays.{Known, known_after, is_local}

@@ -2,8 +2,8 @@
 use Rattle.std.specs.Prelude.{◌≡◌, ℕ, List, false, Option, Some, None}
 use Rattle.std.specs.FinMap as finmap
 use Rattle.chunk_cache.specs.Cache.{kept}
-use Rattle.chunk_forms.specs.declared.form.Form.{Form}
-use Rattle.chunk_forms.specs.Metadata.{with_shape}
+use Rattle.history.specs.declared.Form.{Form}
+use Rattle.history.specs.Metadata.{with_shape}
 use Rattle.kv_face.specs.Store.{Contents}
 use Rattle.history.specs.Arrays.{Known, known_after, form_of, is_local}
 use Rattle.history.specs.Chunks.{Chunk, IsIndexOf, chunk_key}

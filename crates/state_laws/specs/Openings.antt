@@ -4,8 +4,8 @@ use Rattle.std.specs.FinMap as finmap
 use Rattle.array_homes.specs.Opening.{IsBadBy}
 use Rattle.array_homes.specs.declared.deciding.OpeningRefusal.{OpeningRefusal}
 use Rattle.array_homes.specs.declared.deciding.OpeningRefusal.TheVariants as refusal
-use Rattle.chunk_forms.specs.declared.form.Form.{Form}
-use Rattle.chunk_forms.specs.Members.{member_name}
+use Rattle.history.specs.declared.Form.{Form}
+use Rattle.history.specs.Members.{member_name}
 use Rattle.kv_face.specs.Store.{Contents}
 use Rattle.history.specs.History.{History}
 use Rattle.history.specs.Arrays.{Known, ref_of}

@@ -2,8 +2,8 @@
 use Rattle.std.specs.Prelude.{◌≡◌, ℕ, List, [], ◌∷◌, ◌++◌, ◌+◌, length, Option, Some, count_by}
 use Rattle.cells.specs.Dense.{IsDense}
 use Rattle.chunk_cache.specs.Snapshot.{SnapshotCells}
-use Rattle.chunk_forms.specs.declared.form.Form.TheVariants as form
-use Rattle.chunk_forms.specs.Metadata.{with_shape}
+use Rattle.history.specs.declared.Form.TheVariants as form
+use Rattle.history.specs.Metadata.{with_shape}
 use Rattle.history.specs.declared.array.ArrayInfo.{ArrayInfo}
 use Rattle.history.specs.History.{History}
 use Rattle.history.specs.Arrays.{form_of}
@@ -11,10 +11,10 @@ use Rattle.history.specs.Legal.{is_opening}
 use Rattle.history.specs.OpenRows.{next_array, given_info}
 use Rattle.history.specs.Own.{opened_event}
 use Rattle.history.specs.Places.{location}
-use Rattle.state_laws.specs.declared.new_array.NewArray.{NewArray}
+use Rattle.state_laws.specs.declared.arrival.NewArray.{NewArray}
 use Rattle.state_laws.specs.Log.{Log}
-use Rattle.chunk_forms.specs.declared.form.Want.{Want}
-use Rattle.chunk_forms.specs.Wants.{metadata_name_asked}
+use Rattle.history.specs.declared.Want.{Want}
+use Rattle.history.specs.Wants.{metadata_name_asked}
 use Rattle.state_laws.specs.declared.place.Place.{Place}
 
 -- its mount and path, its location, and the key of its metadata

@@ -6,8 +6,7 @@ ghost use Rattle.history.specs.Arrays.{Known, known_after};
 ghost use Rattle.state_laws.specs.Indexed.{AreArrays};
 
 use chunk_cache::Snapshot;
-use chunk_forms::Form;
-use history::{ArrayInfo, Event, Kind};
+use history::{ArrayInfo, Event, Form, Kind};
 
 /// An array: the place of the event that opened it, its form with its present shape, the number of the event that gave it that
 /// shape (0 where none did), and of a local array its cells.

@@ -1,7 +1,7 @@
 use crate::commit::Commit;
 use cells::{Name, Sizes};
 use chunk_cache::Snapshot;
-use chunk_forms::Form;
+use history::Form;
 
 /// The cells that a local array gets.
 #[derive(Drop)]

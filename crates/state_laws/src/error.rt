@@ -1,7 +1,7 @@
 ghost use Rattle.std.specs.Prelude.{◌≡◌};
 
 use cells::Name;
-use chunk_forms::Damage;
+use history::Damage;
 use std::alloc::AllocError;
 
 /// Why a chunk was not read.

@@ -1,30 +1,51 @@
-//! What a run keeps of its events (`Records`), and what the shared state's contracts say: definitions, the laws over them, and the values
-//! that its calls take and give.
+//! What a run keeps of its events (`Records`); what the shared state's contracts say: definitions, the laws over them, and the values that
+//! its calls take and give; and the parts of these calls that need no state.
 //!
 //! Crates above rest on two things: what `Records` tells of an array is what `known_after` says of it, and a state agrees (`Agrees`) with
 //! what was read off when it began. `proofs/Laws` tells what keeps that.
 #![tactic(auto)]
 
+mod applying;
 mod arrays;
+mod arrival;
 mod at_start;
 mod commit;
+mod deciding;
 mod deed;
+mod entering;
 mod error;
 mod generations;
-mod new_array;
+mod index;
+mod key_names;
+mod making;
 mod opening;
 mod place;
+mod placing;
 mod plan;
 mod reading;
 mod records;
+mod writing;
 
+pub use applying::{apply, together};
+pub use array_homes::{
+    Decided, MetaCause, OpeningRefusal, array_ref, chunk_key, decode, is_chunk_name, is_local,
+    listed, local_number, metadata_change, metadata_key, mount_of,
+};
+pub use arrival::NewArray;
 pub use at_start::AtStart;
 pub use commit::Commit;
+pub use deciding::{decided, refused};
 pub use deed::{ChangeError, Deed, HeldCells, NewShape};
+pub use entering::{add_given, add_new, enter_commit, enter_shape, prepare_all};
 pub use error::{FetchError, GetError};
-pub use new_array::NewArray;
+pub use history::{Damage, Form, FormError, Want, mismatch};
+pub use index::is_index_of;
+pub use key_names::{local_at, name_in};
+pub use making::{given_array, new_array};
 pub use opening::{OpenError, Opened};
 pub use place::{Names, Place};
+pub use placing::place_of;
 pub use plan::{Left, Planned};
 pub use reading::{Bounds, Fetched, Look};
 pub use records::Records;
+pub use writing::{make_place, write_array};

@@ -3,7 +3,7 @@ ghost use Rattle.std.specs.Prelude.{◌≡◌};
 
 use array_homes::MetaCause;
 use cells::Name;
-use chunk_forms::Member;
+use history::Member;
 use stack_driver::ArrayRef;
 use std::alloc::AllocError;
 

@@ -1,7 +1,7 @@
 // What reading a chunk gives.
 use cells::{List, Sizes};
 use chunk_cache::Snapshot;
-use chunk_forms::Form;
+use history::Form;
 
 /// An array's present shape, in cells, and the number of the event that gave it, 0 where that was the array's opening.
 #[derive(Debug, Drop)]

@@ -2,7 +2,7 @@ ghost use Rattle.std.specs.Prelude.{set, map, ◌≡◌, ◌≤◌, ◌<◌, ◌
 ghost use Rattle.std.specs.FinMap as finmap;
 ghost use Rattle.std.specs.Option.{option_copied, option_map};
 ghost use Rattle.chunk_cache.specs.Cache.{kept, after_hit, after_keep, after_drop};
-ghost use Rattle.chunk_forms.specs.Metadata.{with_shape};
+ghost use Rattle.history.specs.Metadata.{with_shape};
 ghost use Rattle.history.specs.Arrays.{Known, known_after, form_of, is_local};
 ghost use Rattle.history.specs.Legal.{is_opening};
 ghost use Rattle.history.specs.Own.{fault, opened_event, resized_event};
@@ -20,8 +20,7 @@ use crate::commit::Commit;
 use crate::generations::KeyNumbers;
 use cells::{Name, Sizes};
 use chunk_cache::{ChunkCache, KeepRefused, Snapshot};
-use chunk_forms::Form;
-use history::{ArrayInfo, Event, Home, Kind};
+use history::{ArrayInfo, Event, Form, Home, Kind};
 use std::alloc::{AllocError, Global};
 use std::marker::Model;
 

@@ -17,16 +17,15 @@ use Rattle.history.specs.Legal.{MayTake}
 use Rattle.history.specs.Refusals.{HasTooManyCut}
 use Rattle.history.specs.Resizes.{cut_chunks}
 use Rattle.history.proofs.Laws.{IsGood}
-use Rattle.array_homes.specs.Homes.{MayHaveShape}
-use Rattle.array_homes.proofs.Laws.{taken_shape}
-use Rattle.chunk_laying.specs.Resized.{cut_indices}
+use Rattle.state_laws.specs.Homes.{MayHaveShape}
+use Rattle.state_laws.proofs.Laws.{taken_shape, good_in}
+use Rattle.chunk_plans.specs.Resized.{cut_indices}
 use Rattle.chunk_plans.proofs.Laws.{shape_told, chunk_told, valid_chunks, valid_ranks}
 use Rattle.state_laws.specs.Agreement.{IsState}
 use Rattle.state_laws.specs.Fetches.{IsChunkOf}
 use Rattle.state_laws.specs.Log.{Log}
 use Rattle.state_laws.specs.Seen.{StoreSeen}
 use Rattle.state_laws.specs.declared.deed.NewShape.{NewShape}
-use Rattle.state_laws.proofs.Laws.{good_in}
 use Rattle.state_resizes.specs.Conditions.{IsAsked}
 use Rattle.state_resizes.specs.Cuts.{AreAsked, AreCut, IsBegun, bytes_at, unfilled}
 use Rattle.state_resizes.specs.declared.keys.Asked.{Asked}

@@ -22,8 +22,7 @@ use Rattle.state_laws.specs.Changing.{AreMade, AreTouched, IsNewShape}
 use Rattle.state_laws.specs.Log.{Log}
 use Rattle.state_laws.specs.Seen.{StoreSeen, IsFrame}
 use Rattle.state_laws.specs.declared.deed.NewShape.{NewShape}
-use Rattle.state_laws.proofs.Laws.{takes_chunk}
-use Rattle.state_parts.proofs.Laws.{together-keys}
+use Rattle.state_laws.proofs.Laws.{takes_chunk, together-keys}
 use Rattle.state_resizes.specs.Cuts.{AreAsked, AreCut}
 use Rattle.state_resizes.specs.declared.keys.Asked.{Asked}
 use Rattle.state_resizes.proofs.Cut.{keys_distinct, keys_touched}

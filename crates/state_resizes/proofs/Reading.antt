@@ -19,8 +19,8 @@ use Rattle.history.specs.ReadRows.{mount_of}
 use Rattle.history.specs.Resizes.{is_cut, reaches_into}
 use Rattle.history.specs.Snapshots.{chunk_box}
 use Rattle.history.proofs.Laws.{IsGood, some_inj}
-use Rattle.chunk_laying.specs.Laid.{IsChunkOf, cut_word, word_within}
-use Rattle.chunk_laying.specs.Resized.{is_gone}
+use Rattle.chunk_plans.specs.Laid.{IsChunkOf, cut_word, word_within}
+use Rattle.chunk_plans.specs.Resized.{is_gone}
 use Rattle.chunk_plans.specs.Left.{IsLeft}
 use Rattle.chunk_plans.proofs.Laws.{IsLaidBy, shape_told, chunk_told, dtype_told, valid_chunks, valid_ranks, same_by}
 use Rattle.state_laws.specs.Agreement.{IsState}

@@ -4,7 +4,7 @@ ghost use Rattle.cells.specs.Numbers.{IsWord};
 ghost use Rattle.chunk_forms.specs.Metadata.{is_local, shape_of, chunk_shape_of, dtype_of, fill_of};
 ghost use Rattle.history.specs.Arrays.{Known, known_after, chunk_shape};
 ghost use Rattle.history.specs.Resizes.{is_cut, reaches_into};
-ghost use Rattle.chunk_laying.specs.Laid.{IsChunkOf};
+ghost use Rattle.chunk_plans.specs.Laid.{IsChunkOf};
 ghost use Rattle.chunk_plans.specs.Left.{IsLeft};
 ghost use Rattle.chunk_plans.specs.Writes.{IsSameButCache};
 ghost use Rattle.state_laws.specs.Agreement.{IsState, KeepsAgreement};
@@ -14,9 +14,8 @@ ghost use Rattle.state_resizes.specs.Refusals.{IsUnfilled};
 
 use cells::{Dense, List};
 use chunk_forms::{Form, encode_form};
-use chunk_laying::{cut, is_gone};
+use chunk_plans::{FetchError, NewShape, State, cut, is_gone};
 use kv_face::KvStore;
-use shared_state::{FetchError, NewShape, State};
 use std::alloc::{AllocError, Global};
 
 /// The bytes of a chunk by its array's new shape: its words, and past the shape the fill. None where every cell has the fill.

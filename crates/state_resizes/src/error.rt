@@ -3,7 +3,7 @@ ghost use Rattle.state_resizes.specs.Refusals.{answer_by, refusal_by};
 
 use cells::Name;
 use chunk_forms::Damage;
-use shared_state::{ChangeError, FetchError};
+use chunk_plans::{ChangeError, FetchError};
 
 /// Why an array was not resized.
 #[derive(Debug, Drop)]

@@ -11,8 +11,8 @@ ghost use Rattle.state_resizes.specs.Refusals.{IsUnfilled};
 use crate::cutting::left_of_cut;
 use crate::keys::Asked;
 use cells::{List, Sizes};
+use chunk_plans::{FetchError, State};
 use kv_face::{Change, KvStore};
-use shared_state::{FetchError, State};
 use std::alloc::Global;
 
 /// Puts bytes into the change at a place.

@@ -8,11 +8,11 @@ ghost use Rattle.state_laws.specs.Fetches.{IsChunkOf};
 ghost use Rattle.state_resizes.specs.Cuts.{AreAsked, AreCut, IsBegun};
 
 use crate::reshaped::reshaped;
-use cells::{Name, Sizes};
+use cells::{Name, Sizes, copy_name, copy_sizes};
 use chunk_forms::Form;
+use chunk_plans::{NewShape, State};
 use kv_face::{Change, KvStore};
-use shared_state::{NewShape, State};
-use state_parts::{copy_name, copy_sizes, metadata_change};
+use state_laws::metadata_change;
 use std::alloc::{AllocError, Global};
 
 /// A new shape with the keys of the chunks that it cuts, and the changes of the store: first that of the metadata.

@@ -7,8 +7,8 @@ ghost use Rattle.state_laws.specs.Fetches.{HasFailed};
 ghost use Rattle.state_laws.specs.Seen.{IsFrame, IsQuiet};
 
 use crate::keys::Asked;
+use chunk_plans::{ChangeError, State};
 use kv_face::KvStore;
-use shared_state::{ChangeError, State};
 
 /// Makes room for the event of a new shape, and gives it by its changes.
 pub(crate) fn make<K: KvStore>(

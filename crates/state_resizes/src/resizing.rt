@@ -15,9 +15,8 @@ use crate::keys::{Asked, asked_of, begun};
 use crate::making::make;
 use cells::Sizes;
 use chunk_forms::Form;
-use chunk_laying::{count_cut, cut_chunks};
+use chunk_plans::{State, count_cut, cut_chunks};
 use kv_face::KvStore;
-use shared_state::State;
 use std::alloc::Global;
 
 /// Gives a stored array a new shape, in cells, and the number of its event. The store has its metadata in the written form, chunks

@@ -9,8 +9,8 @@ use Rattle.state_resizes.specs.Conditions.{IsAsked}
 use Rattle.transaction_cases.proofs.ViewLaws.{all_at}
 use Rattle.std.specs.List.{AllByRecursion}
 use Rattle.cells.specs.Dense.{DenseCells}
-use Rattle.commits.specs.declared.refused.CommitRefused.{CommitRefused}
-use Rattle.commits.specs.declared.refused.CommitRefused.TheVariants as refused
+use Rattle.session_runs.specs.declared.CommitRefused.{CommitRefused}
+use Rattle.session_runs.specs.declared.CommitRefused.TheVariants as refused
 use Rattle.history.specs.Commit.{Transaction}
 use Rattle.history.specs.History.{History}
 use Rattle.history.specs.Leaves.{Leaf}
@@ -23,9 +23,9 @@ use Rattle.history.specs.Staged.{IsStaged}
 use Rattle.history.specs.declared.event.Event.{Event}
 use Rattle.history.specs.declared.event.Mode.{Mode}
 use Rattle.history.specs.declared.event.Op.TheVariants.{Write}
-use Rattle.session_turns.specs.Opening.{AreOpenedBy, IsLeafTurn, IsGivenTurn}
-use Rattle.session_turns.specs.Turns.{IsRested, IsTurn, HasPassed, added_by}
-use Rattle.session_turns.proofs.Laws.{asked_then, none_added, passed_of_turn, passed_alone, later_refs, opens_stored, opens_given}
+use Rattle.session_runs.specs.Opening.{AreOpenedBy, IsLeafTurn, IsGivenTurn}
+use Rattle.session_runs.specs.Turns.{IsRested, IsTurn, HasPassed, added_by}
+use Rattle.session_runs.proofs.Laws.{asked_then, none_added, passed_of_turn, passed_alone, later_refs, opens_stored, opens_given, txn_later, recorded_begun, recorded_written, recorded_read, recorded_later}
 use Rattle.stack_driver.specs.Conditions.{IsView}
 use Rattle.stack_driver.specs.References.{Reference}
 use Rattle.stack_driver.specs.declared.view.View.{View}
@@ -33,15 +33,14 @@ use Rattle.state_laws.specs.Agreement.{Opening}
 use Rattle.state_laws.specs.Outline.{outline}
 use Rattle.state_laws.specs.declared.opening.Opened.{Opened}
 use Rattle.transaction_cells.proofs.Laws.{none_staged}
-use Rattle.transactions.specs.Committing.{HasCommitted, left_after}
-use Rattle.transactions.specs.Conditions.{IsTxnIn}
-use Rattle.transactions.specs.Reading.{HasRead, IsReadError}
-use Rattle.transactions.specs.Recording.{IsRecorded}
-use Rattle.transactions.specs.Turns as turns
-use Rattle.transactions.specs.Txn.{TxnSeen, transaction_of, marks_of}
-use Rattle.transactions.specs.declared.error.ReadError.{ReadError}
-use Rattle.transactions.specs.declared.error.ReadError.TheVariants as read
-use Rattle.transactions.proofs.Laws.{txn_later, recorded_begun, recorded_written, recorded_read, recorded_later}
+use Rattle.session_runs.specs.Committing.{HasCommitted, left_after}
+use Rattle.session_runs.specs.Conditions.{IsTxnIn}
+use Rattle.session_runs.specs.Reading.{HasRead, IsReadError}
+use Rattle.session_runs.specs.Recording.{IsRecorded}
+use Rattle.session_runs.specs.TxnTurns as turns
+use Rattle.session_runs.specs.Txn.{TxnSeen, transaction_of, marks_of}
+use Rattle.session_runs.specs.declared.ReadError.{ReadError}
+use Rattle.session_runs.specs.declared.ReadError.TheVariants as read
 use Rattle.transaction_cases.specs.Seats.{HasSound, IsSeat, IsSeatThen}
 use Rattle.turn_book.specs.Passes.{AreNew, BookView, PassView, HasNumber, new_pass}
 

@@ -4,7 +4,7 @@ use Rattle.std.specs.Prelude.{zero, suc, ◌-◌, take, slice_index_or}
 use Rattle.history.specs.declared.event.Event.{Event}
 use Rattle.transaction_cases.specs.Sessions.{IsBetween, IsFresh}
 use Rattle.session_runs.specs.Session.{SessionSeen}
-use Rattle.session_turns.specs.Turns.{IsRested}
+use Rattle.session_runs.specs.Turns.{IsRested}
 use Rattle.state_laws.specs.Agreement.{Opening}
 use Rattle.turn_book.specs.Passes.{AreNew, BookView, PassView, HasNumber, new_pass}
 

@@ -1,17 +1,16 @@
 -- A session between its calls.
-use Rattle.std.specs.Prelude.{◌≡◌, ℕ, List, [], Option, Some, None}
+use Rattle.std.specs.Prelude.{◌≡◌, ℕ, List, [], Option, Some, None, codes}
 use Rattle.std.specs.List.{AllByRecursion}
 use Rattle.history.specs.History.{History}
 use Rattle.history.specs.Refs.{IsKnownRef}
 use Rattle.history.specs.declared.event.Event.{Event}
-use Rattle.session_turns.specs.Turns.{IsRested}
+use Rattle.session_runs.specs.Turns.{IsRested}
 use Rattle.stack_driver.specs.References.{Reference}
 use Rattle.state_laws.specs.Agreement.{Opening, TakesMount}
-use Rattle.transactions.specs.Conditions.{IsTxnIn}
-use Rattle.transactions.specs.Recording.{IsRecorded}
-use Rattle.transactions.specs.Txn.{TxnSeen, transaction_of}
+use Rattle.session_runs.specs.Conditions.{IsTxnIn}
+use Rattle.session_runs.specs.Recording.{IsRecorded}
+use Rattle.session_runs.specs.Txn.{TxnSeen, transaction_of}
 use Rattle.turn_book.specs.Passes.{BookView, PassView}
-use Rattle.std.specs.Prelude.{codes}
 
 -- where a transaction stands, what is staged and kept is right beside these events, and what its commit asks for is recorded
 abbrev pub HasSound : Opening → History → Option TxnSeen → Type 0

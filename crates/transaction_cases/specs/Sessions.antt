@@ -3,9 +3,9 @@ use Rattle.std.specs.Prelude.{◌≡◌, ℕ, [], Bool, false, Option}
 use Rattle.history.specs.declared.event.Event.{Event}
 use Rattle.history.specs.Sessions.{Names}
 use Rattle.session_runs.specs.Session.{SessionSeen, IsSessionOn, MayGoOn}
-use Rattle.session_turns.specs.Turns.{IsRested}
+use Rattle.session_runs.specs.Turns.{IsRested}
 use Rattle.state_laws.specs.Agreement.{Opening}
-use Rattle.transactions.specs.Txn.{TxnSeen}
+use Rattle.session_runs.specs.Txn.{TxnSeen}
 use Rattle.turn_book.specs.Passes.{BookView, PassView}
 
 -- the session of this number was given no line yet

@@ -11,10 +11,9 @@ use crate::txn_calls::{begin, commit, read, write};
 use case_lines::{Fault, text, told_line};
 use kv_face::KvStore;
 use serde_json::Value;
-use shared_state::State;
+use session_runs::{Gate, State};
 use std::alloc::Global;
 use std::sync::Wait;
-use transactions::Gate;
 use turn_book::TurnBook;
 
 pub(crate) fn answer<K: KvStore, R: Wait, G: Gate>(

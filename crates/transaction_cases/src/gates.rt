@@ -1,6 +1,6 @@
 // A gate that holds nobody up.
+use session_runs::Gate;
 use std::sync::Wait;
-use transactions::Gate;
 
 pub(crate) struct Open;
 

@@ -13,7 +13,7 @@ use case_lines::{Fault, items, member, number_or};
 use kv_face::{KvStore, MemoryKv};
 use kv_mounts::Mount;
 use serde_json::Value;
-use shared_state::State;
+use session_runs::State;
 use std::alloc::Global;
 use std::sync::Wait;
 use turn_book::{Pass, TurnBook};

@@ -3,10 +3,9 @@ ghost use Rattle.std.specs.Prelude.{◌≡◌, [], None};
 
 use history::Event;
 use kv_face::KvStore;
-use shared_state::State;
+use session_runs::{State, Txn};
 use stack_driver::ArrayRef;
 use std::alloc::Global;
-use transactions::Txn;
 use turn_book::Pass;
 
 #[derive(Drop)]

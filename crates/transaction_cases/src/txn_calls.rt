@@ -7,12 +7,12 @@ ghost use Rattle.history.specs.History.{History};
 ghost use Rattle.history.specs.Legal.{IsLegal};
 ghost use Rattle.history.specs.Refs.{HasKnownRefs, IsKnownRef};
 ghost use Rattle.index_transform.specs.Cells.{count_answer};
-ghost use Rattle.session_turns.specs.Turns.{IsRested, HasPassed};
+ghost use Rattle.session_runs.specs.Turns.{IsRested, HasPassed};
 ghost use Rattle.stack_driver.specs.Conditions.{IsView};
 ghost use Rattle.stack_driver.specs.Views.{look_of};
 ghost use Rattle.state_laws.specs.Agreement.{Opening};
 ghost use Rattle.state_laws.specs.Outline.{outline};
-ghost use Rattle.transactions.specs.Conditions.{MayUse};
+ghost use Rattle.session_runs.specs.Conditions.{MayUse};
 ghost use Rattle.transaction_cases.specs.Seats.{HasSound, IsSeat, IsSeatThen};
 ghost use Rattle.turn_book.specs.Passes.{BookView};
 
@@ -20,15 +20,13 @@ use crate::seats::Seat;
 use crate::views::view;
 use case_lines::{Fault, is_true, items, member, number_or, told_line, word_of};
 use cells::Dtype;
-use commits::CommitRefused;
 use history::Mode;
 use kv_face::KvStore;
 use serde_json::Value;
-use shared_state::State;
+use session_runs::{CommitError, CommitRefused, Gate, ReadError, State, Txn, WriteError};
 use stack_driver::{View, dtype, transform_of};
 use std::alloc::Global;
 use std::sync::Wait;
-use transactions::{CommitError, Gate, ReadError, Txn, WriteError};
 use turn_book::{Pass, TurnBook};
 
 pub(crate) fn begin(alloc: Global, v: &Value, txn: &mut Option<Txn>) -> Result<String, Fault>

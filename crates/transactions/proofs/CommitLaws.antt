@@ -7,11 +7,11 @@ use Rattle.std.specs.Cmp.Lexicographic.{slice_cmp}
 use Rattle.std.specs.Ordering.{nat_cmp}
 use Rattle.std.specs.Str.{bytes_eq}
 use mathlib.Core.List.{IsPrefix}
-use Rattle.chunk_plans.specs.Writes.{IsReadyWrite}
-use Rattle.chunk_plans.specs.declared.write.ChunkWrite.{ChunkWrite}
+use Rattle.commits.specs.PlanWrites.{IsReadyWrite}
+use Rattle.commits.specs.declared.ChunkWrite.{ChunkWrite}
 use Rattle.commits.specs.Answers.{IsCommitted}
 use Rattle.commits.specs.Prepared.{AreWrites, IsPreparedFor}
-use Rattle.chunk_plans.specs.declared.mark.Mark.{Mark}
+use Rattle.commits.specs.declared.Mark.{Mark}
 use Rattle.commits.specs.declared.prepared.Prepared.{Prepared}
 use Rattle.history.specs.Arrays.{Known, known_after}
 use Rattle.history.specs.Commit.{kept_ops}
@@ -19,23 +19,23 @@ use Rattle.history.specs.History.{History}
 use Rattle.history.specs.Legal.{IsLegal}
 use Rattle.history.specs.declared.event.Event.{Event}
 use Rattle.kv_face.specs.Store.{Contents}
-use Rattle.chunk_plans.specs.Asking.{IsAsked, IsPart, part_in}
-use Rattle.chunk_plans.specs.Readying.{IsWriteFor}
-use Rattle.chunk_plans.specs.Sorting.{key_of_mark, key_of_write}
-use Rattle.chunk_plans.specs.declared.asked.Asked.{Asked}
-use Rattle.chunk_plans.specs.declared.asked.Part.{Part}
-use Rattle.chunk_plans.proofs.Laws.{may_ready, ready_right}
-use Rattle.state_laws.specs.Agreement.{Opening, Agrees}
-use Rattle.state_laws.specs.Log.{Log}
-use Rattle.state_laws.specs.Outline.{outline}
-use Rattle.state_laws.specs.Seen.{StoreSeen}
+use Rattle.commits.specs.Asking.{IsAsked, IsPart, part_in}
+use Rattle.commits.specs.Readying.{IsWriteFor}
+use Rattle.commits.specs.Sorting.{key_of_mark, key_of_write}
+use Rattle.commits.specs.declared.Asked.{Asked}
+use Rattle.commits.specs.declared.Part.{Part}
+use Rattle.commits.proofs.Laws.{may_ready, ready_right}
+use Rattle.chunk_fetches.specs.Agreement.{Opening, Agrees}
+use Rattle.chunk_fetches.specs.Log.{Log}
+use Rattle.chunk_fetches.specs.Outline.{outline}
+use Rattle.chunk_fetches.specs.Seen.{StoreSeen}
 use Rattle.transaction_cells.specs.Staging.{StagedChunk}
 use Rattle.transactions.specs.Committing.{IsPreparedOf, MayCommitLater}
 use Rattle.transactions.specs.Conditions.{IsTxnIn}
 use Rattle.transactions.specs.Marking.{mark_of_kept}
 use Rattle.transactions.specs.Preparing.{AreWritesFor, MayWriteOf, seen_chunk, seen_part}
 use Rattle.transactions.specs.Recording.{IsRecorded}
-use Rattle.transactions.specs.Turns.{HasTurned}
+use Rattle.chunk_fetches.specs.Turns.{HasTurned}
 use Rattle.transactions.specs.Txn.{TxnSeen, transaction_of}
 use Rattle.turn_book.specs.Passes.{BookView, PassView}
 use Rattle.transactions.proofs.MarkLaws.{are_marks}

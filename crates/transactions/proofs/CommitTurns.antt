@@ -12,17 +12,17 @@ use Rattle.history.specs.History.{History}
 use Rattle.history.specs.Legal.{IsLegal}
 use Rattle.history.specs.declared.event.Event.{Event}
 use Rattle.kv_face.specs.Store.{Contents}
-use Rattle.state_laws.specs.Agreement.{Opening, Agrees}
-use Rattle.state_laws.specs.Log.{Log}
-use Rattle.state_laws.specs.Outline.{outline}
-use Rattle.state_laws.specs.Seen.{StoreSeen}
+use Rattle.chunk_fetches.specs.Agreement.{Opening, Agrees}
+use Rattle.chunk_fetches.specs.Log.{Log}
+use Rattle.chunk_fetches.specs.Outline.{outline}
+use Rattle.chunk_fetches.specs.Seen.{StoreSeen}
 use Rattle.turn_book.specs.History.{entries_of}
 use Rattle.turn_book.specs.Passes.{BookView, PassView, IsIdle, with_turn, without_turn}
 use Rattle.transactions.specs.Committing.{HasCommitted, IsCommitTurn, IsCommittedIn, MayCommitLater}
-use Rattle.transactions.specs.Turns.{owner_of, HasTurned}
+use Rattle.chunk_fetches.specs.Turns.{owner_of, HasTurned}
 use Rattle.commits.proofs.Laws.{HasAdded, told_added}
 use Rattle.transactions.proofs.OwnLaws.{own_all}
-use Rattle.transactions.proofs.TurnLaws.{has_turned, past_of}
+use Rattle.chunk_fetches.proofs.Laws.{has_turned, past_of}
 
 prefix_then : (xs ys zs : History) → IsPrefix xs ys → IsPrefix ys zs → IsPrefix xs zs
 prefix_then xs ys zs one other = (one.0 ++ other.0, sym (append_assoc xs one.0 other.0) ∙ ap (λ h. h ++ other.0) one.1 ∙ other.1)

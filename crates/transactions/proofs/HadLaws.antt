@@ -9,22 +9,20 @@ use Rattle.history.specs.Chunks.{Chunk, is_chunk}
 use Rattle.history.specs.History.{History}
 use Rattle.history.specs.Reads.{Marks, has_mark, mark_of}
 use Rattle.history.proofs.Laws.{same_chunks}
-use Rattle.state_laws.specs.Agreement.{Opening}
+use Rattle.chunk_fetches.specs.Agreement.{Opening}
 use Rattle.transaction_cells.specs.Needs.{needs}
 use Rattle.transaction_cells.specs.Sites.{id_of}
 use Rattle.transaction_cells.specs.Staging.{StagedChunk}
 use Rattle.transaction_cells.specs.declared.view_cells.Piece.{Piece}
-use Rattle.transactions.specs.Conditions.{IsKeptIn}
-use Rattle.transactions.specs.Had.{AreFetchedAt, AreHad, IsFetchedFor, IsHad, IsHadFor, had_from, had_of}
-use Rattle.transactions.specs.Sources.{count_new, new_pieces, source_at, source_of, sources_of}
-use Rattle.transactions.specs.Txn.{TxnSeen, chunk_at, marks_of, place_from}
-use Rattle.transactions.specs.declared.kept.Kept.{Kept}
-use Rattle.transactions.specs.declared.source.Source.{Source}
-use Rattle.transactions.specs.declared.source.Source.TheVariants.{Covered, Old, New}
-
--- an id is that of a chunk
-abbrev pub IsNamed : List ℕ → Type 0
-IsNamed id = id ≡ id_of (chunk_at id)
+use Rattle.chunk_fetches.specs.Kept.{IsKeptIn, chunk_at, place_from}
+use Rattle.chunk_fetches.specs.Fetched.{AreFetchedAt, IsFetchedFor}
+use Rattle.transactions.specs.Had.{AreHad, IsHad, IsHadFor, had_from, had_of}
+use Rattle.chunk_fetches.specs.Sources.{count_new, new_pieces, source_at, source_of, sources_of}
+use Rattle.transactions.specs.Txn.{TxnSeen, marks_of}
+use Rattle.chunk_fetches.specs.declared.kept.Kept.{Kept}
+use Rattle.chunk_fetches.proofs.Laws.{IsNamed}
+use Rattle.chunk_fetches.specs.declared.source.Source.{Source}
+use Rattle.chunk_fetches.specs.declared.source.Source.TheVariants.{Covered, Old, New}
 
 itself_is : (n : ℕ) → (n == n) ≡ true
 itself_is n = grind (arith, nat_tests)

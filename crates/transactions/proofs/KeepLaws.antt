@@ -4,8 +4,9 @@ use Rattle.std.specs.List.{AllByRecursion, slice_get}
 use Rattle.std.specs.Str.{bytes_eq}
 use Rattle.std.proofs.lemmas.Slice.Eq.{bytes_eq-Decides}
 use Rattle.transactions.specs.Keeping.{AreNewTo, IsUnkept, IsUnspoilt, placed}
-use Rattle.transactions.specs.Txn.{counting, if_named, place_from}
-use Rattle.transactions.specs.declared.kept.Kept.{Kept}
+use Rattle.transactions.specs.Txn.{counting, if_named}
+use Rattle.chunk_fetches.specs.Kept.{place_from}
+use Rattle.chunk_fetches.specs.declared.kept.Kept.{Kept}
 
 pub flip : (xs ys : List ℕ) → bytes_eq xs ys ≡ bytes_eq ys xs
 flip xs ys = by (bytes_eq xs ys) refl

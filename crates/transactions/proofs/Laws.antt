@@ -4,3 +4,5 @@
 pub use Rattle.transactions.proofs.TxnLaws.{txn_later}
 -- what it has recorded is recorded: when it is begun, behind a write, behind a read, and as others' events follow
 pub use Rattle.transactions.proofs.RecordLaws.{recorded_begun, recorded_written, recorded_read, recorded_later}
+-- behind a turn a pass rests, and has seen events that may have happened
+pub use Rattle.chunk_fetches.proofs.Laws.{has_turned, past_of}

@@ -1,11 +1,6 @@
 pub mod ViewLaws
 pub mod TxnLaws
 pub mod PieceLaws
-pub mod LookLaws
-pub mod LooksLaws
-pub mod TurnLaws
-pub mod FreshLaws
-pub mod SettleLaws
 pub mod RecordLaws
 pub mod MarkLaws
 pub mod WriteLaws
@@ -19,7 +14,6 @@ pub mod TellingLaws
 pub mod ReadMarks
 pub mod StrayLaws
 pub mod KeepLaws
-pub mod FetchLaws
 pub mod LeastLaws
 pub mod ReadLaws
 pub mod Laws

@@ -13,7 +13,7 @@ use Rattle.std.proofs.lemmas.List.Sorted.{All-permutation, Contains-permutation,
 use Rattle.std.proofs.lemmas.Map.Keys.{IsDistinct-IsPermutation, IsDistinct-head, IsDistinct-tail}
 use Rattle.std.proofs.lemmas.Slice.Eq.{bytes_eq-Decides}
 use Rattle.commits.specs.Prepared.{AreMarks, HasMark, IsMarkOf}
-use Rattle.chunk_plans.specs.declared.mark.Mark.{Mark}
+use Rattle.commits.specs.declared.Mark.{Mark}
 use Rattle.history.specs.Arrays.{Known, known_after}
 use Rattle.history.specs.Chunks.{Chunk, IsIndexOf, chunk_key, is_chunk, key_in}
 use Rattle.history.specs.Generations.{HasKey}
@@ -24,16 +24,17 @@ use Rattle.history.specs.Touch.{generation_of}
 use Rattle.history.specs.declared.array.ArrayInfo.{ArrayInfo}
 use Rattle.history.proofs.Laws.{as_opened, key_is, known-longer, one_key, opened_itself, same_chunks}
 use Rattle.kv_face.specs.Store.{Contents}
-use Rattle.chunk_plans.specs.Sorting.{key_of_mark}
-use Rattle.chunk_plans.proofs.Laws.{rising_sorted}
-use Rattle.state_laws.specs.Agreement.{Opening}
-use Rattle.state_laws.specs.Outline.{outline, outlined_event}
-use Rattle.state_laws.proofs.Laws.{known-outline}
-use Rattle.transactions.specs.Conditions.{IsKeptIn, IsTxnIn}
+use Rattle.commits.specs.Sorting.{key_of_mark}
+use Rattle.commits.proofs.Laws.{rising_sorted}
+use Rattle.chunk_fetches.specs.Agreement.{Opening}
+use Rattle.chunk_fetches.specs.Outline.{outline, outlined_event}
+use Rattle.chunk_fetches.proofs.Laws.{known-outline}
+use Rattle.chunk_fetches.specs.Kept.{IsKeptIn, chunk_at}
+use Rattle.transactions.specs.Conditions.{IsTxnIn}
 use Rattle.transactions.specs.Marking.{mark_of_kept}
 use Rattle.transactions.specs.Recording.{IsRecorded}
-use Rattle.transactions.specs.Txn.{TxnSeen, chunk_at, marks_of, transaction_of}
-use Rattle.transactions.specs.declared.kept.Kept.{Kept}
+use Rattle.transactions.specs.Txn.{TxnSeen, marks_of, transaction_of}
+use Rattle.chunk_fetches.specs.declared.kept.Kept.{Kept}
 
 -- an array of some of the events is there after all of them, as it was opened
 still_opened : (events : History) (n a : ℕ) (k : Known) → IsLegal finmap.empty (outline events) → known_after (take n events) a ≡ Some k → (l : Known) × (known_after events a ≡ Some l) × (l.info ≡ k.info) × (l.opened ≡ k.opened)

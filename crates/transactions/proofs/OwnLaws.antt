@@ -6,8 +6,8 @@ use Rattle.std.proofs.lemmas.List.Elements.{All-from_recursion}
 use Rattle.commits.proofs.Laws.{IsOwn}
 use Rattle.history.specs.declared.event.Event.{Event}
 use Rattle.turn_book.specs.History.{entries_of}
-use Rattle.transactions.specs.Turns.{owner_of}
-use Rattle.transactions.proofs.TurnLaws.{itself_is}
+use Rattle.chunk_fetches.specs.Turns.{owner_of}
+use Rattle.chunk_fetches.proofs.Laws.{itself_is}
 
 -- a session's own events are all of them
 pub own_all : (owner : ℕ) (es : List Event) → AllByRecursion (IsOwn owner) es → entries_of owner_of owner es ≡ es

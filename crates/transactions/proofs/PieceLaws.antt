@@ -16,20 +16,20 @@ use Rattle.stack_driver.specs.Targets.{Cell, Target}
 use Rattle.stack_driver.specs.declared.error.TargetError.{TargetError}
 use Rattle.stack_driver.specs.Views.{targets_of}
 use Rattle.stack_driver.specs.declared.view.View.{View}
-use Rattle.state_laws.specs.Fetches.{IsChunkOf}
-use Rattle.state_laws.specs.Outline.{outline, outlined_event}
-use Rattle.state_laws.proofs.Laws.{known-outline}
+use Rattle.chunk_fetches.specs.Fetches.{IsChunkOf}
+use Rattle.chunk_fetches.specs.Outline.{outline, outlined_event}
+use Rattle.chunk_fetches.proofs.Laws.{known-outline, grows_in}
 use Rattle.transaction_cells.specs.Operations.{HasSites}
 use Rattle.transaction_cells.specs.Pieces.{AreCells, IsPiece}
 use Rattle.transaction_cells.specs.Sites.{Site, pairs_at, sites_of}
 use Rattle.transaction_cells.specs.declared.view_cells.Piece.{Piece}
 use Rattle.transaction_cells.specs.declared.view_cells.ViewCells.{ViewCells}
 use Rattle.transaction_cells.proofs.Laws.{IsSiteIn, known_sites}
-use Rattle.transactions.specs.Looking.{AreChunks}
-use Rattle.transactions.specs.Sources.{is_new, new_pieces}
-use Rattle.transactions.specs.Txn.{chunk_at}
-use Rattle.transactions.specs.declared.source.Source.{Source}
-use Rattle.transactions.proofs.ViewLaws.{grows_in, leaves_of_known}
+use Rattle.chunk_fetches.specs.Looking.{AreChunks}
+use Rattle.chunk_fetches.specs.Sources.{is_new, new_pieces}
+use Rattle.chunk_fetches.specs.Kept.{chunk_at}
+use Rattle.chunk_fetches.specs.declared.source.Source.{Source}
+use Rattle.transactions.proofs.ViewLaws.{leaves_of_known}
 
 module _ (events : History) (legal : IsLegal finmap.empty (outline events)) where
   -- the chunk of a cell that once was in its array's shape is one of the array's

@@ -35,8 +35,8 @@ use Rattle.stack_driver.specs.Views.{look_of, targets_of}
 use Rattle.stack_driver.specs.declared.error.TargetError.{TargetError}
 use Rattle.stack_driver.specs.declared.view.View.{View}
 use Rattle.stack_targets.specs.Landings.{leaves_of}
-use Rattle.state_laws.specs.Agreement.{Opening}
-use Rattle.state_laws.specs.Outline.{outline, outlined_event}
+use Rattle.chunk_fetches.specs.Agreement.{Opening}
+use Rattle.chunk_fetches.specs.Outline.{outline, outlined_event}
 use Rattle.transaction_cells.specs.Gathered.{AreChunksOf, AreTypedChunks, IsTold}
 use Rattle.transaction_cells.specs.Operations.{AreStaged, HasSites, IsInArray, IsLeafIn, no_content}
 use Rattle.transaction_cells.specs.Pieces.{AreCells, IsPiece, ids_of}
@@ -45,33 +45,34 @@ use Rattle.transaction_cells.specs.Staging.{CanStage, StagedChunk}
 use Rattle.transaction_cells.specs.declared.view_cells.Piece.{Piece}
 use Rattle.transaction_cells.specs.declared.view_cells.ViewCells.{ViewCells}
 use Rattle.transaction_cells.proofs.Laws.{can_stage, count_of, known_sites}
-use Rattle.transactions.specs.Conditions.{IsChunkThen, IsKeptIn, IsKnownOp, IsTxnIn}
-use Rattle.transactions.specs.Decoding.{HasDamagedAmong}
-use Rattle.transactions.specs.Fetching.{IsFetchError}
-use Rattle.transactions.specs.Had.{AreFetched, AreFetchedAt, AreHad, IsFetchedFor, IsDenseOrNone, snapshots_of}
+use Rattle.chunk_fetches.specs.Kept.{IsChunkThen, IsKeptIn, chunk_at, place_from}
+use Rattle.transactions.specs.Conditions.{IsKnownOp, IsTxnIn}
+use Rattle.chunk_fetches.specs.Decoding.{HasDamagedAmong}
+use Rattle.chunk_fetches.specs.Fetching.{IsFetchError}
+use Rattle.chunk_fetches.specs.Fetched.{AreFetched, AreFetchedAt, IsFetchedFor}
+use Rattle.transactions.specs.Had.{AreHad, IsDenseOrNone, snapshots_of}
 use Rattle.transactions.specs.Keeping.{AreNewTo, IsUnkept, with_read}
-use Rattle.transactions.specs.Looking.{AreChunks, HasFailedAmong, HasFailedAt}
+use Rattle.chunk_fetches.specs.Looking.{AreChunks, HasFailedAmong, HasFailedAt}
 use Rattle.transactions.specs.Reading.{as_read_fault, HasFailedRead, HasRead, IsReadBy, IsReadError, IsReadOf, IsStoredIn, IsStrayRefusal, had_by, strays_by}
-use Rattle.transactions.specs.Sources.{new_pieces, sources_of}
+use Rattle.chunk_fetches.specs.Sources.{new_pieces, sources_of}
 use Rattle.transactions.specs.Strays.{AreFitting}
-use Rattle.transactions.specs.Turns.{HasFailedTurn, HasPassed, HasTurned}
-use Rattle.transactions.specs.Txn.{TxnSeen, chunk_at, marks_of, place_from, transaction_of}
-use Rattle.transactions.specs.declared.error.ReadError.{ReadError}
-use Rattle.transactions.specs.declared.error.ReadError.TheVariants as read
+use Rattle.chunk_fetches.specs.Turns.{HasFailedTurn, HasPassed, HasTurned}
+use Rattle.transactions.specs.Txn.{TxnSeen, marks_of, transaction_of}
+use Rattle.chunk_fetches.specs.declared.error.ReadError.{ReadError}
+use Rattle.chunk_fetches.specs.declared.error.ReadError.TheVariants as read
 use Rattle.transactions.specs.declared.error.WriteError.{WriteError}
 use Rattle.transactions.specs.declared.error.WriteError.TheVariants as write
 use Rattle.transactions.specs.Faults.{IsLocateFault}
-use Rattle.transactions.specs.declared.kept.Kept.{Kept}
-use Rattle.transactions.specs.declared.source.Source.{Source}
+use Rattle.chunk_fetches.specs.declared.kept.Kept.{Kept}
+use Rattle.chunk_fetches.specs.declared.source.Source.{Source}
 use Rattle.transactions.specs.declared.stray.Stray.{Stray}
-use Rattle.transactions.proofs.FetchLaws.{passed_turned, passed_twice, prefix_on}
-use Rattle.transactions.proofs.HadLaws.{IsNamed, at_one, had_all}
+use Rattle.chunk_fetches.proofs.Laws.{passed_turned, passed_twice, prefix_on, IsNamed, failed_adds}
+use Rattle.transactions.proofs.HadLaws.{at_one, had_all}
 use Rattle.transactions.proofs.KeepLaws.{flip, place_behind}
 use Rattle.transactions.proofs.PieceLaws.{known_pieces, new_chunks}
 use Rattle.transactions.proofs.ReadMarks.{IsNewTo, all_apart, are_marked, chunk_needed, each_needed, each_unmarked, news_are, of_news, sorted_apart}
 use Rattle.transactions.proofs.StrayLaws.{IsStrayIn, found_of, shrunk_read, stray_or_inside, strays_are}
 use Rattle.transactions.proofs.TellingLaws.{IsPieceOf, all_fit, all_sized, all_typed, pieces_are, told_at}
-use Rattle.transactions.proofs.TurnLaws.{failed_adds}
 use Rattle.transactions.proofs.TxnLaws.{all_with, txn_later}
 use Rattle.transactions.proofs.ViewCellLaws.{IsCellOf, cells_of_view, each_of, one_of}
 use Rattle.transactions.proofs.ViewLaws.{counted_view, leaves_of_known}

@@ -21,7 +21,7 @@ use Rattle.history.proofs.Laws.{same_chunks}
 use Rattle.stack_driver.specs.Targets.{Cell}
 use Rattle.stack_driver.specs.declared.view.View.{View}
 use Rattle.stack_targets.specs.Landings.{leaves_of}
-use Rattle.state_laws.specs.Agreement.{Opening}
+use Rattle.chunk_fetches.specs.Agreement.{Opening}
 use Rattle.transaction_cells.specs.Needs.{needs}
 use Rattle.transaction_cells.specs.Operations.{AreStaged, HasSites, IsLeafIn}
 use Rattle.transaction_cells.specs.Pieces.{IsPiece, ids_of}
@@ -29,14 +29,16 @@ use Rattle.transaction_cells.specs.Sites.{id_of, sites_of}
 use Rattle.transaction_cells.specs.Staging.{StagedChunk}
 use Rattle.transaction_cells.specs.declared.view_cells.Piece.{Piece}
 use Rattle.transaction_cells.proofs.Laws.{needs_unwritten}
-use Rattle.transactions.specs.Conditions.{IsKeptIn}
-use Rattle.transactions.specs.Had.{AreFetchedAt, AreHad}
-use Rattle.transactions.specs.Sources.{is_new, new_pieces, source_at, source_of, sources_of}
-use Rattle.transactions.specs.Txn.{TxnSeen, chunk_at, marks_of, place_from, transaction_of}
-use Rattle.transactions.specs.declared.kept.Kept.{Kept}
-use Rattle.transactions.specs.declared.source.Source.{Source}
-use Rattle.transactions.specs.declared.source.Source.TheVariants.{Covered, Old, New}
-use Rattle.transactions.proofs.HadLaws.{IsNamed, id_test, new_is, none_at}
+use Rattle.chunk_fetches.specs.Kept.{IsKeptIn, chunk_at, place_from}
+use Rattle.chunk_fetches.specs.Fetched.{AreFetchedAt}
+use Rattle.transactions.specs.Had.{AreHad}
+use Rattle.chunk_fetches.specs.Sources.{is_new, new_pieces, source_at, source_of, sources_of}
+use Rattle.transactions.specs.Txn.{TxnSeen, marks_of, transaction_of}
+use Rattle.chunk_fetches.specs.declared.kept.Kept.{Kept}
+use Rattle.chunk_fetches.specs.declared.source.Source.{Source}
+use Rattle.chunk_fetches.specs.declared.source.Source.TheVariants.{Covered, Old, New}
+use Rattle.chunk_fetches.proofs.Laws.{IsNamed}
+use Rattle.transactions.proofs.HadLaws.{id_test, new_is, none_at}
 use Rattle.transactions.proofs.ViewCellLaws.{IsCellOf, each_of, found_among, one_of, passes, any_of}
 
 -- the id of a cell's chunk is that of a piece where the chunks are one

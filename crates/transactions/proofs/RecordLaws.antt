@@ -24,13 +24,13 @@ use Rattle.stack_driver.specs.Targets.{Cell, Target}
 use Rattle.stack_driver.specs.Views.{targets_of}
 use Rattle.stack_driver.specs.declared.error.TargetError.{TargetError}
 use Rattle.stack_driver.specs.declared.view.View.{View}
-use Rattle.state_laws.specs.Agreement.{Opening}
-use Rattle.state_laws.specs.Outline.{outline, outlined_event}
+use Rattle.chunk_fetches.specs.Agreement.{Opening}
+use Rattle.chunk_fetches.specs.Outline.{outline, outlined_event}
 use Rattle.transaction_cells.proofs.Laws.{same_chunk}
 use Rattle.transactions.specs.Conditions.{IsKnownOp}
 use Rattle.transactions.specs.Recording.{AreOfFootprint, IsOfView, IsRecorded}
 use Rattle.transactions.proofs.TxnLaws.{all_with}
-use Rattle.transactions.proofs.ViewLaws.{grows_in, keeps_front}
+use Rattle.chunk_fetches.proofs.Laws.{grows_in, keeps_front}
 
 -- cells that operations read first, those of more operations behind them
 first_reads-append : (before ops more : List Op) → first_reads before (ops ++ more) ≡ first_reads before ops ++ first_reads (before ++ ops) more

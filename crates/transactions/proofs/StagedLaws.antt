@@ -15,8 +15,8 @@ use Rattle.transaction_cells.specs.Sites.{Site, sites_of}
 use Rattle.transaction_cells.specs.declared.view_cells.ViewCells.{ViewCells}
 use Rattle.transaction_cells.proofs.Laws.{count_of}
 use Rattle.transactions.specs.Reading.{IsFoundUnless, as_read_fault}
-use Rattle.transactions.specs.declared.error.ReadError.{ReadError}
-use Rattle.transactions.specs.declared.error.ReadError.TheVariants as read
+use Rattle.chunk_fetches.specs.declared.error.ReadError.{ReadError}
+use Rattle.chunk_fetches.specs.declared.error.ReadError.TheVariants as read
 use Rattle.transactions.specs.declared.error.WriteError.{WriteError}
 use Rattle.transactions.specs.declared.error.WriteError.TheVariants as write
 use Rattle.transactions.proofs.ViewLaws.{counted_view}

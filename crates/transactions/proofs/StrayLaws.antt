@@ -24,9 +24,9 @@ use Rattle.history.specs.declared.event.Op.{Op}
 use Rattle.stack_driver.specs.Targets.{Cell}
 use Rattle.stack_driver.specs.declared.view.View.{View}
 use Rattle.stack_targets.specs.Landings.{leaves_of}
-use Rattle.state_laws.specs.Agreement.{Opening}
-use Rattle.state_laws.specs.Outline.{outline}
-use Rattle.state_laws.specs.declared.reading.Bounds.{Bounds}
+use Rattle.chunk_fetches.specs.Agreement.{Opening}
+use Rattle.chunk_fetches.specs.Outline.{outline}
+use Rattle.chunk_fetches.specs.declared.Bounds.{Bounds}
 use Rattle.transaction_cells.specs.Operations.{AreStaged, HasSites, IsLeafIn}
 use Rattle.transaction_cells.specs.Outside.{is_cell_outside, needs_outside}
 use Rattle.transaction_cells.specs.Pieces.{IsPiece}
@@ -35,12 +35,13 @@ use Rattle.transaction_cells.specs.Staging.{StagedChunk, staged_of}
 use Rattle.transaction_cells.specs.declared.view_cells.Piece.{Piece}
 use Rattle.transaction_cells.proofs.Laws.{outside_of_view}
 use Rattle.transactions.specs.Had.{AreHad, IsHadFor, had_from, had_of}
-use Rattle.transactions.specs.Sources.{count_new}
-use Rattle.transactions.specs.declared.source.Source.{Source}
-use Rattle.transactions.specs.declared.source.Source.TheVariants.{Covered, Old, New}
+use Rattle.chunk_fetches.specs.Sources.{count_new}
+use Rattle.chunk_fetches.specs.declared.source.Source.{Source}
+use Rattle.chunk_fetches.specs.declared.source.Source.TheVariants.{Covered, Old, New}
 use Rattle.transactions.specs.Strays.{AreFitting, HasLastNumber, HasLeastKey, IsFitting, stray_at, stray_of, strays_of, with_stray}
-use Rattle.transactions.specs.Txn.{TxnSeen, chunk_at, transaction_of}
-use Rattle.transactions.specs.declared.kept.Kept.{Kept}
+use Rattle.transactions.specs.Txn.{TxnSeen, transaction_of}
+use Rattle.chunk_fetches.specs.Kept.{chunk_at}
+use Rattle.chunk_fetches.specs.declared.kept.Kept.{Kept}
 use Rattle.transactions.specs.declared.stray.Stray.{Stray}
 use Rattle.transactions.proofs.ReadMarks.{each_needs}
 use Rattle.transactions.proofs.TellingLaws.{IsPieceOf, chunk_at_mark, info_at, local_at, local_inside}

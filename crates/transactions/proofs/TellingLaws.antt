@@ -25,11 +25,11 @@ use Rattle.history.specs.declared.array.Home.TheVariants.{Zarr, N5, Zarr3, Local
 use Rattle.history.proofs.Laws.{IsLegal-front, WasInside, good_rank, in_array-split, known_good, local_shape, some_inj, world_from}
 use Rattle.kv_face.specs.Store.{Contents}
 use Rattle.stack_driver.specs.Targets.{Cell}
-use Rattle.state_laws.specs.Agreement.{Opening}
-use Rattle.state_laws.specs.Fetches.{IsChunkOf}
-use Rattle.state_laws.specs.Outline.{outline, outlined_event}
-use Rattle.state_laws.specs.declared.reading.Bounds.{Bounds}
-use Rattle.state_laws.proofs.Laws.{known-outline}
+use Rattle.chunk_fetches.specs.Agreement.{Opening}
+use Rattle.chunk_fetches.specs.Fetches.{IsChunkOf}
+use Rattle.chunk_fetches.specs.Outline.{outline, outlined_event}
+use Rattle.chunk_fetches.specs.declared.Bounds.{Bounds}
+use Rattle.chunk_fetches.proofs.Laws.{known-outline, IsNamed, grows_in}
 use Rattle.transaction_cells.specs.Gathered.{AreChunksOf, AreTypedChunks, IsTold, chunk_word, place_in}
 use Rattle.transaction_cells.specs.Outside.{AreRanked, IsInGrid, index_in}
 use Rattle.transaction_cells.specs.Pieces.{IsPiece}
@@ -37,16 +37,13 @@ use Rattle.transaction_cells.specs.Sites.{Site, id_of, pairs_at}
 use Rattle.transaction_cells.specs.Staging.{StagedChunk}
 use Rattle.transaction_cells.specs.declared.view_cells.Piece.{Piece}
 use Rattle.transaction_cells.proofs.Laws.{IsSiteIn, inside_in_chunk}
-use Rattle.transactions.specs.Conditions.{IsChunkThen, IsKeptIn}
+use Rattle.chunk_fetches.specs.Kept.{IsChunkThen, IsKeptIn, chunk_at}
 use Rattle.transactions.specs.Had.{AreHad, IsDenseOrNone, IsHad, IsHadFor, snapshots_of}
-use Rattle.transactions.specs.Looking.{AreChunks}
+use Rattle.chunk_fetches.specs.Looking.{AreChunks}
 use Rattle.transactions.specs.Strays.{AreFitting, IsFitting}
-use Rattle.transactions.specs.Txn.{chunk_at}
-use Rattle.transactions.specs.declared.kept.Kept.{Kept}
-use Rattle.transactions.proofs.HadLaws.{IsNamed}
+use Rattle.chunk_fetches.specs.declared.kept.Kept.{Kept}
 use Rattle.transactions.proofs.PieceLaws.{has_site}
 use Rattle.transactions.proofs.ViewCellLaws.{IsCellOf, IsFound}
-use Rattle.transactions.proofs.ViewLaws.{grows_in}
 
 -- a shape with a cell has no size of 0
 ones_same : (shape xs : List ℕ) → is_inside shape xs ≡ true → map (max 1) shape ≡ shape

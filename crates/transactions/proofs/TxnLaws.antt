@@ -1,6 +1,6 @@
 -- A transaction beside what its pass has seen, from one line to the next.
 use Rattle.std.proofs.Common.{◌≡◌, ℕ, List, [], ◌∷◌, ◌++◌, length, Some, sym, subst, arith}
-use Rattle.std.specs.Prelude.{OnOk, IfOk, IsErrAnd, Result, Ok, Err}
+use Rattle.std.specs.Prelude.{OnOk, Result, Ok, Err}
 use Rattle.std.specs.FinMap as finmap
 use Rattle.std.specs.List.{AllByRecursion}
 use Rattle.std.proofs.Math.Seq.{take-append_seam, take-length}
@@ -14,27 +14,20 @@ use Rattle.history.specs.declared.event.Op.TheVariants.{Write}
 use Rattle.history.proofs.Laws.{view_later}
 use Rattle.stack_driver.specs.declared.view.View.{View}
 use Rattle.stack_targets.specs.Landings.{leaves_of}
-use Rattle.state_laws.specs.Agreement.{Opening}
-use Rattle.state_laws.specs.Outline.{outline}
+use Rattle.chunk_fetches.specs.Agreement.{Opening}
+use Rattle.chunk_fetches.specs.Outline.{outline}
 use Rattle.transaction_cells.specs.Operations.{AreStaged, IsLeafIn}
 use Rattle.transaction_cells.proofs.Laws.{staged_later}
-use Rattle.transactions.specs.Conditions.{IsChunkThen, IsKnownOp, IsKeptIn, IsTxnIn}
-use Rattle.transactions.specs.Txn.{TxnSeen, chunk_at}
-use Rattle.transactions.specs.declared.kept.Kept.{Kept}
-use Rattle.transactions.proofs.ViewLaws.{keeps_front, leaves_of_known}
+use Rattle.chunk_fetches.specs.Kept.{IsChunkThen, IsKeptIn, chunk_at}
+use Rattle.transactions.specs.Conditions.{IsKnownOp, IsTxnIn}
+use Rattle.transactions.specs.Txn.{TxnSeen}
+use Rattle.chunk_fetches.specs.declared.kept.Kept.{Kept}
+use Rattle.chunk_fetches.proofs.Laws.{keeps_front}
+use Rattle.transactions.proofs.ViewLaws.{leaves_of_known}
 
 pub on_ok_two : {T E A B C : Type 0} (r : Result T E) → OnOk r A → OnOk r B → (A → B → C) → OnOk r C
 on_ok_two (Ok x) a b f = f a b
 on_ok_two (Err e) a b f = tt
-
-pub if_ok_two : {T E : Type 0} {P Q R : T → Type 0} (r : Result T E) → IfOk r P → IfOk r Q → ((x : T) → P x → Q x → R x) → IfOk r R
-if_ok_two (Ok x) p q f = f x p q
-if_ok_two (Err e) p q f = tt
-
--- what holds of the error of an answer
-pub err_and : {A E : Type 0} (P : E → Type 0) (r : Result A E) (x : E) → r ≡ Err x → IsErrAnd r P → P x
-err_and P (Ok a) x is holds = absurd (let no_such : ⊥ = cc in no_such)
-err_and {A} {E} P (Err y) x is holds = subst (λ (r : Result A E). IsErrAnd r P) is holds
 
 pub all_with : {A : Type 0} (P : A → Type 0) (xs ys : List A) → AllByRecursion P xs → AllByRecursion P ys → AllByRecursion P (xs ++ ys)
 all_with P [] ys all rest = rest

@@ -32,9 +32,9 @@ use Rattle.stack_driver.specs.Views.{targets_of}
 use Rattle.stack_driver.specs.declared.error.TargetError.{TargetError}
 use Rattle.stack_driver.specs.declared.view.View.{View}
 use Rattle.stack_targets.specs.Landings.{leaves_of}
-use Rattle.state_laws.specs.Agreement.{Opening}
-use Rattle.state_laws.specs.Outline.{outline, outlined_event}
-use Rattle.state_laws.proofs.Laws.{known-outline}
+use Rattle.chunk_fetches.specs.Agreement.{Opening}
+use Rattle.chunk_fetches.specs.Outline.{outline, outlined_event}
+use Rattle.chunk_fetches.proofs.Laws.{known-outline, IsNamed, grows_in}
 use Rattle.transaction_cells.specs.Gathered.{AreChunksOf, IsTold, chunk_word, place_in, word_of}
 use Rattle.transaction_cells.specs.Needs.{needs}
 use Rattle.transaction_cells.specs.Outside.{needs_outside}
@@ -45,14 +45,12 @@ use Rattle.transaction_cells.specs.Staging.{StagedChunk}
 use Rattle.transaction_cells.specs.declared.view_cells.Piece.{Piece}
 use Rattle.transaction_cells.specs.declared.view_cells.ViewCells.{ViewCells}
 use Rattle.transaction_cells.proofs.Laws.{IsSiteIn, inside_in_chunk, known_sites, named_cells, needs_unwritten}
-use Rattle.transactions.specs.Conditions.{IsChunkThen, IsKeptIn}
+use Rattle.chunk_fetches.specs.Kept.{IsChunkThen, IsKeptIn, chunk_at}
 use Rattle.transactions.specs.Had.{AreHad, IsHad, IsHadFor, snapshot_of, snapshots_of}
 use Rattle.transactions.specs.Strays.{stray_at, stray_of, strays_of, with_stray}
-use Rattle.transactions.specs.Txn.{chunk_at}
-use Rattle.transactions.specs.declared.kept.Kept.{Kept}
+use Rattle.chunk_fetches.specs.declared.kept.Kept.{Kept}
 use Rattle.transactions.specs.declared.stray.Stray.{Stray}
-use Rattle.transactions.proofs.HadLaws.{IsNamed}
-use Rattle.transactions.proofs.ViewLaws.{grows_in, leaves_of_known}
+use Rattle.transactions.proofs.ViewLaws.{leaves_of_known}
 
 -- a cell of an array of the history, in the chunk of a piece, that once was in its array's shape
 pub record IsCellOf (events : History) (pieces : List Piece) (x : Cell) : Type 0 where

@@ -1,15 +1,13 @@
 -- Views that may be read or written, and their arrays.
-use Rattle.std.proofs.Common.{◌≡◌, ◌∙◌, ℕ, ◌+◌, ◌*◌, ◌≤◌, Bool, true, false, cond, not, List, [], ◌∷◌, ◌++◌, length, map, take, Option, Some, None, Ok, Err, refl, sym, ap, arith}
+use Rattle.std.proofs.Common.{◌≡◌, ◌∙◌, ℕ, ◌+◌, ◌*◌, ◌≤◌, Bool, true, false, cond, not, List, [], ◌∷◌, length, map, Option, Some, None, Ok, Err, refl, sym, ap, arith}
 use Rattle.std.specs.Prelude.{nat_le, ◌==◌}
 use Rattle.std.specs.FinMap as finmap
 use Rattle.std.specs.List.{AllByRecursion, list_all, list_any, position_from}
-use Rattle.std.proofs.lemmas.List.{length-map, take-map}
+use Rattle.std.proofs.lemmas.List.{length-map}
 use Rattle.std.proofs.lemmas.Bool.Decides.{nat_tests}
-use Rattle.history.specs.Arrays.{known_after}
 use Rattle.history.specs.History.{History}
 use Rattle.history.specs.Legal.{IsLegal}
 use Rattle.history.specs.Refs.{HasKnownRefs}
-use Rattle.history.proofs.Laws.{known_still}
 use Rattle.index_intervals.specs.Bounds.{Bounds}
 use Rattle.index_transform.specs.Cells.{cells_of, is_finite, counted_from, unless_infinite, count_answer}
 use Rattle.index_transform.specs.Maps.{size_of}
@@ -18,11 +16,10 @@ use Rattle.index_transform.proofs.Laws.{list_all-position_from}
 use Rattle.stack_driver.specs.Views.{look_of, target_of, targets_of}
 use Rattle.stack_driver.specs.declared.view.View.{View}
 use Rattle.stack_targets.specs.Landings.{leaves_of}
-use Rattle.state_laws.specs.Outline.{outline, outlined_event}
-use Rattle.state_laws.proofs.Laws.{known-outline}
+use Rattle.chunk_fetches.specs.Outline.{outline}
+use Rattle.chunk_fetches.proofs.Laws.{grows_in}
 use Rattle.transaction_cells.specs.Lanes.{AreAlike}
-use Rattle.transaction_cells.specs.Operations.{HasSites, IsLeafIn, IsGrowing, KeepsArrays}
-use Rattle.std.proofs.Math.Seq.{take-append_seam}
+use Rattle.transaction_cells.specs.Operations.{HasSites, IsLeafIn}
 use Rattle.transaction_cells.specs.Pieces.{AreCells}
 use Rattle.transaction_cells.specs.Sites.{Site, sites_of}
 use Rattle.transaction_cells.specs.declared.view_cells.ViewCells.{ViewCells}
@@ -58,20 +55,9 @@ leaf_count v cells has are =
     sym (count_of (sites_of v) cells.lanes cells.leaves are.casts) ∙ sym (length-map (sites_of v) (λ (s : Site). Ok s.target)) ∙ sym (ap length has.targets)
     ∙ length-map (cells_of (look_of v).dims) (target_of v)
 
--- arrays that were opened as a history may stay
-pub grows_in : (events : History) → IsLegal finmap.empty (outline events) → IsGrowing events
-grows_in events legal n a k is =
-    let early : known_after (take n (outline events)) a ≡ Some k = ap (λ h. known_after h a) (take-map outlined_event n events) ∙ known-outline a (take n events) ∙ is in
-    let still = known_still finmap.empty (outline events) a n k legal early in
-    (still.0, sym (known-outline a events) ∙ still.1, still.2)
-
 -- so a view of them has leaves of them, which tell one chunk shape for each
 pub leaves_of_known : (events : History) (v : View) → IsLegal finmap.empty (outline events) → HasKnownRefs events v → AllByRecursion (IsLeafIn events) (leaves_of v)
 leaves_of_known events v legal refs = leaves_among events v (grows_in events legal) refs
 
 pub alike_known : (events : History) (v : View) → IsLegal finmap.empty (outline events) → HasKnownRefs events v → AreAlike (leaves_of v)
 alike_known events v legal refs = alike_in events (leaves_of v) (leaves_of_known events v legal refs)
-
--- arrays of the first events stay as others follow
-pub keeps_front : (early more : History) → IsLegal finmap.empty (outline (early ++ more)) → KeepsArrays early (early ++ more)
-keeps_front early more legal a k is = grows_in (early ++ more) legal (length early) a k (ap (λ h. known_after h a) (take-append_seam early more) ∙ is)

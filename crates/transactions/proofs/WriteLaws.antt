@@ -15,8 +15,8 @@ use Rattle.std.proofs.lemmas.Slice.Eq.{bytes_eq-Decides}
 use Rattle.cells.specs.Places.{IsInside, cell_count, c_place}
 use Rattle.cells.specs.Shapes.{is_inside}
 use Rattle.cells.proofs.Laws.{both, true_or_false}
-use Rattle.chunk_plans.specs.Writes.{chunk_of_write}
-use Rattle.chunk_plans.specs.declared.write.ChunkWrite.{ChunkWrite}
+use Rattle.commits.specs.PlanWrites.{chunk_of_write}
+use Rattle.commits.specs.declared.ChunkWrite.{ChunkWrite}
 use Rattle.commits.specs.Prepared.{AreWrites, HasWrite, IsPutAmong, IsStagedFor, IsStagedWrite, word_put}
 use Rattle.chunk_forms.specs.Names as names
 use Rattle.history.specs.Arrays.{Known, known_after, chunk_shape, form_of, is_local}
@@ -29,29 +29,28 @@ use Rattle.history.specs.declared.array.ArrayInfo.{ArrayInfo}
 use Rattle.history.specs.declared.event.Op.{Op}
 use Rattle.history.specs.declared.event.Op.TheVariants.{Write, Read}
 use Rattle.history.proofs.Laws.{IsLegal-front, LiesOf, known_good, WasInside, as_opened, good_rank, known-longer, local_shape, one_chunk, opened_itself, some_inj, targets_lie}
-use Rattle.chunk_plans.specs.Asking.{IsAsked, IsPart, chunk_of_part, part_in}
-use Rattle.chunk_plans.specs.Readying.{IsWriteFor}
-use Rattle.chunk_plans.specs.Sorting.{key_of_write}
-use Rattle.chunk_plans.specs.declared.asked.Asked.{Asked}
-use Rattle.chunk_plans.specs.declared.asked.Part.{Part}
-use Rattle.chunk_plans.proofs.Laws.{rising_sorted}
+use Rattle.commits.specs.Asking.{IsAsked, IsPart, chunk_of_part, part_in}
+use Rattle.commits.specs.Readying.{IsWriteFor}
+use Rattle.commits.specs.Sorting.{key_of_write}
+use Rattle.commits.specs.declared.Asked.{Asked}
+use Rattle.commits.specs.declared.Part.{Part}
+use Rattle.commits.proofs.Laws.{rising_sorted}
 use Rattle.rebase_writes.specs.Staged.{AreWords, staged_at}
 use Rattle.stack_driver.specs.Targets.{Cell, Target}
 use Rattle.stack_driver.specs.Views.{targets_of}
 use Rattle.stack_driver.specs.declared.error.TargetError.{TargetError}
-use Rattle.state_laws.specs.Agreement.{Opening}
-use Rattle.state_laws.specs.Outline.{outline, outlined_event}
-use Rattle.state_laws.proofs.Laws.{good_in, known-outline}
+use Rattle.chunk_fetches.specs.Agreement.{Opening}
+use Rattle.chunk_fetches.specs.Outline.{outline, outlined_event}
+use Rattle.chunk_fetches.proofs.Laws.{good_in, known-outline, grows_in}
 use Rattle.transaction_cells.specs.Operations.{AreStaged, IsInArray}
 use Rattle.transaction_cells.specs.Sites.{id_of}
 use Rattle.transaction_cells.specs.Staging.{StagedChunk, staged_of}
 use Rattle.transaction_cells.proofs.Laws.{staged_cell}
 use Rattle.transactions.specs.Conditions.{IsKnownOp}
 use Rattle.transactions.specs.Preparing.{AreWritesFor, seen_chunk, seen_part}
-use Rattle.transactions.specs.Txn.{chunk_at}
+use Rattle.chunk_fetches.specs.Kept.{chunk_at}
 use Rattle.transactions.proofs.PieceLaws.{was_index}
 use Rattle.transactions.proofs.TxnLaws.{all_with}
-use Rattle.transactions.proofs.ViewLaws.{grows_in}
 
 -- parts of lists that are equal
 abbrev head_or : {A : Type 0} → A → List A → A

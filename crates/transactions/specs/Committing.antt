@@ -12,13 +12,13 @@ use Rattle.history.specs.History.{History}
 use Rattle.history.specs.Legal.{IsLegal}
 use Rattle.history.specs.declared.event.Event.{Event}
 use Rattle.kv_face.specs.Store.{Contents}
-use Rattle.state_laws.specs.Agreement.{Opening, Agrees}
-use Rattle.state_laws.specs.Log.{Log}
-use Rattle.state_laws.specs.Outline.{outline}
-use Rattle.state_laws.specs.Seen.{StoreSeen}
+use Rattle.chunk_fetches.specs.Agreement.{Opening, Agrees}
+use Rattle.chunk_fetches.specs.Log.{Log}
+use Rattle.chunk_fetches.specs.Outline.{outline}
+use Rattle.chunk_fetches.specs.Seen.{StoreSeen}
 use Rattle.turn_book.specs.History.{entries_of}
 use Rattle.turn_book.specs.Passes.{BookView, PassView}
-use Rattle.transactions.specs.Turns.{HasTurned, owner_of}
+use Rattle.chunk_fetches.specs.Turns.{HasTurned, owner_of}
 use Rattle.transactions.specs.Txn.{TxnSeen}
 use Rattle.transactions.specs.declared.error.CommitError.{CommitError}
 

@@ -6,10 +6,10 @@ use Rattle.stack_driver.specs.Views.{look_of}
 use Rattle.stack_driver.specs.declared.view.View.{View}
 use Rattle.stack_targets.specs.Buffers.{all_targets}
 use Rattle.stack_targets.specs.declared.error.TargetsError.TheVariants as targets
-use Rattle.transactions.specs.declared.error.ViewFault.{ViewFault}
+use Rattle.chunk_fetches.specs.declared.error.ViewFault.{ViewFault}
 use Rattle.transactions.specs.declared.error.WriteError.{WriteError}
 use Rattle.transactions.specs.declared.error.WriteError.TheVariants as write
-use Rattle.transactions.specs.declared.error.ViewFault.TheVariants.{Unbounded, TooMany, OutOfRange, Uncovered}
+use Rattle.chunk_fetches.specs.declared.error.ViewFault.TheVariants.{Unbounded, TooMany, OutOfRange, Uncovered}
 
 -- it has infinitely many cells, or too many, or a cell without a target
 abbrev pub IsFaultOf : View → ViewFault → Type 0

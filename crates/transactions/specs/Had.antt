@@ -1,22 +1,20 @@
 -- What a read has of the chunks of a view's pieces.
-use Rattle.std.specs.Prelude.{◌≡◌, ◌≤◌, ◌+◌, ℕ, List, [], ◌∷◌, map, true, false, Option, Some, None}
+use Rattle.std.specs.Prelude.{◌≡◌, ◌+◌, ℕ, List, [], ◌∷◌, map, true, false, Option, Some, None}
 use Rattle.std.specs.List.{slice_get}
 use Rattle.std.specs.Option.{option_map}
 use Rattle.cells.specs.Dense.{IsDense}
 use Rattle.chunk_cache.specs.Snapshot.{SnapshotCells}
 use Rattle.history.specs.History.{History}
 use Rattle.history.specs.Reads.{Marks, has_mark, mark_of}
-use Rattle.state_laws.specs.Agreement.{Opening}
+use Rattle.chunk_fetches.specs.Agreement.{Opening}
 use Rattle.transaction_cells.specs.Needs.{needs}
 use Rattle.transaction_cells.specs.Staging.{StagedChunk}
 use Rattle.transaction_cells.specs.declared.view_cells.Piece.{Piece}
-use Rattle.transactions.specs.Conditions.{IsKeptIn}
-use Rattle.transactions.specs.Sources.{count_new}
-use Rattle.transactions.specs.Txn.{chunk_at}
-use Rattle.transactions.specs.declared.kept.Kept.{Kept}
-use Rattle.transactions.specs.declared.looked.Fresh.{Fresh}
-use Rattle.transactions.specs.declared.source.Source.{Source}
-use Rattle.transactions.specs.declared.source.Source.TheVariants.{Covered, Old, New}
+use Rattle.chunk_fetches.specs.Kept.{IsKeptIn, chunk_at}
+use Rattle.chunk_fetches.specs.Sources.{count_new}
+use Rattle.chunk_fetches.specs.declared.kept.Kept.{Kept}
+use Rattle.chunk_fetches.specs.declared.source.Source.{Source}
+use Rattle.chunk_fetches.specs.declared.source.Source.TheVariants.{Covered, Old, New}
 
 -- the chunk of a piece: one that is kept, or one that was fetched, where so many were for the pieces before it
 abbrev pub had_of : Source → List Kept → List Kept → ℕ → Option Kept
@@ -40,34 +38,6 @@ snapshots_of had = map snapshot_of had
 abbrev pub IsDenseOrNone : Option SnapshotCells → Type 0
 IsDenseOrNone None = Unit {0}
 IsDenseOrNone (Some s) = IsDense s.cells
-
--- a chunk of a piece as it is kept, and those of pieces in order
-abbrev pub kept_as : ℕ → Piece → Fresh → Kept
-kept_as mark p f = record { id = p.id; key = f.key; snapshot = f.snapshot; bounds = f.bounds; mark = mark }
-
-abbrev pub kept_from : ℕ → List Piece → List Fresh → List Kept
-kept_from mark [] fresh = []
-kept_from mark (p ∷ pieces) [] = []
-kept_from mark (p ∷ pieces) (f ∷ fresh) = kept_as mark p f ∷ kept_from mark pieces fresh
-
--- a chunk that was fetched for a piece, as it was at this number of events
-pub record IsFetchedFor (opening : Opening) (events : History) (mark : ℕ) (p : Piece) (k : Kept) : Type 0 where
-  pub same : k.id ≡ p.id
-  pub at_mark : k.mark ≡ mark
-  pub kept : IsKeptIn opening events k
-
--- one for each piece
-abbrev pub AreFetchedAt : Opening → History → ℕ → List Piece → List Kept → Type 0
-AreFetchedAt opening events mark [] [] = Unit {0}
-AreFetchedAt opening events mark [] (k ∷ fetched) = ⊥
-AreFetchedAt opening events mark (p ∷ pieces) [] = ⊥
-AreFetchedAt opening events mark (p ∷ pieces) (k ∷ fetched) = IsFetchedFor opening events mark p k × AreFetchedAt opening events mark pieces fetched
-
--- all at one number of events, no less than were seen before
-pub record AreFetched (opening : Opening) (seen : ℕ) (events : History) (pieces : List Piece) (fetched : List Kept) : Type 0 where
-  pub mark : ℕ
-  pub since : seen ≤ mark
-  pub each : AreFetchedAt opening events mark pieces fetched
 
 -- a chunk that is needed for a piece: the one after its mark, which is the chunk's among these
 pub record IsHadFor (opening : Opening) (events : History) (staged : List StagedChunk) (marks : Marks) (p : Piece) (k : Kept) : Type 0 where

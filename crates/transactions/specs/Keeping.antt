@@ -3,8 +3,9 @@ use Rattle.std.specs.Prelude.{◌≡◌, ◌≤◌, ◌+◌, ◌⊎◌, ℕ, Lis
 use Rattle.std.specs.Str.{bytes_eq}
 use Rattle.history.specs.declared.event.Op.TheVariants.{Read}
 use Rattle.stack_driver.specs.declared.view.View.{View}
-use Rattle.transactions.specs.Txn.{TxnSeen, place_from}
-use Rattle.transactions.specs.declared.kept.Kept.{Kept}
+use Rattle.transactions.specs.Txn.{TxnSeen}
+use Rattle.chunk_fetches.specs.Kept.{place_from}
+use Rattle.chunk_fetches.specs.declared.kept.Kept.{Kept}
 
 -- no chunk with this id is kept
 abbrev pub IsUnkept : List Kept → Kept → Type 0

@@ -1,6 +1,6 @@
 -- The generations of the chunks that a transaction keeps.
-use Rattle.chunk_plans.specs.declared.mark.Mark.{Mark}
-use Rattle.transactions.specs.declared.kept.Kept.{Kept}
+use Rattle.commits.specs.declared.Mark.{Mark}
+use Rattle.chunk_fetches.specs.declared.kept.Kept.{Kept}
 
 -- a chunk that is kept as one of the footprint
 abbrev pub mark_of_kept : Kept → Mark

@@ -1,17 +1,18 @@
 -- What a transaction prepares for its commit.
 use Rattle.std.specs.Prelude.{ℕ, List, [], ◌∷◌, Option}
-use Rattle.chunk_plans.specs.declared.write.ChunkWrite.{ChunkWrite}
+use Rattle.commits.specs.declared.ChunkWrite.{ChunkWrite}
 use Rattle.history.specs.Chunks.{Chunk}
 use Rattle.history.specs.declared.event.Mode.{Mode}
 use Rattle.history.specs.declared.event.Op.{Op}
-use Rattle.chunk_plans.specs.Asking.{chunk_of_part}
-use Rattle.chunk_plans.specs.Laying.{MayReady}
-use Rattle.chunk_plans.specs.Readying.{IsWriteFor}
-use Rattle.chunk_plans.specs.declared.asked.Asked.{Asked}
-use Rattle.chunk_plans.specs.declared.asked.Part.{Part}
+use Rattle.commits.specs.Asking.{chunk_of_part}
+use Rattle.commits.specs.Laying.{MayReady}
+use Rattle.commits.specs.Readying.{IsWriteFor}
+use Rattle.commits.specs.declared.Asked.{Asked}
+use Rattle.commits.specs.declared.Part.{Part}
 use Rattle.transaction_cells.specs.Staging.{StagedChunk}
-use Rattle.transactions.specs.Txn.{TxnSeen, chunk_at}
-use Rattle.transactions.specs.declared.kept.Kept.{Kept}
+use Rattle.transactions.specs.Txn.{TxnSeen}
+use Rattle.chunk_fetches.specs.Kept.{chunk_at}
+use Rattle.chunk_fetches.specs.declared.kept.Kept.{Kept}
 
 -- the transaction of these parts
 abbrev pub txn_of : ℕ → Mode → List Op → List StagedChunk → List Kept → TxnSeen

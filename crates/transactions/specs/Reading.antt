@@ -10,10 +10,11 @@ use Rattle.transaction_cells.specs.Pieces.{AreCells}
 use Rattle.transaction_cells.specs.Sites.{sites_of}
 use Rattle.transaction_cells.specs.declared.view_cells.ViewCells.{ViewCells}
 use Rattle.transactions.specs.Conditions.{IsTxnIn}
-use Rattle.transactions.specs.Had.{AreFetched, had_from}
-use Rattle.transactions.specs.Sources.{new_pieces, sources_of}
+use Rattle.chunk_fetches.specs.Fetched.{AreFetched}
+use Rattle.transactions.specs.Had.{had_from}
+use Rattle.chunk_fetches.specs.Sources.{new_pieces, sources_of}
 use Rattle.transactions.specs.Strays.{HasLastNumber, HasLeastKey, strays_of}
-use Rattle.transactions.specs.declared.kept.Kept.{Kept}
+use Rattle.chunk_fetches.specs.declared.kept.Kept.{Kept}
 use Rattle.transactions.specs.declared.stray.Stray.{Stray}
 use Rattle.history.specs.Commit.{Fixed}
 use Rattle.history.specs.History.{History}
@@ -29,15 +30,15 @@ use Rattle.index_transform.specs.Cells.{count_answer}
 use Rattle.kv_face.specs.Store.{Contents}
 use Rattle.stack_driver.specs.Views.{look_of, targets_of}
 use Rattle.stack_driver.specs.declared.view.View.{View}
-use Rattle.state_laws.specs.Agreement.{Opening}
+use Rattle.chunk_fetches.specs.Agreement.{Opening}
 use Rattle.turn_book.specs.Passes.{BookView, PassView}
 use Rattle.transactions.specs.Faults.{IsFaultOf}
-use Rattle.transactions.specs.Turns.{HasPassed, HasTurned}
+use Rattle.chunk_fetches.specs.Turns.{HasPassed, HasTurned}
 use Rattle.transactions.specs.Txn.{TxnSeen, transaction_of}
-use Rattle.transactions.specs.declared.error.ReadError.{ReadError}
+use Rattle.chunk_fetches.specs.declared.error.ReadError.{ReadError}
 use Rattle.transactions.specs.declared.error.WriteError.{WriteError}
 use Rattle.transactions.specs.declared.error.WriteError.TheVariants as write
-use Rattle.transactions.specs.declared.error.ReadError.TheVariants as read
+use Rattle.chunk_fetches.specs.declared.error.ReadError.TheVariants as read
 
 -- the words are what the transaction sees, by marks that the read may have: one for each cell of the view, of its dtype, and where the store told its
 -- contents at the start the words that stood at the marks. Under repeatable read the read and the marks are kept

@@ -10,7 +10,7 @@ use Rattle.history.specs.Staged.{IsStaged, IsTransaction}
 use Rattle.history.specs.declared.event.Op.{Op}
 use Rattle.kv_face.specs.Store.{Contents}
 use Rattle.stack_driver.specs.Conditions.{IsView}
-use Rattle.state_laws.specs.Agreement.{Opening}
+use Rattle.chunk_fetches.specs.Agreement.{Opening}
 
 -- the operation's view is one
 abbrev pub IsOfView : Op → Type 0

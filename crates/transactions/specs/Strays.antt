@@ -7,8 +7,8 @@ use Rattle.history.specs.History.{History}
 use Rattle.transaction_cells.specs.Outside.{IsInGrid, needs_outside}
 use Rattle.transaction_cells.specs.Staging.{StagedChunk}
 use Rattle.transaction_cells.specs.declared.view_cells.Piece.{Piece}
-use Rattle.transactions.specs.Txn.{chunk_at}
-use Rattle.transactions.specs.declared.kept.Kept.{Kept}
+use Rattle.chunk_fetches.specs.Kept.{chunk_at}
+use Rattle.chunk_fetches.specs.declared.kept.Kept.{Kept}
 use Rattle.transactions.specs.declared.stray.Stray.{Stray}
 
 abbrev pub stray_of : Kept → Stray

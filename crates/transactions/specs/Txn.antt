@@ -1,15 +1,15 @@
 -- What a contract sees of a transaction.
-use Rattle.std.specs.Prelude.{◌≡◌, ℕ, ◌+◌, List, [], ◌∷◌, map, Option, Some, None, if◌then◌else◌}
+use Rattle.std.specs.Prelude.{◌≡◌, ℕ, List, [], map, Option, Some, None, if◌then◌else◌}
 use Rattle.std.specs.List.{slice_get}
 use Rattle.std.specs.Str.{bytes_eq}
-use Rattle.history.specs.Chunks.{Chunk}
 use Rattle.history.specs.Commit.{Transaction}
 use Rattle.history.specs.Reads.{Marks}
 use Rattle.history.specs.declared.event.Mode.{Mode}
 use Rattle.history.specs.declared.event.Op.{Op}
 use Rattle.transaction_cells.specs.Found.{Id, found}
 use Rattle.transaction_cells.specs.Staging.{StagedChunk}
-use Rattle.transactions.specs.declared.kept.Kept.{Kept}
+use Rattle.chunk_fetches.specs.Kept.{chunk_at, place_from}
+use Rattle.chunk_fetches.specs.declared.kept.Kept.{Kept}
 
 -- where it was begun, its flags and its operations, what is staged by these, and the chunks that it keeps, in the order of reading
 pub record TxnSeen : Type 0 where
@@ -24,11 +24,6 @@ abbrev pub shared_ops : Option (List Op) → List Op
 shared_ops None = []
 shared_ops (Some ops) = ops
 
--- the chunk of an id: its array's number, and behind it the chunk's index
-abbrev pub chunk_at : List ℕ → Chunk
-chunk_at [] = record { array = 0; index = [] }
-chunk_at (array ∷ index) = record { array = array; index = index }
-
 -- the marks of chunks that are kept
 abbrev pub marks_of : List Kept → Marks
 marks_of kept = map (λ (k : Kept). (chunk_at k.id, k.mark)) kept
@@ -36,11 +31,6 @@ marks_of kept = map (λ (k : Kept). (chunk_at k.id, k.mark)) kept
 -- the transaction as the history speaks of it
 abbrev pub transaction_of : TxnSeen → Transaction
 transaction_of t = record { line = t.line; mode = t.mode; ops = t.ops; marks = marks_of t.kept }
-
--- the place of the first chunk of this id, from a place on
-abbrev pub place_from : ℕ → List Kept → List ℕ → Option ℕ
-place_from n [] id = None
-place_from n (k ∷ kept) id = if bytes_eq id k.id then Some n else place_from (n + 1) kept id
 
 -- a place counts for an id where the chunk there has the id
 abbrev pub if_named : Option Kept → List ℕ → ℕ → Option ℕ

@@ -7,14 +7,13 @@ ghost use Rattle.transactions.specs.Recording.{IsRecorded};
 ghost use Rattle.transactions.specs.Txn.{transaction_of};
 
 use crate::error::CommitError;
-use crate::gate::Gate;
 use crate::preparing::commit_kept;
 use crate::shared_ops::joined;
 use crate::txn::Txn;
 use cells::List;
+use chunk_fetches::{Gate, State};
 use commits::CommitRefused;
 use kv_face::KvStore;
-use shared_state::State;
 use std::alloc::Global;
 use std::sync::Wait;
 use turn_book::{Pass, TurnBook};

@@ -6,11 +6,11 @@ ghost use Rattle.history.specs.declared.event.Op.TheVariants as op;
 ghost use Rattle.stack_driver.specs.Conditions.{IsView};
 ghost use Rattle.transaction_cells.specs.Found.{found};
 ghost use Rattle.transactions.specs.Keeping.{AreNewTo, IsUnkept, IsUnspoilt, placed, with_read};
-ghost use Rattle.transactions.specs.declared.kept.Kept.{Kept as KeptOf};
+ghost use Rattle.chunk_fetches.specs.declared.kept.Kept.{Kept as KeptOf};
 
-use crate::kept::Kept;
 use crate::txn::Txn;
 use cells::Words;
+use chunk_fetches::Kept;
 use history::Op;
 use stack_driver::{View, copy};
 use std::alloc::{AllocError, Global};

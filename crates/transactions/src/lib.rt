@@ -6,27 +6,18 @@
 
 mod commit_turns;
 mod committing;
-mod decoding;
 mod error;
-mod fetching;
-mod gate;
 mod keeping;
-mod kept;
 mod located;
-mod looked;
-mod looking;
 mod planning;
 mod preparing;
 mod reading;
-mod settling;
 mod shared_ops;
-mod source;
 mod stray;
 mod straying;
-mod turns;
 mod txn;
 
-pub use error::{CommitError, ReadError, ViewFault, WriteError};
-pub use gate::Gate;
-pub use kept::Kept;
+pub use chunk_fetches::{Gate, Kept, ReadError, State, ViewFault};
+pub use commits::CommitRefused;
+pub use error::{CommitError, WriteError};
 pub use txn::Txn;

@@ -14,7 +14,8 @@ ghost use Rattle.transaction_cells.specs.Pieces.{AreCells};
 ghost use Rattle.transaction_cells.specs.Sites.{sites_of};
 ghost use Rattle.transactions.specs.Faults.{IsFaultOf, IsLocateFault};
 
-use crate::error::{ViewFault, WriteError};
+use crate::error::WriteError;
+use chunk_fetches::ViewFault;
 use index_transform::CountError;
 use stack_driver::{View, transform_of};
 use stack_targets::TargetsError;

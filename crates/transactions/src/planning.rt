@@ -6,13 +6,13 @@ ghost use Rattle.cells.specs.Dense.{IsDense};
 ghost use Rattle.transaction_cells.specs.Staging.{CanStage};
 ghost use Rattle.transaction_cells.specs.declared.view_cells.Piece.{Piece as PieceOf};
 ghost use Rattle.transactions.specs.Had.{IsDenseOrNone, had_from, had_of, snapshot_of, snapshots_of};
-ghost use Rattle.transactions.specs.Sources.{source_of, sources_of, count_new};
-ghost use Rattle.transactions.specs.Txn.{counting, place_from};
+ghost use Rattle.chunk_fetches.specs.Sources.{source_of, sources_of, count_new};
+ghost use Rattle.transactions.specs.Txn.{counting};
+ghost use Rattle.chunk_fetches.specs.Kept.{place_from};
 
-use crate::kept::Kept;
-use crate::source::Source;
 use crate::txn::Txn;
 use chunk_cache::Snapshot;
+use chunk_fetches::{Kept, Source};
 use std::alloc::{AllocError, Global};
 use transaction_cells::ViewCells;
 

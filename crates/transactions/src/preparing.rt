@@ -5,7 +5,7 @@ ghost use Rattle.std.specs.List.{AllByRecursion, IsDistinct};
 ghost use Rattle.std.specs.List.Sorted.{IsPermutation, IsSortedByKey};
 ghost use Rattle.std.specs.Ordering.{nat_cmp};
 ghost use Rattle.std.specs.Str.{bytes_eq};
-ghost use Rattle.chunk_plans.specs.Sorting.{key_of_mark, key_of_write};
+ghost use Rattle.commits.specs.Sorting.{key_of_mark, key_of_write};
 ghost use Rattle.transaction_cells.specs.Staging.{StagedChunk};
 ghost use Rattle.turn_book.specs.Passes.{IsIdle};
 ghost use Rattle.transactions.specs.Committing.{HasCommitted};
@@ -16,16 +16,13 @@ ghost use Rattle.transactions.specs.Recording.{IsRecorded};
 ghost use Rattle.transactions.specs.Txn.{transaction_of};
 
 use crate::commit_turns::{ask_in_turn, commit_in_turn};
-use crate::gate::Gate;
-use crate::kept::Kept;
-use crate::looking::{array_in, index_in};
-use cells::List;
-use chunk_plans::{Asked, ChunkWrite, Mark, Part, sort_marks, sort_writes, write_of};
-use commits::{CommitRefused, Prepared};
+use cells::{List, copy_name};
+use chunk_fetches::{Gate, Kept, State, array_in, index_in};
+use commits::{
+    Asked, ChunkWrite, CommitRefused, Mark, Part, Prepared, sort_marks, sort_writes, write_of,
+};
 use history::{Mode, Ops};
 use kv_face::KvStore;
-use shared_state::State;
-use state_parts::copy_name;
 use std::alloc::{AllocError, Global};
 use std::sync::Wait;
 use transaction_cells::Staging;

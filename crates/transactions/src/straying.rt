@@ -6,15 +6,13 @@ ghost use Rattle.transaction_cells.specs.Staging.{CanStage};
 ghost use Rattle.transaction_cells.specs.declared.view_cells.Piece.{Piece as PieceOf};
 ghost use Rattle.transactions.specs.Had.{had_from};
 ghost use Rattle.transactions.specs.Strays.{AreFitting, IsFitting, HasLastNumber, stray_at, stray_of, strays_of};
-ghost use Rattle.transactions.specs.Txn.{chunk_at};
+ghost use Rattle.chunk_fetches.specs.Kept.{chunk_at};
 ghost use Rattle.transactions.specs.declared.stray.Stray.{Stray as StrayOf};
 
-use crate::kept::Kept;
-use crate::looking::array_in;
 use crate::planning::{count_new, had_of};
-use crate::source::Source;
 use crate::stray::Stray;
 use crate::txn::Txn;
+use chunk_fetches::{Kept, Source, array_in};
 use std::alloc::{AllocError, Global};
 use transaction_cells::ViewCells;
 

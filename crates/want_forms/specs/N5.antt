@@ -9,8 +9,8 @@ use Rattle.meta_forms.specs.Faults.{◌>>=◌}
 use Rattle.meta_forms.specs.Judged.{text_in, sizes_at, list_len_at}
 use Rattle.meta_forms.specs.declared.error.MetaError.{MetaError}
 use Rattle.meta_forms.specs.declared.error.MetaError.TheVariants.{NotJson}
-use Rattle.n5_blocks.specs.Read.{judged_dimensions, judged_dtype, judged_compression, compression_in}
-use Rattle.n5_blocks.specs.Want.{Want}
+use Rattle.chunk_forms.specs.N5Read.{judged_dimensions, judged_dtype, judged_compression, compression_in}
+use Rattle.chunk_forms.specs.N5Want.{Want}
 use Rattle.want_forms.specs.Asking.{in_turn, none_left, if_right}
 use Rattle.want_forms.specs.Sizes.{judged_beside}
 

@@ -9,9 +9,9 @@ use Rattle.meta_forms.specs.Judged.{text_in, whole_at, sizes_at, is_there, is_nu
 use Rattle.meta_forms.specs.declared.error.MetaError.{MetaError}
 use Rattle.meta_forms.specs.declared.error.MetaError.TheVariants.{NotJson}
 use Rattle.meta_forms.specs.declared.error.Fault.{Fault}
-use Rattle.zarr_chunks.specs.Read.{judged_type, judged_compressor, filled, judged_order, judged_filters, judged_separator}
-use Rattle.zarr_chunks.specs.Want.{Want}
-use Rattle.zarr_chunks.specs.declared.members.ElementType.{ElementType}
+use Rattle.chunk_forms.specs.ZarrRead.{judged_type, judged_compressor, filled, judged_order, judged_filters, judged_separator}
+use Rattle.chunk_forms.specs.Want.{Want}
+use Rattle.chunk_forms.specs.declared.ElementType.{ElementType}
 use Rattle.want_forms.specs.Asking.{in_turn, none_left, if_right, word_asked}
 use Rattle.want_forms.specs.Sizes.{judged_beside}
 use Rattle.want_forms.specs.declared.zarr.Rest.{Rest}

@@ -13,8 +13,10 @@ mod zarr;
 mod zarr3;
 
 pub use asking::{comes_before, word_asked};
+pub use chunk_forms::{N5Want, Want, ZarrWant, default_chunks};
 pub use format::Format;
 pub use meta_forms::MetaError;
 pub use n5::{n5_dtype, n5_want};
 pub use zarr::{zarr_dtype, zarr_want};
 pub use zarr3::{zarr3_dtype, zarr3_want};
+pub use zarr3_chunks::Zarr3Want;

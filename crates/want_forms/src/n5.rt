@@ -5,16 +5,16 @@ ghost use Rattle.cells.specs.Shapes.{IsShape};
 ghost use Rattle.json_forms.specs.Members.{least_unknown};
 ghost use Rattle.meta_forms.specs.Judged.{sizes_at, list_len_at};
 ghost use Rattle.meta_forms.specs.declared.error.MetaError.{MetaError};
-ghost use Rattle.n5_blocks.specs.Read.{judged_dimensions, judged_dtype, judged_compression};
+ghost use Rattle.chunk_forms.specs.N5Read.{judged_dimensions, judged_dtype, judged_compression};
 ghost use Rattle.want_forms.specs.Asking.{in_turn};
 ghost use Rattle.want_forms.specs.N5.{n5_members, n5_dtype, dimensions_asked, members_asked, n5_object, n5_want};
 
 use crate::asking::{if_right, in_turn, none_before, none_left};
 use crate::sizes::chunks_in_turn;
 use cells::{Dtype, Sizes};
+use chunk_forms::{N5Want, judged_compression, judged_dtype};
 use json_forms::least_unknown;
 use meta_forms::{Fault, MetaError, checked_shape, fault_of, is_there, sizes_at};
-use n5_blocks::{N5Want, judged_compression, judged_dtype};
 use serde_json::Value;
 use std::alloc::Global;
 

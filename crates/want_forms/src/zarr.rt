@@ -7,20 +7,20 @@ ghost use Rattle.cells.specs.Shapes.{IsShape};
 ghost use Rattle.json_forms.specs.Members.{least_unknown};
 ghost use Rattle.meta_forms.specs.Judged.{whole_at, is_null_at, list_len_at};
 ghost use Rattle.meta_forms.specs.declared.error.MetaError.{MetaError};
-ghost use Rattle.zarr_chunks.specs.Read.{judged_type, judged_compressor, judged_order, judged_filters, judged_separator};
+ghost use Rattle.chunk_forms.specs.ZarrRead.{judged_type, judged_compressor, judged_order, judged_filters, judged_separator};
 ghost use Rattle.want_forms.specs.Zarr.{type_at, type_asked, zarr_dtype, fill_asked, rest_asked, shape_asked, members_asked, zarr_members, zarr_object, zarr_want};
 
 use crate::asking::{if_right, in_turn, none_left, word_asked};
 use crate::sizes::{chunks_in_turn, shape_in_turn};
 use cells::{Dtype, Order, Sizes};
+use chunk_forms::{
+    ElementType, ZarrWant, judged_compressor, judged_filters, judged_order, judged_separator,
+    judged_type,
+};
 use json_forms::least_unknown;
 use meta_forms::{Fault, MetaError, is_null_at, judged_format, list_len_at, whole_at};
 use serde_json::Value;
 use std::alloc::Global;
-use zarr_chunks::{
-    ElementType, ZarrWant, judged_compressor, judged_filters, judged_order, judged_separator,
-    judged_type,
-};
 
 /// What is asked of an array by the `metadata` of a Spec, which may be left out, beside a dtype of the Spec's own. The dtype of
 /// `metadata` counts before the Spec's. A fill is a word of the dtype that is asked, or of 64 bits where none is.

@@ -5,10 +5,10 @@ use Rattle.serde_json.specs.Read.{max_depth}
 use Rattle.serde_json.specs.View.{items_of}
 use Rattle.serde_json.specs.Written.{has_float}
 use Rattle.serde_json.proofs.OnLiterals.{serde_json_on_literals}
-use Rattle.json_forms.specs.Lists.{list_of}
-use Rattle.json_forms.specs.Members.{object_of}
-use Rattle.json_forms.specs.Numbers.{natural, integer, whole_number}
-use Rattle.json_forms.proofs.Laws.{has_float-integer, has_float-naturals}
+use Rattle.meta_forms.specs.Lists.{list_of}
+use Rattle.meta_forms.specs.Members.{object_of}
+use Rattle.meta_forms.specs.Numbers.{natural, integer, whole_number}
+use Rattle.meta_forms.proofs.Laws.{has_float-integer, has_float-naturals}
 use Rattle.cells.specs.Numbers.{number_of}
 use Rattle.zarr3_chunks.specs.Key.{separator}
 use Rattle.zarr3_chunks.specs.Metadata.{Metadata}

@@ -7,7 +7,7 @@ use Rattle.std.proofs.lemmas.Cmp.{nat_list_cmp_total, tied_itself}
 use Rattle.std.proofs.lemmas.Map.Lookups.{exact_bytes}
 use Rattle.serde_json.specs.Data.{Data, Members, null, boolean, number, string, array, object, no_members, member}
 use Rattle.serde_json.specs.Find.{get, get_member, as_bool}
-use Rattle.json_forms.specs.Members.{names_of, is_among, least_name}
+use Rattle.meta_forms.specs.Members.{names_of, is_among, least_name}
 use Rattle.zarr3_chunks.specs.Described.{known_members, NeedNotBeUnderstood}
 use Rattle.zarr3_chunks.specs.Read.{says_no, is_passed, unread_member}
 

@@ -8,7 +8,7 @@ use Rattle.cells.specs.Bytes.{byte_count}
 use Rattle.cells.specs.Shapes.{IsChunkShape}
 use Rattle.cells.specs.declared.dtype.Dtype.{Dtype}
 use Rattle.cells.proofs.Laws.{dtype_named-dtype_name, then_from}
-use Rattle.json_forms.specs.Lists.{list_of, list_items}
+use Rattle.meta_forms.specs.Lists.{list_of, list_items}
 use Rattle.meta_forms.specs.Judged.{text_in, list_len, judged_format, judged_shape, judged_word, judged_chunks, sizes_at}
 use Rattle.meta_forms.specs.declared.error.MetaError.TheVariants.{NotJson}
 use Rattle.meta_forms.specs.declared.error.Fault.{Fault}

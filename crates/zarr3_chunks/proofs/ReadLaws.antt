@@ -10,9 +10,9 @@ use Rattle.cells.specs.DtypeNames.{dtype_name, dtype_named}
 use Rattle.cells.specs.Shapes.{IsChunkShape}
 use Rattle.cells.specs.declared.dtype.Dtype.{Dtype}
 use Rattle.cells.proofs.Laws.{dtype_name-dtype_named, ok_from_then, then_from, else_from, true_or_false}
-use Rattle.json_forms.specs.Bytes.{data_of}
-use Rattle.json_forms.specs.Numbers.{natural}
-use Rattle.json_forms.specs.Lists.{list_of, list_items, data_list}
+use Rattle.meta_forms.specs.Bytes.{data_of}
+use Rattle.meta_forms.specs.Numbers.{natural}
+use Rattle.meta_forms.specs.Lists.{list_of, list_items, data_list}
 use Rattle.meta_forms.specs.Faults.{named}
 use Rattle.meta_forms.specs.Judged.{text_in, whole_at, sizes_at, is_there, is_object_at, list_len, list_len_at, judged_format, judged_shape, judged_chunks, judged_word}
 use Rattle.meta_forms.specs.declared.error.MetaError.TheVariants.{NotJson}

@@ -6,8 +6,8 @@ use Rattle.serde_json.specs.Data.{Data, Members, null, boolean, number, string, 
 use Rattle.serde_json.specs.Find.{as_object}
 use Rattle.serde_json.specs.View.{members_view}
 use Rattle.serde_json.specs.declared.value.Value.{Value}
-use Rattle.json_forms.specs.Members.{names_of, is_among, least_name}
-use Rattle.json_forms.proofs.Laws.{Text, least_name-filter, names_of-members_view}
+use Rattle.meta_forms.specs.Members.{names_of, is_among, least_name}
+use Rattle.meta_forms.proofs.Laws.{Text, least_name-filter, names_of-members_view}
 use Rattle.zarr3_chunks.specs.Described.{known_members}
 use Rattle.zarr3_chunks.specs.Read.{is_passed, unread_member}
 

@@ -6,10 +6,10 @@ use Rattle.cells.specs.Numbers.{number_of}
 use Rattle.cells.specs.declared.dtype.Dtype.{Dtype}
 use Rattle.serde_json.specs.Data.{Data, string, boolean}
 use Rattle.serde_json.specs.Find.{get, as_object}
-use Rattle.json_forms.specs.Bytes.{data_of}
-use Rattle.json_forms.specs.Lists.{list_of}
-use Rattle.json_forms.specs.Members.{is_among}
-use Rattle.json_forms.specs.Numbers.{natural, whole_number}
+use Rattle.meta_forms.specs.Bytes.{data_of}
+use Rattle.meta_forms.specs.Lists.{list_of}
+use Rattle.meta_forms.specs.Members.{is_among}
+use Rattle.meta_forms.specs.Numbers.{natural, whole_number}
 use Rattle.zarr3_chunks.specs.Key.{separator}
 use Rattle.zarr3_chunks.specs.Written.{endian}
 use Rattle.zarr3_chunks.specs.Metadata.{Metadata, IsMetadata}

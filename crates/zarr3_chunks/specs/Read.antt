@@ -7,9 +7,9 @@ use Rattle.serde_json.specs.Find.{get, as_bool, as_object}
 use Rattle.cells.specs.Bytes.{byte_count}
 use Rattle.cells.specs.DtypeNames.{dtype_named}
 use Rattle.cells.specs.declared.dtype.Dtype.{Dtype}
-use Rattle.json_forms.specs.Bytes.{data_of}
-use Rattle.json_forms.specs.Lists.{list_items}
-use Rattle.json_forms.specs.Members.{is_among, least_name, member_names}
+use Rattle.meta_forms.specs.Bytes.{data_of}
+use Rattle.meta_forms.specs.Lists.{list_items}
+use Rattle.meta_forms.specs.Members.{is_among, least_name, member_names}
 use Rattle.meta_forms.specs.Faults.{named, ◌>>=◌}
 use Rattle.meta_forms.specs.Judged.{text_in, whole_at, sizes_at, is_there, is_object_at, list_len_at, judged_len, judged_format, judged_shape, judged_chunks, judged_word}
 use Rattle.meta_forms.specs.declared.error.MetaError.{MetaError}

@@ -3,9 +3,9 @@ use Rattle.std.specs.Prelude.{ℕ, Bool, List, [], ◌∷◌, map, codes, if◌t
 use Rattle.cells.specs.DtypeNames.{dtype_name}
 use Rattle.cells.specs.Numbers.{number_of}
 use Rattle.serde_json.specs.Data.{Data, string}
-use Rattle.json_forms.specs.Numbers.{natural, integer}
-use Rattle.json_forms.specs.Lists.{list_of}
-use Rattle.json_forms.specs.Members.{object_of}
+use Rattle.meta_forms.specs.Numbers.{natural, integer}
+use Rattle.meta_forms.specs.Lists.{list_of}
+use Rattle.meta_forms.specs.Members.{object_of}
 use Rattle.zarr3_chunks.specs.Key.{separator}
 use Rattle.zarr3_chunks.specs.Metadata.{Metadata}
 

@@ -15,10 +15,9 @@ use crate::members::{
 };
 use crate::metadata::Zarr3Meta;
 use cells::Sizes;
-use json_forms::{ParseError, parse};
 use meta_forms::{
-    Fault, MetaError, checked_chunks, checked_shape, fault_of, judged_format, judged_word, named,
-    sizes_at, text_in, whole_at,
+    Fault, MetaError, ParseError, checked_chunks, checked_shape, fault_of, judged_format,
+    judged_word, named, parse, sizes_at, text_in, whole_at,
 };
 use serde_json::Value;
 use std::alloc::Global;

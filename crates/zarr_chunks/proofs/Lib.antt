@@ -1,3 +1,4 @@
 pub mod MetadataLaws
 pub mod TypeLaws
 pub mod ReadLaws
+pub mod Laws

@@ -10,9 +10,9 @@ use Rattle.cells.specs.declared.dtype.Dtype.{Dtype}
 use Rattle.cells.specs.declared.order.Order.{Order}
 use Rattle.cells.specs.declared.order.Order.TheVariants.{C, F}
 use Rattle.cells.proofs.Laws.{ok_from_then, then_from}
-use Rattle.json_forms.specs.Bytes.{data_of}
-use Rattle.json_forms.specs.Numbers.{whole_number}
-use Rattle.json_forms.specs.Lists.{list_of}
+use Rattle.meta_forms.specs.Bytes.{data_of}
+use Rattle.meta_forms.specs.Numbers.{whole_number}
+use Rattle.meta_forms.specs.Lists.{list_of}
 use Rattle.meta_forms.specs.Faults.{named}
 use Rattle.meta_forms.specs.Judged.{text_in, whole_at, sizes_at, is_there, is_null_at, is_object_at, list_len, list_len_at, judged_format, judged_shape, judged_chunks, judged_word}
 use Rattle.meta_forms.specs.declared.error.MetaError.TheVariants.{NotJson}

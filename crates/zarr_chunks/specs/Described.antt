@@ -5,9 +5,9 @@ use Rattle.cells.specs.Numbers.{number_of}
 use Rattle.cells.specs.declared.dtype.Dtype.{Dtype}
 use Rattle.serde_json.specs.Data.{Data, null, string}
 use Rattle.serde_json.specs.Find.{get}
-use Rattle.json_forms.specs.Bytes.{data_of}
-use Rattle.json_forms.specs.Numbers.{natural, whole_number}
-use Rattle.json_forms.specs.Lists.{list_of}
+use Rattle.meta_forms.specs.Bytes.{data_of}
+use Rattle.meta_forms.specs.Numbers.{natural, whole_number}
+use Rattle.meta_forms.specs.Lists.{list_of}
 use Rattle.zarr_chunks.specs.Key.{separator}
 use Rattle.zarr_chunks.specs.Metadata.{Metadata, IsMetadata}
 use Rattle.zarr_chunks.specs.Written.{type_name, byte_order, order_text}

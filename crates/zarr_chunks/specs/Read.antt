@@ -7,7 +7,7 @@ use Rattle.cells.specs.declared.dtype.Dtype.{Dtype}
 use Rattle.cells.specs.declared.dtype.Dtype.TheVariants.{I8, U8, I16, U16, I32, U32, I64, U64}
 use Rattle.cells.specs.declared.order.Order.{Order}
 use Rattle.cells.specs.declared.order.Order.TheVariants.{C, F}
-use Rattle.json_forms.specs.Bytes.{data_of}
+use Rattle.meta_forms.specs.Bytes.{data_of}
 use Rattle.meta_forms.specs.Faults.{named, ◌>>=◌}
 use Rattle.meta_forms.specs.Judged.{text_in, whole_at, sizes_at, is_there, is_null_at, is_object_at, list_len_at, judged_len, judged_format, judged_shape, judged_chunks, judged_word}
 use Rattle.meta_forms.specs.declared.error.MetaError.{MetaError}

@@ -7,9 +7,9 @@ use Rattle.cells.specs.declared.dtype.Dtype.TheVariants.{I8, U8, I16, U16, I32, 
 use Rattle.cells.specs.declared.order.Order.{Order}
 use Rattle.cells.specs.declared.order.Order.TheVariants.{C, F}
 use Rattle.serde_json.specs.Data.{Data, null, string}
-use Rattle.json_forms.specs.Numbers.{natural, integer}
-use Rattle.json_forms.specs.Lists.{list_of}
-use Rattle.json_forms.specs.Members.{object_of}
+use Rattle.meta_forms.specs.Numbers.{natural, integer}
+use Rattle.meta_forms.specs.Lists.{list_of}
+use Rattle.meta_forms.specs.Members.{object_of}
 use Rattle.zarr_chunks.specs.Key.{separator}
 use Rattle.zarr_chunks.specs.Metadata.{Metadata}
 

@@ -14,9 +14,9 @@ use crate::members::{
 };
 use crate::metadata::ZarrMeta;
 use cells::{Dtype, Order, Sizes};
-use json_forms::{ParseError, parse};
 use meta_forms::{
-    MetaError, checked_chunks, checked_shape, judged_format, named, sizes_at, whole_at,
+    MetaError, ParseError, checked_chunks, checked_shape, judged_format, named, parse, sizes_at,
+    whole_at,
 };
 use serde_json::Value;
 use std::alloc::Global;

@@ -11,7 +11,7 @@ ghost use Rattle.zarr_chunks.specs.Written.{dtype_text, fill_data, order_text, m
 use crate::key::separator;
 use crate::metadata::ZarrMeta;
 use cells::{Dtype, Order};
-use json_forms::{compact, list_from_u64s};
+use meta_forms::{compact, list_from_u64s};
 use serde_json::{Map, Value, put};
 use std::alloc::{AllocError, Global};
 

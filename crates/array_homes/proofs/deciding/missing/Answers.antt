@@ -1,5 +1,5 @@
 use Rattle.std.proofs.Common.{None, refl, sym, ap, subst, cond, ◌∙◌}
-use Rattle.chunk_forms.specs.Made.{form_made}
+use Rattle.history.specs.Made.{form_made}
 use Rattle.history.specs.Leaves.{nothing}
 use Rattle.history.specs.Outcomes.{made, making_outcome, not_found}
 use Rattle.array_homes.specs.Opening.{Tells}

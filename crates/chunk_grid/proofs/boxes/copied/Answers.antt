@@ -10,6 +10,6 @@ loop-dim-preserved c =
     let k = c.loop-dim.dim-index in
     let dim = c.dim-item.result in
     record {
-      copy = copied-more dims c.loop-dim.copy.items c.push.new.self.items k dim c.copy_of.result c.loop-dim-test.true c.dim-item.is c.loop-dim.invariant.copy c.copy_of.ensures.value c.in_ok-push.ensures.items;
-      ordered = ap (list_all is_ordered) (taken-more dims k dim c.loop-dim-test.true c.dim-item.is) ∙ all-push is_ordered (take k dims) dim c.loop-dim.invariant.ordered c.copy_of.ensures.ordered;
+      copy = copied-more dims c.loop-dim.copy.items c.push.new.self.items k dim c.copied_interval.result c.loop-dim-test.true c.dim-item.is c.loop-dim.invariant.copy c.copied_interval.ensures.value c.in_ok-push.ensures.items;
+      ordered = ap (list_all is_ordered) (taken-more dims k dim c.loop-dim-test.true c.dim-item.is) ∙ all-push is_ordered (take k dims) dim c.loop-dim.invariant.ordered c.copied_interval.ensures.ordered;
     }

@@ -35,8 +35,8 @@ loop-j-preserved c =
     let xs = all_kept c.args.want c.args.flags.now c.args.target.now in
     let long : length xs ≡ length c.args.chunk.now = length-all_kept c.args.want c.args.flags.now c.args.target.now (c.requires.target ∙ sym c.requires.flags) ∙ c.requires.flags ∙ sym c.requires.chunk in
     record {
-      number = rw c.parts-at.ensures.quotient (number-step c.args.counts.now c.args.chunk.now xs c.loop-j.j c.kept_at-x.result c.loop-j.number long (omega (arith, c.requires.chunk, c.loop-j-test.true)) c.kept_at-x.ensures c.requires.chunk c.requires.inside c.loop-j.invariant.number);
-      place = rw c.parts-at.ensures.remainder (place-step c.args.counts.now c.args.chunk.now xs c.loop-j.j c.kept_at-x.result c.loop-j.place long (omega (arith, c.requires.chunk, c.loop-j-test.true)) c.kept_at-x.ensures c.requires.positive c.loop-j.invariant.place);
+      number = rw c.divided-at.ensures.quotient (number-step c.args.counts.now c.args.chunk.now xs c.loop-j.j c.kept_at-x.result c.loop-j.number long (omega (arith, c.requires.chunk, c.loop-j-test.true)) c.kept_at-x.ensures c.requires.chunk c.requires.inside c.loop-j.invariant.number);
+      place = rw c.divided-at.ensures.remainder (place-step c.args.counts.now c.args.chunk.now xs c.loop-j.j c.kept_at-x.result c.loop-j.place long (omega (arith, c.requires.chunk, c.loop-j-test.true)) c.kept_at-x.ensures c.requires.positive c.loop-j.invariant.place);
     }
 
 pub overflow_cast-result : goal.overflow_cast-result

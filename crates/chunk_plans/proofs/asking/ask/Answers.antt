@@ -1,5 +1,5 @@
 use Rattle.std.proofs.Common.{sym, ap}
-use Rattle.state_laws.specs.declared.reading.Bounds.{Bounds}
+use Rattle.shared_state.specs.declared.Bounds.{Bounds}
 use Rattle.chunk_plans.proofs.asking.ask.Goals as goal
 
 pub returns-clause-asked : goal.returns-clause-asked

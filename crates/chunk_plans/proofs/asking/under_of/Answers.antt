@@ -2,8 +2,8 @@ use Rattle.std.proofs.Common.{◌∙◌, sym, ap}
 use Rattle.cells.specs.Places.{cell_count}
 use Rattle.chunk_forms.specs.Metadata.{chunk_shape_of, shape_of}
 use Rattle.history.specs.Chunks.{chunk_key}
-use Rattle.state_laws.specs.Log.{Log}
-use Rattle.state_laws.proofs.Laws.{looked_events}
+use Rattle.shared_state.specs.Log.{Log}
+use Rattle.shared_state.proofs.Laws.{looked_events}
 use Rattle.chunk_plans.proofs.UnderLaws.{chunk_is, chunk_named, covered_named, reached_from, size_is, some_holds, under_covered, under_kept}
 use Rattle.chunk_plans.proofs.asking.under_of.Goals as goal
 

@@ -1,6 +1,6 @@
 use Rattle.std.proofs.Common.{sym, ◌∙◌, ap}
 use Rattle.std.specs.Prelude.{◌==◌}
-use Rattle.state_laws.specs.Fetches.{generation_in}
+use Rattle.shared_state.specs.Fetches.{generation_in}
 use Rattle.chunk_plans.specs.Writes.{is_base}
 use Rattle.chunk_plans.proofs.Usable.{generation_of_write}
 use Rattle.chunk_plans.proofs.planning.is_base.Goals as goal

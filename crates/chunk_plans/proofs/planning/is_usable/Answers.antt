@@ -1,6 +1,6 @@
 use Rattle.std.proofs.Common.{◌∙◌, ap}
 use Rattle.std.specs.Prelude.{◌==◌}
-use Rattle.state_laws.specs.declared.reading.Bounds.{Bounds}
+use Rattle.shared_state.specs.declared.Bounds.{Bounds}
 use Rattle.chunk_plans.proofs.Usable.{unusable, usable}
 use Rattle.chunk_plans.proofs.planning.is_usable.Goals as goal
 

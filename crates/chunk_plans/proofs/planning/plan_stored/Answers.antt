@@ -1,7 +1,7 @@
 use Rattle.std.proofs.Common.{◌≡◌, Err, sym, ◌∙◌, ap}
 use Rattle.chunk_plans.proofs.Same.{err_and}
 use Rattle.chunk_plans.proofs.Usable.{usable_some}
-use Rattle.state_laws.specs.declared.error.FetchError.TheVariants as fetch
+use Rattle.shared_state.specs.declared.FetchError.TheVariants as fetch
 use Rattle.chunk_plans.proofs.planning.plan_stored.Goals as goal
 
 pub prepared-requires : goal.prepared-requires

@@ -6,7 +6,7 @@ use Rattle.chunk_plans.proofs.Plans.{left_over_read, left_told, base_dtype, dama
 use Rattle.chunk_plans.proofs.Same.{answered_of, err_and}
 use Rattle.cells.specs.Dense.{DenseCells}
 use Rattle.history.proofs.Laws.{some_inj}
-use Rattle.state_laws.specs.declared.error.FetchError.TheVariants as fetch
+use Rattle.shared_state.specs.declared.FetchError.TheVariants as fetch
 use Rattle.chunk_plans.proofs.planning.read_over.Goals as goal
 
 pub left_over-requires-clause-fill : goal.left_over-requires-clause-fill

@@ -1,6 +1,6 @@
 use Rattle.std.proofs.Common.{◌≡◌, List, [], ◌∷◌, ◌++◌, length, Err, false, inl, inr, sym, ap, subst, ◌∙◌, arith}
 use Rattle.history.specs.Arrays.{chunk_shape}
-use Rattle.chunk_laying.specs.Laid.{IsCovered}
+use Rattle.chunk_plans.specs.Laid.{IsCovered}
 use Rattle.std.specs.List.{AllByRecursion}
 use Rattle.std.proofs.lemmas.List.{append_assoc, append-nil}
 use Rattle.state_laws.specs.declared.error.FetchError.TheVariants as fetch

@@ -5,7 +5,7 @@ use Rattle.index_intervals.specs.Bounds.{are_bounds}
 use Rattle.index_transform.specs.Transforms.{IsTransform}
 use Rattle.index_transform.specs.declared.domain.Domain.{Domain}
 use Rattle.index_transform.specs.declared.map.OutMap.{OutMap}
-use Rattle.transform_composition.specs.Reading.{point}
+use Rattle.stack_driver.specs.Reading.{point}
 use Rattle.layer_join.specs.Slid.{slid_dims, slid_map, slid_transform}
 use Rattle.layer_join.proofs.Slides.{IsTransform-slid}
 use Rattle.layer_join.proofs.sliding.slid_transform.Goals as goal

@@ -1,5 +1,5 @@
 use Rattle.std.proofs.Common.{length, inr, refl, rules}
-use Rattle.answer_text.specs.declared.answer.Body.TheVariants as body
+use Rattle.session_turns.specs.declared.Body.TheVariants as body
 use Rattle.history.specs.Answers as old
 use Rattle.history.specs.Lines.{opening}
 use Rattle.history.specs.Refs.{HasKnownRefs}

@@ -1,7 +1,7 @@
 use Rattle.std.proofs.Common.{◌≡◌, ◌∙◌, ◌⊎◌, [], length, ap, subst}
 use Rattle.std.specs.Prelude.{unwrap_or}
-use Rattle.answer_text.specs.declared.answer.Body.TheVariants as body
-use Rattle.line_answers.specs.Bodies.{body_of}
+use Rattle.session_turns.specs.declared.Body.TheVariants as body
+use Rattle.session_turns.specs.Bodies.{body_of}
 use Rattle.line_meanings.specs.Openings.{node_of}
 use Rattle.session_turns.specs.Asked.{asked_leaf}
 use Rattle.session_turns.specs.Opening.{open_answer, IsUnseen}

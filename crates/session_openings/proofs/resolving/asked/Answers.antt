@@ -1,5 +1,5 @@
 use Rattle.std.proofs.Common.{◌∙◌, Some, Ok, rules, refl, sym, ap, subst}
-use Rattle.answer_text.specs.declared.answer.Body.{Body}
+use Rattle.session_turns.specs.declared.Body.{Body}
 use Rattle.history.specs.Acts.{on_leaf, resolves, act_of}
 use Rattle.history.specs.Answers as old
 use Rattle.history.specs.Lines.{resolving}

@@ -8,7 +8,7 @@ use Rattle.session_turns.proofs.Laws.{own_of_turn, none_added, passed_of_turn, p
 use Rattle.session_turns.specs.Standing.{session_state, transaction_in}
 use Rattle.session_turns.specs.Told.{IsTold}
 use Rattle.stack_driver.specs.Conditions.{IsView}
-use Rattle.state_resizes.specs.Answers.{fixed_by}
+use Rattle.session_turns.specs.Answers.{fixed_by}
 use Rattle.session_openings.proofs.resolving.resolve.Goals as goal
 
 pub resolved-requires-clause-array : goal.resolved-requires-clause-array

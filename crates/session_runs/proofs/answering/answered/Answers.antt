@@ -1,6 +1,6 @@
 use Rattle.std.proofs.Common.{rules, ◌≡◌, true, false, refl, sym, ap, subst, ◌∙◌}
 use Rattle.indexmap.specs.IndexMap.{get_by_text}
-use Rattle.line_meanings.specs.Meanings.{line_in, line_of_bytes}
+use Rattle.session_openings.specs.Meanings.{line_in, line_of_bytes}
 use Rattle.session_runs.proofs.LineLaws.{line_refused}
 use Rattle.session_runs.proofs.answering.answered.Goals as goal
 

@@ -1,10 +1,10 @@
 use Rattle.std.proofs.Common.{rules, ◌≡◌, true, false, refl, sym, ap, subst, ◌∙◌}
 use Rattle.indexmap.specs.IndexMap.{get_by_text}
 use Rattle.line_forms.specs.Form.{form_of}
-use Rattle.line_meanings.specs.Meanings.{line_of}
+use Rattle.session_openings.specs.Meanings.{line_of}
 use Rattle.session_runs.specs.Session.{IsLineTold}
 use Rattle.session_runs.proofs.LineLaws.{line_alone, line_by, goes_by, goes_with, goes_alone}
-use Rattle.session_turns.proofs.Laws.{names_then}
+use Rattle.session_openings.proofs.Laws.{names_then}
 use Rattle.session_runs.proofs.answering.obeyed.Goals as goal
 
 pub returns-in-Open-clause-told : goal.returns-in-Open-clause-told

@@ -4,7 +4,7 @@ use Rattle.std.specs.Prelude.{MatchOption}
 use Rattle.std.specs.Option.{option_copied}
 use Rattle.session_runs.specs.Session.{session_with}
 use Rattle.session_runs.proofs.ScriptLaws.{IsUnderWay, past_line, ends_at, short_more}
-use Rattle.session_turns.proofs.Laws.{passed_then}
+use Rattle.session_openings.proofs.Laws.{passed_then}
 use Rattle.session_runs.proofs.scripts.run_script.Goals as goal
 
 pub returns-then-not-given-clause-run : goal.returns-then-not-given-clause-run

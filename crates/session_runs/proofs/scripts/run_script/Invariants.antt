@@ -4,7 +4,7 @@ use Rattle.std.specs.Option.{option_copied, option_map_or}
 use Rattle.indexmap.specs.IndexMap.{get_by_text}
 use Rattle.session_runs.specs.Session.{session_with}
 use Rattle.session_runs.proofs.ScriptLaws.{IsUnderWay}
-use Rattle.session_turns.specs.Turns.{HasPassed}
+use Rattle.session_openings.specs.Turns.{HasPassed}
 use Rattle.session_runs.proofs.scripts.run_script.Given as goal
 
 abbrev pub invariant-loop-rest : goal.invariant-loop-rest

@@ -1,4 +1,4 @@
-use Rattle.transactions.proofs.TurnLaws.{past_of}
+use Rattle.transactions.proofs.Laws.{past_of}
 use Rattle.session_turns.proofs.TurnLaws.{turn_alone}
 use Rattle.session_turns.proofs.turns.bounds_in_turn.Goals as goal
 

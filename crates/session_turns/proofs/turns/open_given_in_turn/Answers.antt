@@ -8,7 +8,7 @@ use Rattle.state_laws.specs.Log.{Log}
 use Rattle.transactions.specs.Turns.{owner_of}
 use Rattle.turn_book.specs.History.{Continues}
 use Rattle.turn_book.specs.Passes.{PassView}
-use Rattle.transactions.proofs.TurnLaws.{past_of}
+use Rattle.transactions.proofs.Laws.{past_of}
 use Rattle.session_turns.proofs.TurnLaws.{given_adds, given_turn, turn_of_none, on_ok_map, on_err_map, is_turn}
 use Rattle.session_turns.proofs.turns.open_given_in_turn.Goals as goal
 

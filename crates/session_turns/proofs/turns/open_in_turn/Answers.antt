@@ -3,7 +3,7 @@ use Rattle.state_laws.specs.Openings.{IsOpening}
 use Rattle.transactions.specs.Turns.{owner_of}
 use Rattle.turn_book.specs.History.{Continues}
 use Rattle.session_turns.specs.Asked.{asked_leaf}
-use Rattle.transactions.proofs.TurnLaws.{past_of}
+use Rattle.transactions.proofs.Laws.{past_of}
 use Rattle.session_turns.proofs.TurnLaws.{open_adds, is_turn}
 use Rattle.session_turns.proofs.turns.open_in_turn.Goals as goal
 

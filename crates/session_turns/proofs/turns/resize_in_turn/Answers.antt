@@ -5,7 +5,7 @@ use Rattle.session_turns.proofs.TurnLaws.{resize_adds, is_turn}
 use Rattle.session_turns.proofs.turns.resize_in_turn.Goals as goal
 use Rattle.state_resizes.specs.Answers.{IsAnswer, fixed_by}
 use Rattle.transactions.specs.Turns.{owner_of}
-use Rattle.transactions.proofs.TurnLaws.{past_of}
+use Rattle.transactions.proofs.Laws.{past_of}
 use Rattle.turn_book.specs.History.{Continues}
 
 pub give-requires-clause-agrees : goal.give-requires-clause-agrees

@@ -13,8 +13,8 @@ use Rattle.std.specs.contracts.impls.GlobalAllocator.TheImpl as allocator
 use Rattle.std.specs.contracts.vec.Vec as vec_type
 use Rattle.std.proofs.vec.Vec.TheSendSync as std_vec
 use Rattle.std.below.std_heap.proofs.GlobalAllocator.TheSendSync as std_heap
-use Rattle.cells.proofs.name.Name.TheSendSync as name
-use Rattle.cells.specs.contracts.name.Name as name_type
+use Rattle.cells.proofs.Name.TheSendSync as name
+use Rattle.cells.specs.contracts.Name as name_type
 use Rattle.history.specs.contracts.event.Event as event
 use Rattle.shared_state.specs.contracts.book.StateBook.TheImpl as state_book
 use Rattle.shared_state.specs.contracts.state.State as state

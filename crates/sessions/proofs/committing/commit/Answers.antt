@@ -1,5 +1,5 @@
 use Rattle.std.proofs.Common.{None, sym, subst}
-use Rattle.answer_text.specs.declared.answer.Body.TheVariants.{NoTransaction}
+use Rattle.session_turns.specs.declared.Body.TheVariants.{NoTransaction}
 use Rattle.sessions.specs.Commits.{HasSoundTxn, IsCommitTold}
 use Rattle.sessions.proofs.CommitRows.{commit_without, committed_sound, committed_told}
 use Rattle.sessions.proofs.committing.commit.Goals as goal

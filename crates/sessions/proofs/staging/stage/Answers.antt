@@ -6,7 +6,7 @@ use Rattle.line_meanings.specs.Numbers.{values_of}
 use Rattle.serde_json.specs.View.{view}
 use Rattle.sessions.proofs.StageLaws.{unstaged_told}
 use Rattle.sessions.proofs.staging.stage.Goals as goal
-use Rattle.transactions.specs.Txn.{transaction_of}
+use Rattle.session_turns.specs.Txn.{transaction_of}
 
 pub returns-in-Ok-clause-txn : goal.returns-in-Ok-clause-txn
 returns-in-Ok-clause-txn c opening events known was printed = c.staged.ensures.txn opening events (c.in-Ok.ensures.refs events known) was printed

@@ -1,5 +1,5 @@
 use Rattle.std.proofs.Common.{◌≡◌, ℕ, List, Ok, Some, length, sym, ap, subst}
-use Rattle.answer_text.specs.declared.answer.Body.TheVariants.{Staged}
+use Rattle.session_turns.specs.declared.Body.TheVariants.{Staged}
 use Rattle.history.specs.Acts.{Asked, stages}
 use Rattle.sessions.specs.Commits.{HasSoundTxn}
 use Rattle.session_turns.specs.Standing.{session_state}
@@ -7,8 +7,8 @@ use Rattle.session_turns.specs.Told.{IsAnswerTo, IsToldAlone}
 use Rattle.session_turns.proofs.Laws.{found_all}
 use Rattle.sessions.proofs.StageLaws.{more_sound, staged_told, unstaged_told}
 use Rattle.sessions.proofs.staging.staged.Goals as goal
-use Rattle.transactions.specs.Txn.{TxnSeen, transaction_of}
-use Rattle.transactions.specs.declared.error.WriteError.TheVariants as write
+use Rattle.session_turns.specs.Txn.{TxnSeen, transaction_of}
+use Rattle.session_turns.specs.declared.WriteError.TheVariants as write
 
 pub returns-in-Ok-clause-told : goal.returns-in-Ok-clause-told
 returns-in-Ok-clause-told c names seen line asked act =

@@ -6,7 +6,7 @@ use Rattle.sessions.specs.Writes.{IsWrittenAs}
 use Rattle.session_turns.proofs.Laws.{told_without}
 use Rattle.sessions.proofs.WriteLaws.{written_told}
 use Rattle.sessions.proofs.writing.written.Goals as goal
-use Rattle.transactions.specs.Txn.{transaction_of}
+use Rattle.session_turns.specs.Txn.{transaction_of}
 
 pub committed-requires-clause-sound : goal.committed-requires-clause-sound
 committed-requires-clause-sound g c = c.in-Ok.ensures.sound c.args.book.now.fixed c.args.pass.now.seen c.requires.pass.past.outline c.requires.refs

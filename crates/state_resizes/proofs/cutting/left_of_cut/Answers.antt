@@ -1,6 +1,6 @@
 use Rattle.std.proofs.Common.{sym, subst}
 use Rattle.chunk_forms.specs.Metadata.{shape_of}
-use Rattle.chunk_laying.specs.Laid.{IsChunkOf}
+use Rattle.chunk_plans.specs.Laid.{IsChunkOf}
 use Rattle.state_resizes.proofs.Reading.{may_cut}
 use Rattle.state_resizes.proofs.cutting.left_of_cut.Goals as goal
 

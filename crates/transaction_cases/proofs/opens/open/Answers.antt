@@ -1,6 +1,5 @@
 use Rattle.std.proofs.Common.{sym, subst}
-use Rattle.transactions.proofs.StagedLaws.{on_ok_any}
-use Rattle.session_turns.proofs.Laws.{passed_of_turn}
+use Rattle.session_runs.proofs.Laws.{on_ok_any, passed_of_turn}
 use Rattle.transaction_cases.specs.Seats.{IsSeatThen}
 use Rattle.transaction_cases.proofs.SeatLaws.{stored_seat, seat_later, on_ok_with}
 use Rattle.transaction_cases.proofs.opens.open.Goals as goal

@@ -2,7 +2,7 @@ use Rattle.std.proofs.Common.{◌∙◌, sym, subst}
 use Rattle.std.specs.List.{AllByRecursion}
 use Rattle.history.specs.Refs.{IsKnownRef}
 use Rattle.state_resizes.specs.Conditions.{IsAsked}
-use Rattle.transactions.proofs.StagedLaws.{on_ok_any}
+use Rattle.session_runs.proofs.Laws.{on_ok_any}
 use Rattle.transaction_cases.proofs.SeatLaws.{seat_later}
 use Rattle.transaction_cases.proofs.opens.resize.Goals as goal
 

@@ -1,4 +1,4 @@
-use Rattle.transactions.proofs.StagedLaws.{on_ok_any}
+use Rattle.session_runs.proofs.Laws.{on_ok_any}
 use Rattle.transaction_cases.proofs.SeatLaws.{sound_begun}
 use Rattle.transaction_cases.proofs.txn_calls.begin.Goals as goal
 

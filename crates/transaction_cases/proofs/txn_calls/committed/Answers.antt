@@ -1,6 +1,6 @@
 use Rattle.std.proofs.Common.{Ok, Err, Some, sym, subst}
-use Rattle.transactions.specs.Txn.{transaction_of}
-use Rattle.transactions.proofs.StagedLaws.{on_ok_any}
+use Rattle.session_runs.specs.Txn.{transaction_of}
+use Rattle.session_runs.proofs.Laws.{on_ok_any}
 use Rattle.transaction_cases.specs.Seats.{HasSound}
 use Rattle.transaction_cases.proofs.SeatLaws.{commit_passed, left_sound, seat_with, sound_later}
 use Rattle.transaction_cases.proofs.txn_calls.committed.Goals as goal

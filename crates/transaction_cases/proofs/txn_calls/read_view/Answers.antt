@@ -1,5 +1,5 @@
 use Rattle.std.proofs.Common.{Some, sym, subst, length}
-use Rattle.transactions.specs.Conditions.{IsTxnIn}
+use Rattle.session_runs.specs.Conditions.{IsTxnIn}
 use Rattle.transaction_cases.specs.Seats.{HasSound}
 use Rattle.transaction_cases.proofs.SeatLaws.{turned_passed, refused_passed, read_sound, sound_later}
 use Rattle.transaction_cases.proofs.txn_calls.read_view.Goals as goal

@@ -2,7 +2,7 @@ use Rattle.std.proofs.Common.{Some}
 use Rattle.history.specs.History.{History}
 use Rattle.history.specs.Refs.{HasKnownRefs}
 use Rattle.state_laws.specs.Agreement.{Opening}
-use Rattle.transactions.proofs.StagedLaws.{on_ok_any}
+use Rattle.session_runs.proofs.Laws.{on_ok_any}
 use Rattle.transaction_cases.specs.Seats.{HasSound}
 use Rattle.transaction_cases.proofs.SeatLaws.{write_sound}
 use Rattle.transaction_cases.proofs.txn_calls.stage_words.Goals as goal

@@ -1,7 +1,7 @@
 use Rattle.std.proofs.Common.{Some, sym, subst}
 use Rattle.std.specs.List.{AllByRecursion}
 use Rattle.history.specs.Refs.{IsKnownRef}
-use Rattle.transactions.proofs.StagedLaws.{on_ok_any}
+use Rattle.session_runs.proofs.Laws.{on_ok_any}
 use Rattle.transaction_cases.specs.Seats.{HasSound, IsSeatThen}
 use Rattle.transaction_cases.proofs.SeatLaws.{seat_staged, on_ok_with}
 use Rattle.transaction_cases.proofs.txn_calls.write.Goals as goal

@@ -1,5 +1,5 @@
 use Rattle.std.proofs.Common.{◌∙◌, [], sym, refl, append-nil}
-use Rattle.transactions.proofs.TurnLaws.{past_of, has_turned}
+use Rattle.chunk_fetches.proofs.Laws.{past_of, has_turned}
 use Rattle.transactions.proofs.commit_turns.ask_in_turn.Goals as goal
 
 pub returns-clause-turned : goal.returns-clause-turned

@@ -4,9 +4,9 @@ use Rattle.commits.specs.Answers.{IsCommitRow, IsCommitted, IsTold}
 use Rattle.commits.specs.Prepared.{AreWrites}
 use Rattle.history.specs.Commit.{Transaction}
 use Rattle.kv_face.specs.Store.{Contents}
-use Rattle.state_laws.specs.Agreement.{Agrees}
+use Rattle.chunk_fetches.specs.Agreement.{Agrees}
 use Rattle.turn_book.specs.History.{Continues}
-use Rattle.transactions.specs.Turns.{owner_of}
+use Rattle.chunk_fetches.specs.Turns.{owner_of}
 use Rattle.transactions.proofs.CommitTurns.{commit_turn}
 use Rattle.commits.proofs.Laws.{told_added}
 use Rattle.transactions.proofs.OwnLaws.{own_each}

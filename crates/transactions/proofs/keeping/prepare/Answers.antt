@@ -3,7 +3,7 @@ use Rattle.std.specs.Str.{bytes_eq}
 use Rattle.std.proofs.lemmas.List.{at_drop_more}
 use Rattle.transaction_cells.specs.Found.{found}
 use Rattle.transactions.specs.Keeping.{IsUnkept, IsUnspoilt, placed}
-use Rattle.transactions.specs.declared.kept.Kept.{Kept}
+use Rattle.chunk_fetches.specs.declared.kept.Kept.{Kept}
 use Rattle.transactions.proofs.KeepLaws.{kept_at, unspoilt_more}
 use Rattle.transactions.proofs.keeping.prepare.Goals as goal
 

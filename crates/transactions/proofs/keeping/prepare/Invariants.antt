@@ -2,7 +2,7 @@ use Rattle.std.proofs.Common.{◌≡◌, ◌+◌, ℕ, List, drop, length}
 use Rattle.std.specs.List.{AllByRecursion}
 use Rattle.transaction_cells.specs.Found.{found}
 use Rattle.transactions.specs.Keeping.{IsUnkept, IsUnspoilt, placed}
-use Rattle.transactions.specs.declared.kept.Kept.{Kept}
+use Rattle.chunk_fetches.specs.declared.kept.Kept.{Kept}
 use Rattle.transactions.proofs.keeping.prepare.Given as goal
 
 -- giving the rest their places now gives what giving all at first gives, and what is told so far counts as before

@@ -2,7 +2,7 @@ use Rattle.std.proofs.Common.{◌∙◌, [], inr, sym, ap, subst, refl, map}
 use Rattle.std.specs.Cmp.Lexicographic.{slice_cmp}
 use Rattle.std.specs.List.Sorted.{IsPermutation, IsSortedByKey}
 use Rattle.std.specs.Ordering.{nat_cmp}
-use Rattle.chunk_plans.specs.Sorting.{key_of_mark}
+use Rattle.commits.specs.Sorting.{key_of_mark}
 use Rattle.transactions.specs.Marking.{mark_of_kept}
 use Rattle.transactions.specs.Preparing.{seen_part, txn_of}
 use Rattle.transactions.specs.Txn.{transaction_of}

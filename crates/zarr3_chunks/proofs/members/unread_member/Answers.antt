@@ -1,6 +1,6 @@
 use Rattle.std.proofs.Common.{◌≡◌, Option, Some, None, option_map, string_bytes, Bor, sym, ap, ◌∙◌}
 use Rattle.serde_json.specs.View.{view}
-use Rattle.json_forms.proofs.Laws.{Text}
+use Rattle.meta_forms.proofs.Laws.{Text}
 use Rattle.zarr3_chunks.proofs.UnreadLaws.{unread_member-object, unread_member-other}
 use Rattle.zarr3_chunks.proofs.members.unread_member.Goals as goal
 

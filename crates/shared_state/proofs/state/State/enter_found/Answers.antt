@@ -2,8 +2,8 @@ use Rattle.std.proofs.Common.{◌≡◌, List, ℕ, true, Some, None, refl, sym,
 use Rattle.std.specs.FinMap as finmap
 use Rattle.kv_face.specs.Store.{Contents}
 use Rattle.std.specs.Prelude.{count_by}
-use Rattle.array_homes.specs.Homes.{info_at}
-use Rattle.array_homes.specs.Opening.{leaf_at}
+use Rattle.state_laws.specs.Homes.{info_at}
+use Rattle.state_laws.specs.Opening.{leaf_at}
 use Rattle.history.specs.Legal.{is_opening}
 use Rattle.history.specs.declared.array.ArrayInfo.{ArrayInfo}
 use Rattle.history.specs.Places.{IsFree}

@@ -2,12 +2,12 @@ use Rattle.std.proofs.Common.{◌≡◌, [], ◌∷◌, ◌++◌, true, Some, No
 use Rattle.std.specs.Prelude.{count_by}
 use Rattle.std.specs.FinMap as finmap
 use Rattle.std.proofs.lemmas.List.{append_assoc}
-use Rattle.chunk_forms.specs.Metadata.{metadata_text}
-use Rattle.chunk_forms.specs.Wants.{metadata_name_asked}
+use Rattle.state_laws.specs.Metadata.{metadata_text}
+use Rattle.state_laws.specs.Wants.{metadata_name_asked}
 use Rattle.kv_face.specs.declared.change.Change.{Change}
 use Rattle.kv_face.specs.Store.{Contents, put_bytes, after}
-use Rattle.array_homes.specs.Homes.{info_at}
-use Rattle.array_homes.specs.Opening.{leaf_at}
+use Rattle.state_laws.specs.Homes.{info_at}
+use Rattle.state_laws.specs.Opening.{leaf_at}
 use Rattle.history.specs.declared.array.ArrayInfo.{ArrayInfo}
 use Rattle.history.specs.Legal.{is_opening}
 use Rattle.history.specs.Places.{IsFree}

@@ -1,6 +1,6 @@
 use Rattle.std.proofs.Common.{◌≡◌, ◌++◌, Some, None, string_bytes, sym, ap, ◌∙◌}
 use Rattle.std.specs.Option.{option_map}
-use Rattle.chunk_forms.specs.Names.{metadata_name}
+use Rattle.state_laws.specs.FormNames.{metadata_name}
 use Rattle.history.specs.declared.array.ArrayInfo.{ArrayInfo}
 use Rattle.history.specs.Arrays.{Known, known_after, form_of, is_local}
 use Rattle.history.specs.Chunks.{home_text}

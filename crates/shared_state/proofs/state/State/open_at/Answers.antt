@@ -1,6 +1,6 @@
 use Rattle.std.proofs.Common.{◌≡◌, length, Some, None, Ok, refl, sym, ap, subst, ◌∙◌}
 use Rattle.std.specs.Prelude.{IsSome}
-use Rattle.array_homes.specs.Opening.{leaf_at}
+use Rattle.state_laws.specs.Opening.{leaf_at}
 use Rattle.history.specs.Arrays.{Known, ref_of}
 use Rattle.history.specs.Leaves.{nothing}
 use Rattle.history.specs.Outcomes.{outcome_at}

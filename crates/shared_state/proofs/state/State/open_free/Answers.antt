@@ -1,5 +1,5 @@
 use Rattle.std.proofs.Common.{subst}
-use Rattle.array_homes.specs.Opening.{leaf_at}
+use Rattle.state_laws.specs.Opening.{leaf_at}
 use Rattle.state_laws.specs.Log.{Log}
 use Rattle.state_laws.specs.Openings.{IsOpening}
 use Rattle.state_laws.proofs.Laws.{agrees_got}

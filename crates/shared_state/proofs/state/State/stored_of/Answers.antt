@@ -1,7 +1,7 @@
 use Rattle.std.proofs.Common.{◌≡◌, true, false, refl, sym, ap, subst, ◌∙◌}
 use Rattle.std.specs.Prelude.{IsSome}
 use Rattle.std.specs.Option.{option_map}
-use Rattle.array_homes.specs.Names.{IsChunkName}
+use Rattle.state_laws.specs.Names.{IsChunkName}
 use Rattle.history.specs.declared.array.ArrayInfo.{ArrayInfo}
 use Rattle.history.specs.Arrays.{Known, known_after}
 use Rattle.history.specs.Places.{IsTable, location}

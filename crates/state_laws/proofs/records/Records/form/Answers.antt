@@ -1,6 +1,6 @@
 use Rattle.std.proofs.Common.{rules, IsSome, sym, ap, subst, ◌∙◌}
 use Rattle.std.specs.Option.{option_map}
-use Rattle.chunk_forms.specs.Metadata.{with_shape}
+use Rattle.history.specs.Metadata.{with_shape}
 use Rattle.history.specs.Arrays.{Known, known_after, form_of}
 use Rattle.state_laws.specs.Recorded.{RecordsOf}
 use Rattle.state_laws.proofs.Indexing.{form_at}

@@ -2,8 +2,9 @@ use Rattle.std.proofs.Common.{◌≡◌, ◌∙◌, ◌++◌, List, sym, ap, sub
 use Rattle.std.proofs.Math.Seq.{take-append_seam}
 use Rattle.transaction_cells.specs.Found.{found}
 use Rattle.transactions.specs.Keeping.{AreNewTo, placed}
-use Rattle.transactions.specs.Txn.{TxnSeen, counting, place_from}
-use Rattle.transactions.specs.declared.kept.Kept.{Kept}
+use Rattle.transactions.specs.Txn.{TxnSeen, counting}
+use Rattle.chunk_fetches.specs.Kept.{place_from}
+use Rattle.chunk_fetches.specs.declared.kept.Kept.{Kept}
 use Rattle.transactions.proofs.KeepLaws.{all_placed, counts_unspoilt}
 use Rattle.transactions.proofs.txn.Txn.keep.Goals as goal
 

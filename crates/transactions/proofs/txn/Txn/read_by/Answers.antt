@@ -1,12 +1,11 @@
 use Rattle.std.proofs.Common.{List, length, sym, subst}
 use Rattle.std.specs.List.{AllByRecursion}
 use Rattle.transaction_cells.specs.declared.view_cells.Piece.{Piece}
-use Rattle.transactions.specs.Fetching.{IsFetchError}
-use Rattle.transactions.specs.Looking.{AreChunks}
-use Rattle.transactions.specs.Sources.{new_pieces}
-use Rattle.transactions.specs.declared.source.Source.{Source}
-use Rattle.transactions.proofs.FetchLaws.{if_err_map, if_ok_map}
-use Rattle.transactions.proofs.HadLaws.{IsNamed}
+use Rattle.chunk_fetches.specs.Fetching.{IsFetchError}
+use Rattle.chunk_fetches.specs.Looking.{AreChunks}
+use Rattle.chunk_fetches.specs.Sources.{new_pieces}
+use Rattle.chunk_fetches.specs.declared.source.Source.{Source}
+use Rattle.chunk_fetches.proofs.Laws.{if_err_map, if_ok_map, IsNamed}
 use Rattle.transactions.proofs.ReadLaws.{chunks_later, fetch_refused, new_names, read_by_is, stray_refused, txn_after}
 use Rattle.transactions.proofs.txn.Txn.read_by.Goals as goal
 

@@ -1,7 +1,7 @@
 use Rattle.std.proofs.Common.{◌≡◌, [], sym, subst}
 use Rattle.history.specs.Reads.{mark_of, marked_world}
 use Rattle.history.specs.declared.event.Event.{Event}
-use Rattle.state_laws.specs.Agreement.{Opening}
+use Rattle.chunk_fetches.specs.Agreement.{Opening}
 use Rattle.transactions.specs.Conditions.{IsTxnIn}
 use Rattle.transactions.specs.Reading.{HasRead, strays_by}
 use Rattle.turn_book.specs.Passes.{PassView}

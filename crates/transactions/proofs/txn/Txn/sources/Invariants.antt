@@ -1,5 +1,5 @@
 use Rattle.std.proofs.Common.{◌≡◌, ◌++◌, drop}
-use Rattle.transactions.specs.Sources.{sources_of}
+use Rattle.chunk_fetches.specs.Sources.{sources_of}
 use Rattle.transactions.proofs.txn.Txn.sources.Given as goal
 
 -- the sources so far, and those of the pieces that are left

@@ -1,11 +1,11 @@
 use Rattle.std.proofs.Common.{◌≡◌, ◌∙◌, ◌+◌, ◌<◌, ◌∷◌, ◌++◌, [], sym, ap, subst, arith, append_assoc, drop, get_or, length}
 use Rattle.std.specs.Option.{option_copied}
 use Rattle.transactions.specs.Had.{had_from, had_of}
-use Rattle.transactions.specs.Sources.{count_new}
+use Rattle.chunk_fetches.specs.Sources.{count_new}
 use Rattle.transactions.specs.Strays.{IsFitting, stray_at, strays_of, with_stray}
 use Rattle.transactions.specs.Txn.{TxnSeen}
-use Rattle.transactions.specs.declared.source.Source.TheVariants.{Covered}
-use Rattle.transactions.proofs.LooksLaws.{no_piece}
+use Rattle.chunk_fetches.specs.declared.source.Source.TheVariants.{Covered}
+use Rattle.chunk_fetches.proofs.Laws.{no_piece}
 use Rattle.transactions.proofs.StrayLaws.{count_small, next_fit, next_strays}
 use Rattle.transactions.proofs.txn.Txn.strays.Goals as goal
 use Rattle.transactions.proofs.txn.Txn.strays.Goals.{in-Some+in_ok-push, in_default}

@@ -7,7 +7,7 @@ use Rattle.transaction_cells.specs.Operations.{AreStaged}
 use Rattle.transactions.specs.Had.{IsDenseOrNone, had_from, snapshots_of}
 use Rattle.transactions.specs.Reading.{had_by}
 use Rattle.transactions.specs.Txn.{TxnSeen}
-use Rattle.transactions.proofs.FetchLaws.{if_ok_map}
+use Rattle.chunk_fetches.proofs.Laws.{if_ok_map}
 use Rattle.transactions.proofs.txn.Txn.words.Goals as goal
 
 pub returns-clause-shown : goal.returns-clause-shown

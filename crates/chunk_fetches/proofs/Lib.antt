@@ -1,0 +1,9 @@
+pub mod AnswerLaws
+pub mod GrowLaws
+pub mod LookLaws
+pub mod LooksLaws
+pub mod TurnLaws
+pub mod FreshLaws
+pub mod SettleLaws
+pub mod FetchLaws
+pub mod Laws

@@ -1,8 +1,0 @@
-use Rattle.std.proofs.Common.{◌≡◌, drop}
-use Rattle.std.specs.List.{list_any}
-use Rattle.transactions.specs.Sources.{is_new}
-use Rattle.transactions.proofs.fetching.has_new.Given as goal
-
--- none so far
-abbrev pub invariant-loop-source : goal.invariant-loop-source
-invariant-loop-source l = list_any is_new (drop l.source-index l.sources) ≡ list_any is_new l.sources
