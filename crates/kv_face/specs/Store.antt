@@ -72,3 +72,9 @@ OneMore (Some m) (Some n) = n ≡ m + 1
 pub record HasCause (before now : ℕ) (failed : Type 0) : Type 0 where
   pub later : before ≤ now
   pub cause : failed → before < now
+
+-- it rises exactly where the call failed, so that no other answer hides a failure
+pub record IsToldExactly (before now : ℕ) (failed : Type 0) : Type 0 where
+  pub later : before ≤ now
+  pub cause : failed → before < now
+  pub told : before < now → failed

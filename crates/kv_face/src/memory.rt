@@ -4,7 +4,7 @@ ghost use Rattle.std.specs.List.{IsDistinct};
 ghost use Rattle.std.specs.Str.{IsCharBoundary, bytes_eq};
 ghost use Rattle.std.specs.FinMap as finmap;
 ghost use Rattle.kv_face.specs.Table.{held_by};
-ghost use Rattle.kv_face.specs.Store.{after, keys_of, are_together, takes, opened, finished, failing, OneMore, HasCause};
+ghost use Rattle.kv_face.specs.Store.{after, keys_of, are_together, takes, opened, finished, failing, OneMore, HasCause, IsToldExactly};
 
 use crate::calls::CountedCalls;
 use crate::change::Change;

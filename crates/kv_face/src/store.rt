@@ -3,7 +3,7 @@ ghost use Rattle.std.specs.FinMap as finmap;
 ghost use Rattle.std.specs.List.{IsDistinct};
 ghost use Rattle.std.specs.Str.{IsCharBoundary, bytes_eq};
 ghost use Rattle.kv_face.specs.declared.change.Change.{Change};
-ghost use Rattle.kv_face.specs.Store.{StoreSeen, opened, finished, failing, takes, Contents, after, keys_of, are_together, OneMore, HasCause};
+ghost use Rattle.kv_face.specs.Store.{StoreSeen, opened, finished, failing, takes, Contents, after, keys_of, are_together, OneMore, HasCause, IsToldExactly};
 
 use crate::change::Change;
 use crate::error::{Failed, KvError};
@@ -16,7 +16,7 @@ pub trait KvStore: Drop {
     /// The bytes under a key, where there are some.
     ///
     /// # Errors
-    /// `Failed` where the store failed; the count of faults rose. Nothing else changes in any case.
+    /// `Failed` where the store failed: exactly then the count of faults rose. Nothing else changes in any case.
     fn get(&mut self, key: &str) -> Result<Option<Vec<u8>>, KvError>
         requires { takes ((seen self.old).names) key.now ≡ true }
         ensures value { IfOk result (λ v. IfSome ((seen self.old).contents)
@@ -26,7 +26,7 @@ pub trait KvStore: Drop {
         ensures names { (seen self.new).names ≡ (seen self.old).names }
         ensures standing { (seen self.new).standing ≡ (seen self.old).standing }
         ensures change_count { (seen self.new).changes ≡ (seen self.old).changes }
-        ensures cause { HasCause ((seen self.old).faults) ((seen self.new).faults) (IsErrOf result KvError.Failed) };
+        ensures cause { IsToldExactly ((seen self.old).faults) ((seen self.new).faults) (IsErrOf result KvError.Failed) };
 
     /// Whether the changes can be made by one `apply`: there is at most one, or their keys, each without its first `from`
     /// bytes, begin with one of the store's prefixes.
@@ -37,7 +37,7 @@ pub trait KvStore: Drop {
     /// Makes all changes, or none.
     ///
     /// # Errors
-    /// `Failed` where the store failed; the count of faults rose. After any `Err` the map is as it was.
+    /// `Failed` where the store failed: exactly then the count of faults rose. After any `Err` the map is as it was.
     fn apply(&mut self, changes: &[Change]) -> Result<(), KvError>
         requires keys { All (λ (c : Change). takes ((seen self.old).names) c.key ≡ true) changes.now }
         requires distinct { IsDistinct bytes_eq (keys_of changes.now) }
@@ -59,7 +59,7 @@ pub trait KvStore: Drop {
             → OneMore ((seen self.old).changes) ((seen self.new).changes)) }
         ensures count_none { length changes.now ≡ 0 → (seen self.new).changes ≡ (seen self.old).changes }
         ensures count_err { OnErr result ((seen self.new).changes ≡ (seen self.old).changes) }
-        ensures cause { HasCause ((seen self.old).faults) ((seen self.new).faults) (IsErrOf result KvError.Failed) };
+        ensures cause { IsToldExactly ((seen self.old).faults) ((seen self.new).faults) (IsErrOf result KvError.Failed) };
 
     /// Ends the work on the store.
     ///

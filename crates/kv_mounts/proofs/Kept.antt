@@ -5,7 +5,7 @@ use Rattle.std.specs.List.{list_any, IsDistinct, AllByRecursion}
 use Rattle.std.proofs.Math.Seq.{map-set_same}
 use Rattle.std.proofs.lemmas.List.Elements.{All-set, All-get_or, recursion_from_All}
 use Rattle.std.proofs.lemmas.List.Sums.{sum_by-set}
-use Rattle.kv_face.specs.Store.{Standing, opened, finished, failing, OneMore, HasCause}
+use Rattle.kv_face.specs.Store.{Standing, opened, finished, failing, OneMore, IsToldExactly}
 use Rattle.kv_mounts.specs.Parts.{Part, AreMounts, IsMountName, names_of, below}
 use Rattle.kv_mounts.specs.Union.{entries_below, entries_of, union_of, faults_of, prefixes_of, is_open, has_failed, standing_of, sum_told, change_count_of}
 use Rattle.kv_mounts.proofs.UnionLaws.{length-set, names_of-set}
@@ -104,13 +104,14 @@ one_more_at (x ∷ ps) (suc i) p q less is h = one_more_rest x.change_count (cha
 pub one_more : (parts : List Part) (i : ℕ) (p q : Part) → Changes parts i p q → OneMore p.change_count q.change_count → OneMore (change_count_of parts) (change_count_of (set parts i q))
 one_more parts i p q c h = one_more_at parts i p q c.there c.is h
 
--- the count of faults rises with that of one mount
-pub has_cause : {F : Type 0} (parts : List Part) (i : ℕ) (p q : Part) → Changes parts i p q → HasCause p.faults q.faults F → HasCause (faults_of parts) (faults_of (set parts i q)) F
+-- the count of faults rises exactly with that of one mount
+pub has_cause : {F : Type 0} (parts : List Part) (i : ℕ) (p q : Part) → Changes parts i p q → IsToldExactly p.faults q.faults F → IsToldExactly (faults_of parts) (faults_of (set parts i q)) F
 has_cause parts i p q c h =
     let sums : faults_of (set parts i q) + p.faults ≡ faults_of parts + q.faults = ap (λ (r : Part). faults_of (set parts i q) + r.faults) c.is ∙ sum_by-set (λ (r : Part). r.faults) parts i q p c.there in
     record {
       later = omega (arith, sums, h.later);
       cause = λ f. omega (arith, sums, h.cause f);
+      told = λ more. h.told (omega (arith, sums, more));
     }
 
 -- tests of names and tests of mounts by their names

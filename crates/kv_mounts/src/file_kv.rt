@@ -1,5 +1,5 @@
 ghost use Rattle.std.specs.Prelude.{◌≡◌, ◌≤◌, ◌<◌, false, IfOk};
-ghost use Rattle.kv_face.specs.Store.{HasCause};
+ghost use Rattle.kv_face.specs.Store.{IsToldExactly};
 
 use crate::paths::{put_file, read_file, remove_file};
 use kv_face::{Change, Failed, KvError, KvStore};
@@ -51,7 +51,7 @@ impl<R: Files + AllocGlobal + Drop> FileKv<R> {
 
     // Counts a fault. Where the last count is full and there is no memory for another, that is the answer.
     fn fault(&mut self) -> KvError
-        ensures cause { HasCause self.old.faults self.new.faults (result ≡ KvError.Failed) }
+        ensures cause { IsToldExactly self.old.faults self.new.faults (result ≡ KvError.Failed) }
         ensures kept { self.new.is_finished ≡ self.old.is_finished }
     {
         if self.last == u64::MAX {
@@ -66,7 +66,7 @@ impl<R: Files + AllocGlobal + Drop> FileKv<R> {
 
     // The answer for a failure.
     fn failed(&mut self, e: KvError) -> KvError
-        ensures cause { HasCause self.old.faults self.new.faults (result ≡ KvError.Failed) }
+        ensures cause { IsToldExactly self.old.faults self.new.faults (result ≡ KvError.Failed) }
         ensures kept { self.new.is_finished ≡ self.old.is_finished }
         ensures memory { e ≡ KvError.Memory → result ≡ KvError.Memory }
     {

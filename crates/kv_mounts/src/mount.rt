@@ -2,7 +2,7 @@ ghost use Rattle.std.specs.Prelude.{◌≡◌, ◌≤◌, ◌<◌, ◌+◌, ◌�
 ghost use Rattle.std.specs.FinMap as finmap;
 ghost use Rattle.std.specs.List.{IsDistinct};
 ghost use Rattle.std.specs.Str.{IsCharBoundary, bytes_eq};
-ghost use Rattle.kv_face.specs.Store.{HasCause, OneMore, after, are_together, keys_of, opened};
+ghost use Rattle.kv_face.specs.Store.{IsToldExactly, OneMore, after, are_together, keys_of, opened};
 ghost use Rattle.kv_face.specs.declared.change.Change.{Change as ChangeOf};
 ghost use Rattle.kv_mounts.specs.Parts.{AreOneMounts, all_below, begins, behind, shortened};
 ghost use Rattle.kv_mounts.specs.Finish.{IsFinished};
@@ -67,7 +67,7 @@ impl<K: KvStore> Mount<K> {
         ensures value { IfOk result (λ v. IfSome self.old.contents
             (λ m. option_map (λ b. b.items) v ≡ finmap.get m (behind self.old.name key.now))) }
         ensures kept { self.new ≡ record self.old { faults = self.new.faults } }
-        ensures cause { HasCause self.old.faults self.new.faults (IsErrOf result KvError.Failed) }
+        ensures cause { IsToldExactly self.old.faults self.new.faults (IsErrOf result KvError.Failed) }
     {
         let rest = behind(self.name.items(), key);
         self.store.get(rest)
@@ -108,7 +108,7 @@ impl<K: KvStore> Mount<K> {
             → (self.new.standing ≡ self.old.standing) ⊎ (self.new.standing ≡ opened) }
         ensures one_more { OnOk result (OneMore self.old.change_count self.new.change_count) }
         ensures count_err { OnErr result (self.new.change_count ≡ self.old.change_count) }
-        ensures cause { HasCause self.old.faults self.new.faults (IsErrOf result KvError.Failed) }
+        ensures cause { IsToldExactly self.old.faults self.new.faults (IsErrOf result KvError.Failed) }
     {
         let changes = shorter(alloc, self.name.items(), changes)?;
         self.store.apply(changes.as_slice())
