@@ -13,16 +13,15 @@ use history::{Form, FormError, decode_form};
 use std::alloc::Global;
 
 /// The numbers of a chunk that stored bytes are.
-pub fn decode(alloc: Global, form: &Form, bytes: Option<Vec<u8>>) -> Result<Dense, FormError>
+pub fn decode(alloc: Global, form: &Form, bytes: &Option<List<u8>>) -> Result<Dense, FormError>
     requires stored { meta.is_local form.now ≡ false }
     requires fill { IsWord (meta.dtype_of form.now) (meta.fill_of form.now) }
     ensures dtype { IfOk result (λ d. d.dtype ≡ meta.dtype_of form.now) }
     ensures shape { IfOk result (λ d. d.shape ≡ meta.chunk_shape_of form.now) }
     ensures words { IfOk result (λ d. (index : List ℕ) → IsInside (meta.chunk_shape_of form.now) index
-        → stored_word form.now (meta.fill_of form.now) (option_map (λ b.
-        b.items) bytes) index ≡ Some (word_at d index)) }
+        → stored_word form.now (meta.fill_of form.now) bytes.now index ≡ Some (word_at d index)) }
     ensures causes { IfErr result (λ e. e ≢ form_error.Memory → (cause : DamageOf) × (e ≡ form_error.Damaged cause)
-        × (stored_fault form.now (option_map (λ b. b.items) bytes) ≡ Some cause)) }
+        × (stored_fault form.now bytes.now ≡ Some cause)) }
 {
     match bytes {
         Some(bytes) => decode_form(
@@ -31,7 +30,7 @@ pub fn decode(alloc: Global, form: &Form, bytes: Option<Vec<u8>>) -> Result<Dens
             form.dtype(),
             form.chunk_shape(),
             form.fill(),
-            Some(&bytes),
+            Some(bytes.items()),
         ),
         None => decode_form(
             alloc,

@@ -20,10 +20,10 @@ ghost use Rattle.chunk_fetches.specs.declared.error.ReadError.TheVariants as rea
 use crate::error::ReadError;
 use crate::gate::Gate;
 use crate::looked::{Fresh, Looked};
-use cells::{Dense, List};
+use cells::List;
 use chunk_cache::{Snapshot, as_snapshot};
-use chunk_forms::{Form, FormError, decode_form};
-use shared_state::Look;
+use chunk_forms::{Form, FormError};
+use shared_state::{Look, decode};
 use std::alloc::Global;
 use std::sync::Wait;
 
@@ -83,31 +83,10 @@ fn snapshot_of(
     ensures causes { IfErr result (λ e. e ≢ form_error.Memory → (cause : DamageOf) × (e ≡ form_error.Damaged cause)
         × (stored_fault form.now bytes.now ≡ Some cause)) }
 {
-    let cells = decoded(alloc, form, bytes)?;
+    let cells = decode(alloc, form, bytes)?;
     match as_snapshot(alloc, generation, cells) {
         Ok(snapshot) => Ok(snapshot),
         Err(_) => Err(FormError::Memory),
-    }
-}
-
-fn decoded(alloc: Global, form: &Form, bytes: &Option<List<u8>>) -> Result<Dense, FormError>
-    requires stored { meta.is_local form.now ≡ false }
-    requires fill { IsWord (meta.dtype_of form.now) (meta.fill_of form.now) }
-    ensures dtype { IfOk result (λ d. d.dtype ≡ meta.dtype_of form.now) }
-    ensures shape { IfOk result (λ d. d.shape ≡ meta.chunk_shape_of form.now) }
-    ensures words { IfOk result (λ d. (index : List ℕ) → IsInside (meta.chunk_shape_of form.now) index
-        → stored_word form.now (meta.fill_of form.now) bytes.now index ≡ Some (word_at d index)) }
-    ensures causes { IfErr result (λ e. e ≢ form_error.Memory → (cause : DamageOf) × (e ≡ form_error.Damaged cause)
-        × (stored_fault form.now bytes.now ≡ Some cause)) }
-{
-    let dtype = form.dtype();
-    let fill = form.fill();
-    match bytes {
-        Some(bytes) => {
-            let bytes = Some(bytes.items());
-            decode_form(alloc, form, dtype, form.chunk_shape(), fill, bytes)
-        }
-        None => decode_form(alloc, form, dtype, form.chunk_shape(), fill, None),
     }
 }
 

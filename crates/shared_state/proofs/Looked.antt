@@ -1,8 +1,9 @@
 -- What a look told, told of the state before it.
-use Rattle.std.proofs.Common.{◌≡◌, ℕ, List, true, false, Bool, cond, Some, None, refl, sym, ap, ◌∙◌}
+use Rattle.std.proofs.Common.{◌≡◌, ℕ, List, true, false, Bool, cond, Option, Some, None, refl, sym, ap, ◌∙◌}
 use Rattle.chunk_cache.specs.Cache.{kept}
 use Rattle.chunk_cache.specs.Snapshot.{SnapshotCells}
 use Rattle.state_laws.specs.declared.Damage.{Damage}
+use Rattle.state_laws.specs.declared.Form.{Form}
 use Rattle.history.specs.declared.array.Home.{Home}
 use Rattle.history.specs.declared.array.Home.TheVariants.{Zarr, N5, Zarr3, Local}
 use Rattle.history.specs.Arrays.{Known, known_after, is_local}
@@ -15,7 +16,7 @@ use Rattle.state_laws.specs.Seen.{StoreSeen, IsRead}
 use Rattle.state_laws.specs.Log.{Log, cells_held}
 use Rattle.state_laws.specs.Agreement.{IsState}
 use Rattle.state_laws.specs.Fetches.{IsAnswered, IsDamagedThere, kept_of}
-use Rattle.state_laws.specs.Looks.{IsLook}
+use Rattle.state_laws.specs.Looks.{IsLook, IsStoredLook}
 use Rattle.state_laws.proofs.Laws.{agrees_read}
 
 pub answered_back : (store next : StoreSeen) (log : Log) (c : Chunk) (snapshot : SnapshotCells) → IsRead store next → IsAnswered next log c snapshot → IsAnswered store log c snapshot
@@ -42,6 +43,19 @@ look_back store next log c (look.Bytes generation form bytes bounds) read is = (
   },
   is.1,
 )
+
+-- bytes that a store has it has also behind a reader
+pub stored_forth : (store next : StoreSeen) (log : Log) (c : Chunk) (generation : ℕ) (f : Form) (bytes : Option (List ℕ)) → IsRead store next → IsStoredLook store log c generation f bytes → IsStoredLook next log c generation f bytes
+stored_forth store next log c generation f bytes read is = record {
+  array = is.array;
+  known = is.known;
+  valid = is.valid;
+  stored = is.stored;
+  unkept = is.unkept;
+  form_is = is.form_is;
+  generation_is = is.generation_is;
+  held = λ m told. is.held m (sym read.contents ∙ told);
+}
 
 -- a stored array lies on a mount
 pub stored_mount : (home : Home) → is_local home ≡ false → (mount : List ℕ) × (mount_of home ≡ Some mount)

@@ -9,13 +9,13 @@ ghost use Rattle.history.specs.Chunks.{chunk_key};
 ghost use Rattle.state_laws.specs.Seen.{IsRead};
 ghost use Rattle.state_laws.specs.Agreement.{IsState, KeepsAgreement};
 ghost use Rattle.state_laws.specs.Fetches.{IsAnswered, IsChunkOf, IsDamagedThere, IsNamed, kept_of, looked_at, settled};
-ghost use Rattle.state_laws.specs.Looks.{HasBounds, IsFailedLook};
+ghost use Rattle.state_laws.specs.Looks.{HasBounds, LeavesRead};
 
 use crate::state::State;
 use cells::{Dense, Name};
 use chunk_cache::Snapshot;
 use kv_face::KvStore;
-use state_laws::{Bounds, FetchError, Fetched, FormError, GetError, decode};
+use state_laws::{Bounds, FetchError, Fetched, FormError, Look, decode};
 use std::sync::Arc;
 
 impl<K: KvStore> State<K> {
@@ -30,7 +30,6 @@ impl<K: KvStore> State<K> {
         ensures answered { IfOk result (λ f. IsAnswered (K.seen self.old.store) self.old.log
             (record { array = array; index = chunk.now }) f.snapshot) }
         ensures bounds { IfOk result (λ f. HasBounds self.old.log array f.bounds) }
-        ensures read { IsRead (K.seen self.old.store) (K.seen self.new.store) }
         ensures hit { (k : Known) → known_after self.old.log.events array ≡ Some k
             → IsSome (kept_of self.old.log array k (chunk_key k chunk.now))
             → (self.new.store ≡ self.old.store) × OnOk result (self.new.log
@@ -38,133 +37,32 @@ impl<K: KvStore> State<K> {
         ensures miss { IfOk result (λ f. (k : Known) → known_after self.old.log.events array ≡ Some k
             → kept_of self.old.log array k (chunk_key k chunk.now) ≡ None
             → self.new.log ≡ settled self.old.log k (chunk_key k chunk.now) f.snapshot) }
-        ensures failed { (event : ℕ) → result ≡ Err (FetchError.StoreFailed event)
-            → IsFailedLook owner (record { array = array; index = chunk.now }) (K.seen self.old.store)
-            (K.seen self.new.store) self.old.log self.new.log event }
         ensures damaged { (name : List ℕ) (cause : DamageOf) → result ≡ Err (FetchError.Damaged name cause)
             → (self.new.log ≡ self.old.log) × IsDamagedThere (K.seen self.old.store) self.old.log
             (record { array = array; index = chunk.now }) name cause }
-        ensures memory { result ≡ Err FetchError.Memory → self.new.log ≡ self.old.log }
-        ensures kept { KeepsAgreement (K.seen self.old.store) self.old.log (K.seen self.new.store) self.new.log }
+        ensures left { LeavesRead owner (record { array = array; index = chunk.now }) (K.seen self.old.store)
+            (K.seen self.new.store) self.old.log self.new.log result }
     {
         let key = self.key_text(array, chunk)?;
-        self.fetch_at(owner, array, chunk, key)
-    }
-
-    fn fetch_at(
-        &mut self,
-        owner: u32,
-        array: u64,
-        chunk: &[u64],
-        key: String,
-    ) -> Result<Fetched, FetchError>
-        requires agrees { IsState (K.seen self.old.store) self.old.log }
-        requires named { IsNamed self.old.log.events (record { array = array; index = chunk.now }) (string_bytes key) }
-        ensures answered { IfOk result (λ f. IsAnswered (K.seen self.old.store) self.old.log
-            (record { array = array; index = chunk.now }) f.snapshot) }
-        ensures bounds { IfOk result (λ f. HasBounds self.old.log array f.bounds) }
-        ensures read { IsRead (K.seen self.old.store) (K.seen self.new.store) }
-        ensures hit { (k : Known) → known_after self.old.log.events array ≡ Some k
-            → IsSome (kept_of self.old.log array k (string_bytes key))
-            → (self.new.store ≡ self.old.store) × OnOk result (self.new.log
-            ≡ looked_at self.old.log k (string_bytes key)) }
-        ensures miss { IfOk result (λ f. (k : Known) → known_after self.old.log.events array ≡ Some k
-            → kept_of self.old.log array k (string_bytes key) ≡ None
-            → self.new.log ≡ settled self.old.log k (string_bytes key) f.snapshot) }
-        ensures failed { (event : ℕ) → result ≡ Err (FetchError.StoreFailed event)
-            → IsFailedLook owner (record { array = array; index = chunk.now }) (K.seen self.old.store)
-            (K.seen self.new.store) self.old.log self.new.log event }
-        ensures damaged { (name : List ℕ) (cause : DamageOf) → result ≡ Err (FetchError.Damaged name cause)
-            → (self.new.log ≡ self.old.log) × IsDamagedThere (K.seen self.old.store) self.old.log
-            (record { array = array; index = chunk.now }) name cause }
-        ensures memory { result ≡ Err FetchError.Memory → self.new.log ≡ self.old.log }
-        ensures kept { KeepsAgreement (K.seen self.old.store) self.old.log (K.seen self.new.store) self.new.log }
-    {
-        let bounds = self.bounds(array)?;
-        match self.kept_at(array, chunk, key.as_str()) {
-            Ok(Some(snapshot)) => Ok(Fetched { snapshot, bounds }),
-            Ok(None) => self.load(owner, array, chunk, key, bounds),
-            Err(_) => Err(FetchError::Memory),
+        match self.look_at(owner, array, chunk, key.as_str())? {
+            Look::Kept { snapshot, bounds } => Ok(Fetched { snapshot, bounds }),
+            Look::Bytes {
+                generation,
+                form,
+                bytes,
+                bounds,
+            } => match decode(self.alloc, &form, &bytes) {
+                Ok(cells) => self.put(array, chunk, key, generation, cells, bounds),
+                Err(FormError::Damaged { cause }) => Err(FetchError::Damaged {
+                    key: Name::wrap(key),
+                    cause,
+                }),
+                Err(FormError::Memory) => Err(FetchError::Memory),
+            },
         }
     }
 
-    /// A chunk that isn't kept.
-    fn load(
-        &mut self,
-        owner: u32,
-        array: u64,
-        chunk: &[u64],
-        key: String,
-        bounds: Bounds,
-    ) -> Result<Fetched, FetchError>
-        requires agrees { IsState (K.seen self.old.store) self.old.log }
-        requires named { IsNamed self.old.log.events (record { array = array; index = chunk.now }) (string_bytes key) }
-        requires unkept { (k : Known) → known_after self.old.log.events array ≡ Some k → (is_local k.info.home ≡ false)
-            × (kept (string_bytes key) self.old.log.cache.entries ≡ None) }
-        requires bounds { HasBounds self.old.log array bounds }
-        ensures answered { IfOk result (λ f. IsAnswered (K.seen self.old.store) self.old.log
-            (record { array = array; index = chunk.now }) f.snapshot) }
-        ensures bounds { IfOk result (λ f. HasBounds self.old.log array f.bounds) }
-        ensures read { IsRead (K.seen self.old.store) (K.seen self.new.store) }
-        ensures after { IfOk result (λ f. (k : Known) → known_after self.old.log.events array ≡ Some k
-            → self.new.log ≡ settled self.old.log k (string_bytes key) f.snapshot) }
-        ensures failed { (event : ℕ) → result ≡ Err (FetchError.StoreFailed event)
-            → IsFailedLook owner (record { array = array; index = chunk.now }) (K.seen self.old.store)
-            (K.seen self.new.store) self.old.log self.new.log event }
-        ensures damaged { (name : List ℕ) (cause : DamageOf) → result ≡ Err (FetchError.Damaged name cause)
-            → (self.new.log ≡ self.old.log) × IsDamagedThere (K.seen self.old.store) self.old.log
-            (record { array = array; index = chunk.now }) name cause }
-        ensures memory { result ≡ Err FetchError.Memory → self.new.log ≡ self.old.log }
-        ensures kept { KeepsAgreement (K.seen self.old.store) self.old.log (K.seen self.new.store) self.new.log }
-    {
-        match self.bytes_at(owner, array, chunk, key.as_str()) {
-            Ok(bytes) => self.decoded(array, chunk, key, bytes, bounds),
-            Err(GetError::Failed { event }) => Err(FetchError::StoreFailed { event }),
-            Err(GetError::Memory) => Err(FetchError::Memory),
-        }
-    }
-
-    /// The chunk that stored bytes are.
-    fn decoded(
-        &mut self,
-        array: u64,
-        chunk: &[u64],
-        key: String,
-        bytes: Option<Vec<u8>>,
-        bounds: Bounds,
-    ) -> Result<Fetched, FetchError>
-        requires agrees { IsState (K.seen self.old.store) self.old.log }
-        requires named { IsNamed self.old.log.events (record { array = array; index = chunk.now }) (string_bytes key) }
-        requires unkept { (k : Known) → known_after self.old.log.events array ≡ Some k → (is_local k.info.home ≡ false)
-            × (kept (string_bytes key) self.old.log.cache.entries ≡ None) }
-        requires bounds { HasBounds self.old.log array bounds }
-        requires bytes { (m : Contents) → (K.seen self.old.store).contents ≡ Some m
-            → option_map (λ b. b.items) bytes ≡ finmap.get m (string_bytes key) }
-        ensures answered { IfOk result (λ f. IsAnswered (K.seen self.old.store) self.old.log
-            (record { array = array; index = chunk.now }) f.snapshot) }
-        ensures bounds { IfOk result (λ f. HasBounds self.old.log array f.bounds) }
-        ensures after { IfOk result (λ f. (k : Known) → known_after self.old.log.events array ≡ Some k
-            → self.new.log ≡ settled self.old.log k (string_bytes key) f.snapshot) }
-        ensures failed { (event : ℕ) → result ≢ Err (FetchError.StoreFailed event) }
-        ensures damaged { (name : List ℕ) (cause : DamageOf) → result ≡ Err (FetchError.Damaged name cause)
-            → (self.new.log ≡ self.old.log) × IsDamagedThere (K.seen self.old.store) self.old.log
-            (record { array = array; index = chunk.now }) name cause }
-        ensures memory { result ≡ Err FetchError.Memory → self.new.log ≡ self.old.log }
-        ensures store { self.new.store ≡ self.old.store }
-        ensures kept { KeepsAgreement (K.seen self.old.store) self.old.log (K.seen self.new.store) self.new.log }
-    {
-        let generation = self.generation_at(array, key.as_str());
-        let form = self.info(array)?;
-        match decode(self.alloc, &form, bytes) {
-            Ok(cells) => self.put(array, chunk, key, generation, cells, bounds),
-            Err(FormError::Damaged { cause }) => Err(FetchError::Damaged {
-                key: Name::wrap(key),
-                cause,
-            }),
-            Err(FormError::Memory) => Err(FetchError::Memory),
-        }
-    }
-
+    /// Keeps a chunk's cells, which were decoded, and gives them.
     fn put(
         &mut self,
         array: u64,

@@ -1,5 +1,5 @@
 // Reading a chunk.
-ghost use Rattle.std.specs.Prelude.{◌≡◌, ◌≢◌, ℕ, List, Some, None, Err, IfOk, OnOk, OnErr, IsSome, false, option_map};
+ghost use Rattle.std.specs.Prelude.{◌≡◌, ◌≢◌, ◌<◌, ℕ, List, Option, Some, None, Ok, Err, IfOk, OnOk, OnErr, IsSome, false, option_map};
 ghost use Rattle.std.specs.FinMap as finmap;
 ghost use Rattle.state_laws.specs.declared.Damage.{Damage as DamageOf};
 ghost use Rattle.kv_face.specs.Store.{Contents};
@@ -9,7 +9,11 @@ ghost use Rattle.history.specs.ReadRows.{mount_of};
 ghost use Rattle.state_laws.specs.Seen.{IsRead};
 ghost use Rattle.state_laws.specs.Agreement.{IsState, KeepsAgreement};
 ghost use Rattle.state_laws.specs.Fetches.{IsChunkOf, IsNamed, HasFailed, kept_of, looked_at};
-ghost use Rattle.state_laws.specs.Looks.{HasBounds, IsLook, IsFailedLook};
+ghost use Rattle.state_laws.specs.Looks.{HasBounds, IsLook, LeavesRead};
+ghost use Rattle.state_laws.specs.declared.reading.Bounds.{Bounds as BoundsOf};
+ghost use Rattle.state_laws.specs.declared.reading.Look.TheVariants as look;
+ghost use Rattle.state_laws.specs.declared.Form.{Form as FormOf};
+ghost use Rattle.chunk_cache.specs.Snapshot.{SnapshotCells};
 ghost use Rattle.chunk_cache.specs.Cache.{kept};
 
 use crate::state::State;
@@ -52,6 +56,8 @@ impl<K: KvStore> State<K> {
         ensures failed { (event : ℕ) (k : Known) (mount : List ℕ) → result ≡ Err (GetError.Failed event)
             → known_after self.old.log.events array ≡ Some k → mount_of k.info.home ≡ Some mount
             → HasFailed owner mount (K.seen self.old.store) (K.seen self.new.store) self.old.log self.new.log event }
+        ensures told { (K.seen self.old.store).faults < (K.seen self.new.store).faults
+            → (event : ℕ) × (result ≡ Err (GetError.Failed event)) }
         ensures memory { result ≡ Err GetError.Memory → self.new.log ≡ self.old.log }
         ensures kept { KeepsAgreement (K.seen self.old.store) self.old.log (K.seen self.new.store) self.new.log }
     {
@@ -68,23 +74,22 @@ impl<K: KvStore> State<K> {
         requires chunk { IsChunkOf self.old.log.events (record { array = array; index = chunk.now }) }
         ensures looked { IfOk result (λ l. IsLook (K.seen self.old.store) self.old.log
             (record { array = array; index = chunk.now }) l) }
-        ensures read { IsRead (K.seen self.old.store) (K.seen self.new.store) }
         ensures hit { (k : Known) → known_after self.old.log.events array ≡ Some k
             → IsSome (kept_of self.old.log array k (chunk_key k chunk.now)) → self.new.store ≡ self.old.store }
         ensures after { OnOk result ((k : Known) → known_after self.old.log.events array ≡ Some k
             → self.new.log ≡ looked_at self.old.log k (chunk_key k chunk.now)) }
-        ensures failed { (event : ℕ) → result ≡ Err (FetchError.StoreFailed event)
-            → IsFailedLook owner (record { array = array; index = chunk.now }) (K.seen self.old.store)
-            (K.seen self.new.store) self.old.log self.new.log event }
+        ensures there { (snapshot : SnapshotCells) (bounds : BoundsOf) (k : Known)
+            → result ≡ Ok (look.Kept snapshot bounds) → known_after self.old.log.events array ≡ Some k
+            → kept_of self.old.log array k (chunk_key k chunk.now) ≡ Some snapshot }
         ensures damaged { (key : List ℕ) (cause : DamageOf) → result ≢ Err (FetchError.Damaged key cause) }
-        ensures memory { result ≡ Err FetchError.Memory → self.new.log ≡ self.old.log }
-        ensures kept { KeepsAgreement (K.seen self.old.store) self.old.log (K.seen self.new.store) self.new.log }
+        ensures left { LeavesRead owner (record { array = array; index = chunk.now }) (K.seen self.old.store)
+            (K.seen self.new.store) self.old.log self.new.log result }
     {
         let key = self.key_text(array, chunk)?;
         self.look_at(owner, array, chunk, key.as_str())
     }
 
-    fn look_at(
+    pub(crate) fn look_at(
         &mut self,
         owner: u32,
         array: u64,
@@ -95,17 +100,18 @@ impl<K: KvStore> State<K> {
         requires named { IsNamed self.old.log.events (record { array = array; index = chunk.now }) key.now }
         ensures looked { IfOk result (λ l. IsLook (K.seen self.old.store) self.old.log
             (record { array = array; index = chunk.now }) l) }
-        ensures read { IsRead (K.seen self.old.store) (K.seen self.new.store) }
         ensures hit { (k : Known) → known_after self.old.log.events array ≡ Some k
             → IsSome (kept_of self.old.log array k key.now) → self.new.store ≡ self.old.store }
         ensures after { OnOk result ((k : Known) → known_after self.old.log.events array ≡ Some k
             → self.new.log ≡ looked_at self.old.log k key.now) }
-        ensures failed { (event : ℕ) → result ≡ Err (FetchError.StoreFailed event)
-            → IsFailedLook owner (record { array = array; index = chunk.now }) (K.seen self.old.store)
-            (K.seen self.new.store) self.old.log self.new.log event }
+        ensures there { (snapshot : SnapshotCells) (bounds : BoundsOf) (k : Known)
+            → result ≡ Ok (look.Kept snapshot bounds) → known_after self.old.log.events array ≡ Some k
+            → kept_of self.old.log array k key.now ≡ Some snapshot }
+        ensures still { (generation : ℕ) (form : FormOf) (bytes : Option (List ℕ)) (bounds : BoundsOf)
+            → result ≡ Ok (look.Bytes generation form bytes bounds) → self.new.log ≡ self.old.log }
         ensures damaged { (key : List ℕ) (cause : DamageOf) → result ≢ Err (FetchError.Damaged key cause) }
-        ensures memory { result ≡ Err FetchError.Memory → self.new.log ≡ self.old.log }
-        ensures kept { KeepsAgreement (K.seen self.old.store) self.old.log (K.seen self.new.store) self.new.log }
+        ensures left { LeavesRead owner (record { array = array; index = chunk.now }) (K.seen self.old.store)
+            (K.seen self.new.store) self.old.log self.new.log result }
     {
         let bounds = self.bounds(array)?;
         match self.kept_at(array, chunk, key) {
@@ -130,14 +136,11 @@ impl<K: KvStore> State<K> {
         requires bounds { HasBounds self.old.log array bounds }
         ensures looked { IfOk result (λ l. IsLook (K.seen self.old.store) self.old.log
             (record { array = array; index = chunk.now }) l) }
-        ensures read { IsRead (K.seen self.old.store) (K.seen self.new.store) }
+        ensures bytes { (snapshot : SnapshotCells) (bounds : BoundsOf) → result ≢ Ok (look.Kept snapshot bounds) }
         ensures ok { OnOk result (self.new.log ≡ self.old.log) }
-        ensures failed { (event : ℕ) → result ≡ Err (FetchError.StoreFailed event)
-            → IsFailedLook owner (record { array = array; index = chunk.now }) (K.seen self.old.store)
-            (K.seen self.new.store) self.old.log self.new.log event }
         ensures damaged { (key : List ℕ) (cause : DamageOf) → result ≢ Err (FetchError.Damaged key cause) }
-        ensures memory { result ≡ Err FetchError.Memory → self.new.log ≡ self.old.log }
-        ensures kept { KeepsAgreement (K.seen self.old.store) self.old.log (K.seen self.new.store) self.new.log }
+        ensures left { LeavesRead owner (record { array = array; index = chunk.now }) (K.seen self.old.store)
+            (K.seen self.new.store) self.old.log self.new.log result }
     {
         match self.bytes_at(owner, array, chunk, key) {
             Ok(bytes) => self.described(array, chunk, key, bytes, bounds),
@@ -163,6 +166,7 @@ impl<K: KvStore> State<K> {
             → option_map (λ b. b.items) bytes ≡ finmap.get m key.now }
         ensures looked { IfOk result (λ l. IsLook (K.seen self.now.store) self.now.log
             (record { array = array; index = chunk.now }) l) }
+        ensures bytes { (snapshot : SnapshotCells) (bounds : BoundsOf) → result ≢ Ok (look.Kept snapshot bounds) }
         ensures err { OnErr result (result ≡ Err FetchError.Memory) }
     {
         let generation = self.generation_at(array, key);

@@ -1,5 +1,5 @@
 // A look into the store, and the event that says where it failed.
-ghost use Rattle.std.specs.Prelude.{◌≡◌, ℕ, Some, Err, IfOk, OnOk, option_map, true};
+ghost use Rattle.std.specs.Prelude.{◌≡◌, ◌<◌, ℕ, Some, Err, IfOk, OnOk, option_map, true};
 ghost use Rattle.std.specs.FinMap as finmap;
 ghost use Rattle.kv_face.specs.Store.{Contents, takes};
 ghost use Rattle.state_laws.specs.Seen.{IsRead};
@@ -25,6 +25,8 @@ impl<K: KvStore> State<K> {
         ensures ok { OnOk result (self.new.log ≡ self.old.log) }
         ensures failed { (event : ℕ) → result ≡ Err (GetError.Failed event)
             → HasFailed owner mount (K.seen self.old.store) (K.seen self.new.store) self.old.log self.new.log event }
+        ensures told { (K.seen self.old.store).faults < (K.seen self.new.store).faults
+            → (event : ℕ) × (result ≡ Err (GetError.Failed event)) }
         ensures memory { result ≡ Err GetError.Memory → self.new.log ≡ self.old.log }
     {
         self.records.reserve()?;

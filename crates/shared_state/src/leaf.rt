@@ -71,7 +71,8 @@ impl<K: KvStore> State<K> {
         requires place { place.now ≡ place_at place.now.names.mount place.now.names.path want.now }
         ensures answer { (opening : Opening) → Agrees opening (K.seen self.old.store) self.old.log
             → IsOpening opening.store.contents self.old.log.events owner
-            (leaf_at place.now.names.mount place.now.names.path want.now may_open may_create) result self.new.log.events }
+            (leaf_at place.now.names.mount place.now.names.path want.now may_open may_create)
+            result self.new.log.events }
         ensures kept { KeepsAgreement (K.seen self.old.store) self.old.log (K.seen self.new.store) self.new.log }
         ensures frame { IsFrame (K.seen self.old.store) (K.seen self.new.store) }
         ensures failed { (event : ℕ) → result ≡ Err (OpenError.StoreFailed event)
@@ -132,7 +133,8 @@ impl<K: KvStore> State<K> {
         requires free { IsFree self.old.log.events place.now.location }
         ensures answer { (opening : Opening) → Agrees opening (K.seen self.old.store) self.old.log
             → IsOpening opening.store.contents self.old.log.events owner
-            (leaf_at place.now.names.mount place.now.names.path want.now may_open may_create) result self.new.log.events }
+            (leaf_at place.now.names.mount place.now.names.path want.now may_open may_create)
+            result self.new.log.events }
         ensures kept { KeepsAgreement (K.seen self.old.store) self.old.log (K.seen self.new.store) self.new.log }
         ensures frame { IsFrame (K.seen self.old.store) (K.seen self.new.store) }
         ensures failed { (event : ℕ) → result ≡ Err (OpenError.StoreFailed event)
@@ -168,7 +170,8 @@ impl<K: KvStore> State<K> {
             → option_map (λ b. b.items) bytes ≡ finmap.get m place.now.key }
         ensures answer { (opening : Opening) → Agrees opening (K.seen self.old.store) self.old.log
             → IsOpening opening.store.contents self.old.log.events owner
-            (leaf_at place.now.names.mount place.now.names.path want.now may_open may_create) result self.new.log.events }
+            (leaf_at place.now.names.mount place.now.names.path want.now may_open may_create)
+            result self.new.log.events }
         ensures kept { KeepsAgreement (K.seen self.old.store) self.old.log (K.seen self.new.store) self.new.log }
         ensures frame { IsFrame (K.seen self.old.store) (K.seen self.new.store) }
         ensures failed { (event : ℕ) → result ≡ Err (OpenError.StoreFailed event)

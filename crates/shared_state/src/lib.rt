@@ -24,5 +24,5 @@ pub use history::{ArrayInfo, Event, Home, Kind, Mode, Op, Ops};
 pub use state::{State, StateRefused};
 pub use state_laws::{
     AtStart, Bounds, ChangeError, Deed, FetchError, Fetched, HeldCells, Left, Look, NewShape,
-    OpenError, Opened, Planned,
+    OpenError, Opened, Planned, decode,
 };

@@ -20,5 +20,5 @@ returns-in-Ok-clause-looked c d = if_ok_two d.named.result d.named.ensures.look 
 
 pub returns-in-Err-clause-failed : goal.returns-in-Err-clause-failed
 returns-in-Err-clause-failed c d event is =
-    let failed = d.in-Err.ensures.failed event (ap Err (failed_look d.in-Err.e d.unlooked.result event d.unlooked.ensures (err_inj d.unlooked.result (StoreFailed event) is))) in
+    let failed = d.in-Err.ensures.left.failed event (ap Err (failed_look d.in-Err.e d.unlooked.result event d.unlooked.ensures (err_inj d.unlooked.result (StoreFailed event) is))) in
     failed_at d.args.owner _ (chunk_at d.args.id.now) _ _ d.args.state.now.log d.look.new.self.log event (chunk_parts (chunk_at d.args.id.now) _ _ d.array_in.ensures d.index_in.ensures) failed

@@ -5,4 +5,4 @@ pub fetch-answer-requires-clause-agrees : goal.fetch-answer-requires-clause-agre
 fetch-answer-requires-clause-agrees g c = (c.requires.ready.opening, c.requires.ready.agrees)
 
 pub returns : goal.returns
-returns g c = ready_kept _ _ _ _ c.requires.ready c.fetch-answer.ensures.kept
+returns g c = ready_kept _ _ _ _ c.requires.ready c.fetch-answer.ensures.left.kept

@@ -5,4 +5,4 @@ pub look-answer-requires-clause-agrees : goal.look-answer-requires-clause-agrees
 look-answer-requires-clause-agrees g c = (c.requires.ready.opening, c.requires.ready.agrees)
 
 pub returns : goal.returns
-returns g c = ready_kept _ _ _ _ c.requires.ready c.look-answer.ensures.kept
+returns g c = ready_kept _ _ _ _ c.requires.ready c.look-answer.ensures.left.kept

@@ -17,7 +17,7 @@ settle_look-requires-clause-ready g c =
     let chunk : Chunk = record { array = c.args.array; index = c.args.chunk.now } in
     let log = c.args.state.now.log in
     let r = c.requires.ready in
-    let late = c.look.ensures.kept r.opening r.agrees in
+    let late = c.look.ensures.left.kept r.opening r.agrees in
     let known = c.requires.chunk in
     let same = ap (λ (l : Log). l.events) (c.in-Ok.ensures.after known.array known.known) ∙ looked_events log known.array (chunk_key known.array c.args.chunk.now) in
     record {
@@ -34,4 +34,4 @@ settle_look-requires-clause-chunk g c =
     subst (λ (h : History). IsChunkOf h chunk) (sym same) c.requires.chunk
 
 pub returns-in-Err : goal.returns-in-Err
-returns-in-Err g c = ready_kept _ _ _ _ c.requires.ready c.look.ensures.kept
+returns-in-Err g c = ready_kept _ _ _ _ c.requires.ready c.look.ensures.left.kept

@@ -9,7 +9,7 @@ fetch-requires-clause-chunk g c = chunk_there c.args.new.now c.args.chunk.now c.
 
 pub returns-in-Err-clause-refused : goal.returns-in-Err-clause-refused
 returns-in-Err-clause-refused g c =
-    unread c.args.new.now c.args.chunk.now c.requires.agrees c.requires.begun c.requires.cut c.args.owner _ _ c.fetch.result c.in-Err.error c.requires.reached c.in-Err.is c.fetch.ensures.failed c.fetch.ensures.damaged c.fetch.ensures.memory
+    unread c.args.new.now c.args.chunk.now c.requires.agrees c.requires.begun c.requires.cut c.args.owner _ _ c.fetch.result c.in-Err.error c.requires.reached c.in-Err.is c.fetch.ensures.left.failed c.fetch.ensures.damaged c.fetch.ensures.left.memory
 
 pub bytes_of_cut-requires-clause-fill : goal.bytes_of_cut-requires-clause-fill
 bytes_of_cut-requires-clause-fill g c = (may_cut c.args.new.now c.args.chunk.now c.requires.agrees c.requires.begun c.requires.cut).fill

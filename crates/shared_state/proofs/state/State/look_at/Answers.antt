@@ -1,10 +1,11 @@
 use Rattle.std.proofs.Common.{◌≡◌, None, Some, Ok, false, sym, ap, subst, ◌∙◌}
+use Rattle.std.specs.Prelude.{OnOk}
 use Rattle.chunk_cache.specs.Cache.{kept}
 use Rattle.history.specs.Arrays.{Known, known_after, is_local}
 use Rattle.history.specs.Chunks.{Chunk}
-use Rattle.state_laws.specs.Agreement.{Agrees, IsState}
+use Rattle.state_laws.specs.Agreement.{IsState}
 use Rattle.state_laws.specs.Log.{StateOf}
-use Rattle.state_laws.specs.Looks.{HasBounds, IsFailedLook}
+use Rattle.state_laws.specs.Looks.{HasBounds, LeavesRead}
 use Rattle.state_laws.specs.Fetches.{IsNamed}
 use Rattle.shared_state.proofs.Looked.{unkept_by}
 use Rattle.shared_state.proofs.state.State.look_at.Goals as goal
@@ -34,20 +35,18 @@ stored_look-requires-clause-bounds g c =
     let same = c.kept_at.ensures.missed (c.in-Ok-None.is ∙ ap Ok c.in-Ok-None.field-0-is) in
     subst (λ (st : StateOf g.row.K.Denot). HasBounds st.log c.args.array c.in_ok-bounds.bounds) (sym same) c.in_ok-bounds.ensures
 
-pub returns-in-Ok-None-clause-failed : goal.returns-in-Ok-None-clause-failed
-returns-in-Ok-None-clause-failed g c = λ event e.
+pub returns-in-Ok-None-clause-there : goal.returns-in-Ok-None-clause-there
+returns-in-Ok-None-clause-there g c = λ snapshot bounds k e known. absurd (c.stored_look.ensures.bytes snapshot bounds e)
+
+pub returns-in-Ok-None-clause-still : goal.returns-in-Ok-None-clause-still
+returns-in-Ok-None-clause-still g c = λ generation form bytes bounds e.
+    let same = c.kept_at.ensures.missed (c.in-Ok-None.is ∙ ap Ok c.in-Ok-None.field-0-is) in
+    let still : c.stored_look.new.self.log ≡ c.kept_at.new.self.log = subst (λ r. OnOk r (c.stored_look.new.self.log ≡ c.kept_at.new.self.log)) e c.stored_look.ensures.ok in
+    still ∙ ap (λ (st : StateOf g.row.K.Denot). st.log) same
+
+pub returns-in-Ok-None-clause-left : goal.returns-in-Ok-None-clause-left
+returns-in-Ok-None-clause-left g c =
     let seen = g.K.KvStore.seen in
     let chunk : Chunk = record { array = c.args.array; index = c.args.chunk.now } in
     let same = c.kept_at.ensures.missed (c.in-Ok-None.is ∙ ap Ok c.in-Ok-None.field-0-is) in
-    subst (λ (st : StateOf g.row.K.Denot). IsFailedLook c.args.owner chunk (seen st.store) (seen c.stored_look.new.self.store) st.log c.stored_look.new.self.log event) same (c.stored_look.ensures.failed event e)
-
-pub returns-in-Ok-None-clause-memory : goal.returns-in-Ok-None-clause-memory
-returns-in-Ok-None-clause-memory g c = λ e.
-    let same = c.kept_at.ensures.missed (c.in-Ok-None.is ∙ ap Ok c.in-Ok-None.field-0-is) in
-    c.stored_look.ensures.memory e ∙ ap (λ (st : StateOf g.row.K.Denot). st.log) same
-
-pub returns-in-Ok-None-clause-kept : goal.returns-in-Ok-None-clause-kept
-returns-in-Ok-None-clause-kept g c = λ opening agrees.
-    let seen = g.K.KvStore.seen in
-    let same = c.kept_at.ensures.missed (c.in-Ok-None.is ∙ ap Ok c.in-Ok-None.field-0-is) in
-    c.stored_look.ensures.kept opening (subst (λ (st : StateOf g.row.K.Denot). Agrees opening (seen st.store) st.log) (sym same) agrees)
+    subst (λ (st : StateOf g.row.K.Denot). LeavesRead c.args.owner chunk (seen st.store) (seen c.stored_look.new.self.store) st.log c.stored_look.new.self.log c.stored_look.result) same c.stored_look.ensures.left
