@@ -1,6 +1,7 @@
 -- What is left of a chunk is what is kept of it behind the commit.
 use Rattle.std.proofs.Common.{◌≡◌, ℕ, ◌+◌, ◌*◌, ◌<◌, List, [], ◌∷◌, ◌++◌, length, map, max, true, false, cond, Option, Some, None, refl, sym, ap, subst, ◌∙◌, arith}
 use Rattle.std.specs.Prelude.{unwrap_or}
+use Rattle.std.specs.Option.{ForSome}
 use Rattle.cells.specs.Dense.{DenseCells}
 use Rattle.cells.specs.Elements.{word_at}
 use Rattle.cells.specs.Places.{IsInside, c_place}
@@ -29,6 +30,7 @@ use Rattle.history.specs.Store.{IsChunkKept, shape_when_touched}
 use Rattle.history.specs.Touch.{touches, generation_of}
 use Rattle.history.specs.Writes.{puts_of}
 use Rattle.rebase_writes.specs.Staged.{staged_at}
+use Rattle.shared_state.specs.Kept.{IsCurrent}
 use Rattle.chunk_laying.specs.Laid.{laid_word}
 use Rattle.chunk_laying.proofs.Laws.{IsStagedBy, snapshot_of_covered, snapshot_of_laid}
 use Rattle.chunk_plans.specs.Left.{AreBytesOf}
@@ -145,11 +147,23 @@ module _ (start : Contents) (events : History) (owner : ℕ) (t : Transaction) (
     shape_is : shape_when_touched later c ≡ k.shape
     shape_is = shape_now events (done owner t ops key) c touched ∙ ap present_shape (known_after-more events (done owner t ops key) c.array ∙ known)
 
-    -- what is left of a stored chunk is what is kept of it behind the commit
-    pub kept_of_left : (bytes : Option (List ℕ)) → IsLeftNow start events k c staged bytes → IsChunkKept start later k c (shape_when_touched later c) bytes
-    kept_of_left bytes now =
+    -- the cells that are left of a stored chunk are the chunk behind the commit
+    pub current_of_left : (cells : DenseCells) (bytes : Option (List ℕ)) → IsLeftNow start events k c staged cells bytes → IsSnapshotOf start later k c (length events + 1) (word_at cells)
+    current_of_left cells bytes now = left_snapshot now.base cells now.under (laid_told c.index now.base cells now.left.laid)
+
+    -- and what is left of it is what is kept of it then
+    pub kept_of_left : (cells : DenseCells) (bytes : Option (List ℕ)) → IsLeftNow start events k c staged cells bytes → IsChunkKept start later k c (shape_when_touched later c) bytes
+    kept_of_left cells bytes now =
         subst (λ s. IsChunkKept start later k c s bytes) (sym shape_is)
-        (kept_of_bytes start later k c (length events + 1) k.shape now.left.cells bytes stored as_kept (left_snapshot now.base now.left.cells now.under (laid_told c.index now.base now.left.cells now.left.laid)) now.left.written)
+        (kept_of_bytes start later k c (length events + 1) k.shape cells bytes stored as_kept (current_of_left cells bytes now) now.left.written)
+
+    -- bytes that are planned are what is kept of the chunk then, and cells are the chunk
+    pub right_of_left : (bytes : Option (List ℕ)) (kept : Option DenseCells) → (cells : DenseCells) × IsLeftNow start events k c staged cells bytes × ForSome kept (λ d. d ≡ cells)
+        → IsChunkKept start later k c (shape_when_touched later c) bytes × ForSome kept (λ d. IsCurrent start later k c (record { generation = length events + 1; cells = d }))
+    right_of_left bytes kept plan = (
+      kept_of_left plan.0 bytes plan.1,
+      λ d is. subst (λ (cells : DenseCells). IsSnapshotOf start later k c (length events + 1) (word_at cells)) (sym (plan.2 d is)) (current_of_left plan.0 bytes plan.1),
+    )
 
   -- the cells of a local array behind the commit
   module _ (local : is_local k.info.home ≡ true) (whole : k.shape ≡ k.info.shape) where
@@ -190,8 +204,8 @@ module _ (start : Contents) (early late : History) (k : Known) (c : Chunk) (stag
   under_longer None under = under
   under_longer (Some base) under = (under.0, snapshot_then under.0 (word_at base) under.1)
 
-  pub left_longer : (bytes : Option (List ℕ)) → IsLeftNow start early k c staged bytes → IsLeftNow start (early ++ late) k c staged bytes
-  left_longer bytes left = record { base = left.base; under = under_longer left.base left.under; left = left.left }
+  pub left_longer : (cells : DenseCells) (bytes : Option (List ℕ)) → IsLeftNow start early k c staged cells bytes → IsLeftNow start (early ++ late) k c staged cells bytes
+  left_longer cells bytes left = record { base = left.base; under = under_longer left.base left.under; left = left.left }
 
   pub held_longer : (cells : DenseCells) → IsHeldOver start early k c staged cells → IsHeldOver start (early ++ late) k c staged cells
   held_longer cells over = record { base = over.base; generation = over.generation; snapshot = snapshot_then over.generation (word_at over.base) over.snapshot; words = over.words }

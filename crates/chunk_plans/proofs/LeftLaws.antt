@@ -8,13 +8,13 @@ use Rattle.cells.proofs.Laws.{true_or_false, c_place-lt, IsInside-c_index, c_pla
 use Rattle.chunk_forms.specs.declared.form.Form.{Form}
 use Rattle.chunk_forms.specs.declared.form.Form.TheVariants as form
 use Rattle.chunk_forms.specs.Grammar.{MayWrite, WritesChunk}
-use Rattle.chunk_forms.specs.Metadata.{shape_of, chunk_shape_of, fill_of}
+use Rattle.chunk_forms.specs.Metadata.{shape_of, chunk_shape_of, dtype_of, fill_of}
 use Rattle.chunk_forms.specs.Words.{is_inside}
 use Rattle.history.specs.Chunks.{in_array}
 use Rattle.history.specs.Resizes.{reaches_into}
 use Rattle.rebase_writes.specs.Staged.{staged_at}
 use Rattle.chunk_laying.specs.Laid.{laid_word, word_under}
-use Rattle.chunk_plans.specs.Left.{AreBytesOf, IsLeft}
+use Rattle.chunk_plans.specs.Left.{AreBytesOf, IsLeft, IsLeftAs}
 use Rattle.chunk_plans.proofs.Reached.{reached_ranks, reached_begins, within_cut}
 
 -- the words are the staged ones over a base's
@@ -69,6 +69,15 @@ pub is_left : {E : Type 0} (form : Form) (index : List ℕ) (staged : List (Opti
     → IfOk r (λ o. IfSome o (λ bytes. WritesChunk form index (shape_of form) bytes (word_at cells))) → IfOk r (λ bytes. IsLeft form index staged base bytes)
 is_left form index staged base cells fill (Ok o) laid sizes is full absent written = record { cells = cells; laid = laid; written = bytes_of_cells form index cells fill o sizes is full absent written }
 is_left form index staged base cells fill (Err e) laid sizes is full absent written = tt
+
+pub is_left_as : (form : Form) (index : List ℕ) (staged : List (Option ℕ)) (base : Option DenseCells) (cells : DenseCells) (fill : ℕ) (o : Option (List ℕ)) → IsLaidBy form index staged base cells → cells.dtype ≡ dtype_of form → cells.shape ≡ chunk_shape_of form
+    → fill ≡ fill_of form → length cells.words ≡ cell_count cells.shape → o ≡ None ↔ EachIndex cells.words (λ k. slice_index cells.words k ≡ fill) → IfSome o (λ bytes. WritesChunk form index (shape_of form) bytes (word_at cells)) → IsLeftAs form index staged base cells o
+is_left_as form index staged base cells fill o laid dtype sizes is full absent written = record {
+  dtype = dtype;
+  shape = sizes;
+  laid = laid;
+  written = bytes_of_cells form index cells fill o sizes is full absent written;
+}
 
 -- a word once staged words are laid over others
 pub over_word : (base laid : DenseCells) (staged : List (Option ℕ)) (at : List ℕ) → length staged ≡ cell_count base.shape → laid.shape ≡ base.shape

@@ -9,6 +9,7 @@ pub mod Holding
 pub mod Usable
 pub mod ReadyLaws
 pub mod UnderLaws
+pub mod LeavingLaws
 pub mod AskLaws
 pub mod SortLaws
 pub mod Laws

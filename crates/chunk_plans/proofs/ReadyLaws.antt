@@ -18,7 +18,7 @@ use Rattle.shared_state.specs.Kept.{IsCurrent}
 use Rattle.shared_state.specs.Log.{Log}
 use Rattle.shared_state.specs.Seen.{StoreSeen}
 use Rattle.shared_state.proofs.Laws.{generation_now}
-use Rattle.chunk_plans.specs.Left.{IsLeft}
+use Rattle.chunk_plans.specs.Left.{IsLeftAs}
 use Rattle.chunk_plans.specs.Under.{IsLeftNow}
 use Rattle.chunk_plans.specs.Writes.{IsReadyBy, IsReadyWrite, chunk_of_write, is_base, is_usable}
 use Rattle.chunk_plans.specs.declared.write.ChunkWrite.{ChunkWrite}
@@ -54,32 +54,32 @@ module _ (opening : Opening) (start : Contents) (store : StoreSeen) (log : Log) 
         (subst (λ m. IsSnapshotOf start (early ++ more) m c s.generation (word_at s.cells)) same later.2)
 
     left_by : (u : Under) (r : Ready) → is_told u ≡ true → IsUnderAt opening early asked.array a.part a.form u → r.generation ≡ generation_under u
-        → is_base (generation_in log asked.array a.key) r.generation ≡ true → IsLeft a.form a.part.chunk.now a.part.staged.now (cells_under u) r.bytes
-        → IsLeftNow start log.events asked.array (chunk_of_part a.part) a.part.staged.now r.bytes
+        → is_base (generation_in log asked.array a.key) r.generation ≡ true → IsLeftAs a.form a.part.chunk.now a.part.staged.now (cells_under u) r.cells r.bytes
+        → IsLeftNow start log.events asked.array (chunk_of_part a.part) a.part.staged.now r.cells r.bytes
     left_by Covered r it under generation base left = record {
       base = None;
       under = under.1;
-      left = subst (λ f. IsLeft f a.part.chunk.now a.part.staged.now None r.bytes) asked.form_is left;
+      left = subst (λ f. IsLeftAs f a.part.chunk.now a.part.staged.now None r.cells r.bytes) asked.form_is left;
     }
     left_by (Kept s) r it under generation base left =
         let equal : (s.generation == generation_in log asked.array a.key) ≡ true = ap (is_base (generation_in log asked.array a.key)) (sym generation) ∙ base in
         record {
           base = Some s.cells;
           under = (s.generation, kept_now s (under.2 start told) (eqb-true s.generation (generation_in log asked.array a.key) equal));
-          left = subst (λ f. IsLeft f a.part.chunk.now a.part.staged.now (Some s.cells) r.bytes) asked.form_is left;
+          left = subst (λ f. IsLeftAs f a.part.chunk.now a.part.staged.now (Some s.cells) r.cells r.bytes) asked.form_is left;
         }
     left_by Unknown r it under generation base left = absurd (cc)
 
   -- prepared bytes that may be used are right
   right_by : (k : Known) → known_after log.events a.part.array ≡ Some k → (r : Ready) → is_usable (generation_in log k a.key) (resized_after log.events a.part.array) (Some r) ≡ true
-      → IsReadyOf a (Some r) → IsLeftNow start log.events k (chunk_of_part a.part) a.part.staged.now r.bytes
+      → IsReadyOf a (Some r) → IsLeftNow start log.events k (chunk_of_part a.part) a.part.staged.now r.cells r.bytes
   right_by k is r usable ready =
       let parts = both (is_base (generation_in log k a.key) r.generation) (resized_after log.events a.part.array == r.resized) usable in
       let unresized : resized_after log.events a.part.array ≡ resized_after early a.part.array =
       eqb-true (resized_after log.events a.part.array) r.resized parts.1 ∙ ready.2 ∙ asked.resized in
       let same : asked.array ≡ k = some_inj asked.array k (sym (known_now unresized) ∙ is) in
       let base : is_base (generation_in log asked.array a.key) r.generation ≡ true = ap (λ m. is_base (generation_in log m a.key) r.generation) same ∙ parts.0 in
-      subst (λ m. IsLeftNow start log.events m (chunk_of_part a.part) a.part.staged.now r.bytes) same (left_by unresized a.under r ready.0 asked.under ready.1 base ready.3)
+      subst (λ m. IsLeftNow start log.events m (chunk_of_part a.part) a.part.staged.now r.cells r.bytes) same (left_by unresized a.under r ready.0 asked.under ready.1 base ready.3)
 
   module _ (w : ChunkWrite) (write : IsWriteFor a w) where
     same_chunk : chunk_of_part a.part ≡ chunk_of_write w
@@ -92,8 +92,8 @@ module _ (opening : Opening) (start : Contents) (store : StoreSeen) (log : Log) 
         let here : is_usable (generation_in log k a.key) (resized_after log.events a.part.array) (Some r) ≡ true =
         ap (λ n. is_usable (generation_in log k a.key) (resized_after log.events n) (Some r)) (sym write.array)
         ∙ ap (λ key. is_usable (generation_in log k key) (resized_after log.events w.array) (Some r)) (sym write.key) ∙ usable in
-        subst (λ c. IsLeftNow start log.events k c w.staged.now r.bytes) same_chunk
-        (subst (λ (ws : List (Option ℕ)). IsLeftNow start log.events k (chunk_of_part a.part) ws r.bytes) (sym write.staged)
+        subst (λ c. IsLeftNow start log.events k c w.staged.now r.cells r.bytes) same_chunk
+        (subst (λ (ws : List (Option ℕ)). IsLeftNow start log.events k (chunk_of_part a.part) ws r.cells r.bytes) (sym write.staged)
         (right_by k (ap (known_after log.events) (sym write.array) ∙ is) r here ready))
 
     -- so they are where a state agrees with the same opening later

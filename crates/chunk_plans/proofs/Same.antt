@@ -25,7 +25,7 @@ looked_same : (log : Log) (k : Known) (key : List ℕ) → IsSameButCache log (l
 looked_same log k key =
     either_log (is_local k.info.home) log log (record log { cache = record log.cache { entries = after_hit key log.cache.entries } }) (same_log log) (record { events = refl; generations = refl; locals = refl })
 
-settled_same : (log : Log) (k : Known) (key : List ℕ) (snapshot : SnapshotCells) → IsSameButCache log (settled log k key snapshot)
+pub settled_same : (log : Log) (k : Known) (key : List ℕ) (snapshot : SnapshotCells) → IsSameButCache log (settled log k key snapshot)
 settled_same log k key snapshot =
     let kept : Log = record log { cache = record log.cache { entries = after_keep log.cache.limit key snapshot log.cache.entries } } in
     either_log (is_local k.info.home) log log (cond (generation_in log k key == snapshot.generation) kept log) (same_log log)

@@ -1,5 +1,6 @@
 pub mod Rising
 pub mod Left
+pub mod Leaving
 pub mod Under
 pub mod Writes
 pub mod Laying

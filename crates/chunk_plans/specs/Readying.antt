@@ -1,7 +1,7 @@
 -- Bytes that are prepared of a chunk.
 use Rattle.std.specs.Prelude.{◌≡◌, ℕ, Bool, true, false, Option, Some, None}
 use Rattle.cells.specs.Dense.{DenseCells}
-use Rattle.chunk_plans.specs.Left.{IsLeft}
+use Rattle.chunk_plans.specs.Left.{IsLeftAs}
 use Rattle.chunk_plans.specs.declared.write.ChunkWrite.{ChunkWrite}
 use Rattle.chunk_plans.specs.declared.write.Ready.{Ready}
 use Rattle.chunk_plans.specs.declared.asked.Asked.{Asked}
@@ -26,11 +26,11 @@ is_told Covered = true
 is_told (Kept s) = true
 is_told Unknown = false
 
--- bytes are prepared exactly where it is known what stands under the words, and are what these leave over it
+-- cells and bytes are prepared exactly where it is known what stands under the words, and are what these leave over it
 abbrev pub IsReadyOf : Asked → Option Ready → Type 0
 IsReadyOf a None = is_told a.under ≡ false
 IsReadyOf a (Some r) =
-    (is_told a.under ≡ true) × (r.generation ≡ generation_under a.under) × (r.resized ≡ a.resized) × IsLeft a.form a.part.chunk.now a.part.staged.now (cells_under a.under) r.bytes
+    (is_told a.under ≡ true) × (r.generation ≡ generation_under a.under) × (r.resized ≡ a.resized) × IsLeftAs a.form a.part.chunk.now a.part.staged.now (cells_under a.under) r.cells r.bytes
 
 -- the words that are staged for the chunk, with such bytes
 pub record IsWriteFor (a : Asked) (w : ChunkWrite) : Type 0 where

@@ -11,18 +11,18 @@ use Rattle.history.specs.Chunks.{Chunk}
 use Rattle.history.specs.Snapshots.{IsSnapshotOf, chunk_box}
 use Rattle.rebase_writes.specs.Staged.{staged_at}
 use Rattle.chunk_laying.specs.Laid.{IsCovered}
-use Rattle.chunk_plans.specs.Left.{IsLeft}
+use Rattle.chunk_plans.specs.Left.{IsLeftAs}
 
 -- what stands under staged words: the chunk as it is, or nothing where every cell in the array's shape is staged
 abbrev pub IsUnder : Contents → History → Known → Chunk → List (Option ℕ) → Option DenseCells → Type 0
 IsUnder start events k c staged None = IsCovered k.shape (chunk_shape k.info) c.index staged
 IsUnder start events k c staged (Some base) = (generation : ℕ) × IsSnapshotOf start events k c generation (word_at base)
 
--- the bytes of a stored chunk with the staged words over the chunk as it is
-pub record IsLeftNow (start : Contents) (events : History) (k : Known) (c : Chunk) (staged : List (Option ℕ)) (bytes : Option (List ℕ)) : Type 0 where
+-- the cells of a stored chunk with the staged words over the chunk as it is, and their bytes
+pub record IsLeftNow (start : Contents) (events : History) (k : Known) (c : Chunk) (staged : List (Option ℕ)) (cells : DenseCells) (bytes : Option (List ℕ)) : Type 0 where
   pub base : Option DenseCells
   pub under : IsUnder start events k c staged base
-  pub left : IsLeft (with_shape (form_of k.info.home) k.shape) c.index staged base bytes
+  pub left : IsLeftAs (with_shape (form_of k.info.home) k.shape) c.index staged base cells bytes
 
 -- cells of a local array: the staged words over those that it has
 pub record IsHeldOver (start : Contents) (events : History) (k : Known) (c : Chunk) (staged : List (Option ℕ)) (cells : DenseCells) : Type 0 where

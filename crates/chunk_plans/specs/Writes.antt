@@ -1,5 +1,7 @@
 -- What is staged for a chunk, and what a commit makes of it.
 use Rattle.std.specs.Prelude.{◌≡◌, ℕ, length, Bool, true, false, ◌&&◌, ◌==◌, Option, Some, None}
+use Rattle.std.specs.Option.{ForSome}
+use Rattle.cells.specs.Dense.{DenseCells}
 use Rattle.cells.specs.Places.{cell_count}
 use Rattle.kv_face.specs.Store.{Contents}
 use Rattle.history.specs.History.{History}
@@ -10,8 +12,8 @@ use Rattle.history.specs.Store.{resized_after}
 use Rattle.rebase_writes.specs.Staged.{AreWords}
 use Rattle.shared_state.specs.Fetches.{generation_in}
 use Rattle.shared_state.specs.Log.{Log}
-use Rattle.shared_state.specs.declared.Left.{Left}
-use Rattle.shared_state.specs.declared.Left.TheVariants.{Stored, Held}
+use Rattle.chunk_plans.specs.declared.plan.Left.{Left}
+use Rattle.chunk_plans.specs.declared.plan.Left.TheVariants.{Stored, Held}
 use Rattle.chunk_plans.specs.declared.write.ChunkWrite.{ChunkWrite}
 use Rattle.chunk_plans.specs.declared.write.Ready.{Ready}
 use Rattle.chunk_plans.specs.Under.{IsLeftNow, IsHeldOver}
@@ -49,15 +51,16 @@ is_usable generation resized (Some ready) = is_by generation resized ready
 abbrev pub may_use : Log → Known → ChunkWrite → Bool
 may_use log k w = is_usable (generation_in log k w.key) (resized_after log.events w.array) w.ready
 
--- what is left of a chunk is the chunk as it is with the staged words over it; the cells of a local array get the number of the event
+-- what is left of a chunk is the chunk as it is with the staged words over it, of which the cells are told where they may be kept; the cells
+-- of a local array get the number of the event
 abbrev pub IsPlanOf : Contents → History → ℕ → Known → ChunkWrite → Left → Type 0
-IsPlanOf start events number k w (Stored bytes) = IsLeftNow start events k (chunk_of_write w) w.staged.now bytes
+IsPlanOf start events number k w (Stored bytes kept) = (cells : DenseCells) × IsLeftNow start events k (chunk_of_write w) w.staged.now cells bytes × ForSome kept (λ d. d ≡ cells)
 IsPlanOf start events number k w (Held a cells) = (cells.generation ≡ number) × IsHeldOver start events k (chunk_of_write w) w.staged.now cells.cells
 
--- prepared bytes that may be used are right
+-- prepared cells and bytes that may be used are right
 abbrev pub IsReadyBy : Contents → History → Known → ChunkWrite → Option Ready → Type 0
 IsReadyBy start events k w None = Unit {0}
-IsReadyBy start events k w (Some ready) = IsLeftNow start events k (chunk_of_write w) w.staged.now ready.bytes
+IsReadyBy start events k w (Some ready) = IsLeftNow start events k (chunk_of_write w) w.staged.now ready.cells ready.bytes
 
 abbrev pub IsReadyWrite : Contents → Log → Known → ChunkWrite → Type 0
 IsReadyWrite start log k w = may_use log k w ≡ true → IsReadyBy start log.events k w w.ready

@@ -7,7 +7,7 @@ ghost use Rattle.chunk_forms.specs.Metadata.{is_local, shape_of, chunk_shape_of,
 ghost use Rattle.history.specs.Resizes.{reaches_into};
 ghost use Rattle.rebase_writes.specs.Staged.{AreWords};
 ghost use Rattle.chunk_laying.specs.Laid.{IsChunkOf, laid_word};
-ghost use Rattle.chunk_plans.specs.Left.{IsLeft};
+ghost use Rattle.chunk_plans.specs.Left.{IsLeftAs};
 
 use cells::{Dense, List};
 use chunk_forms::{Form, encode_form};
@@ -15,8 +15,15 @@ use chunk_laying::lay;
 use rebase_writes::Staged;
 use std::alloc::{AllocError, Global};
 
-/// The bytes of a chunk with the staged words over a base's, or none where every cell has the fill. Without a base the fill stands where no
-/// word is staged; where the staged words cover the chunk, no such cell is in the shape. The form has the array's present shape.
+/// What is left of a stored chunk: its cells, and their bytes, or none where every cell has the fill.
+#[derive(Drop)]
+pub struct LeftOver {
+    pub cells: Dense,
+    pub bytes: Option<List<u8>>,
+}
+
+/// A chunk with the staged words over a base's. Without a base the fill stands where no word is staged; where the staged words cover the
+/// chunk, no such cell is in the shape. The form has the array's present shape.
 ///
 /// # Errors
 /// Want of memory alone.
@@ -26,7 +33,7 @@ pub fn left_over(
     chunk: &[u64],
     staged: &Staged,
     base: Option<&Dense>,
-) -> Result<Option<List<u8>>, AllocError>
+) -> Result<LeftOver, AllocError>
     requires stored { is_local form.now ≡ false }
     requires fill { IsWord (dtype_of form.now) (fill_of form.now) }
     requires chunk { IsChunkOf (shape_of form.now) (chunk_shape_of form.now) chunk.now }
@@ -35,7 +42,8 @@ pub fn left_over(
     requires words { AreWords (dtype_of form.now) staged.now }
     requires base_dtype { ForSome base (λ b. b.now.dtype ≡ dtype_of form.now) }
     requires base_shape { ForSome base (λ b. b.now.shape ≡ chunk_shape_of form.now) }
-    ensures { IfOk result (λ bytes. IsLeft form.now chunk.now staged.now (option_map (λ b. b.now) base.entry) bytes) }
+    ensures { IfOk result (λ l. IsLeftAs form.now chunk.now staged.now
+        (option_map (λ b. b.now) base.entry) l.cells l.bytes) }
 {
     let cells = lay(
         alloc,
@@ -49,5 +57,6 @@ pub fn left_over(
     )?;
     // A look at the cells, by which it is known how many there are.
     let _ = cells.count();
-    encode_form(alloc, form, chunk, form.fill(), &cells)
+    let bytes = encode_form(alloc, form, chunk, form.fill(), &cells)?;
+    Ok(LeftOver { cells, bytes })
 }

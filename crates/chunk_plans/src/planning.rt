@@ -1,6 +1,7 @@
 // The plan of one chunk.
-ghost use Rattle.std.specs.Prelude.{◌≡◌, ◌≢◌, ℕ, List, Option, Some, None, Ok, Err, IfOk, OnOk, OnErr, IsSome, true, false, option_map};
-ghost use Rattle.chunk_forms.specs.Metadata.{with_shape};
+ghost use Rattle.std.specs.Prelude.{◌≡◌, ◌≢◌, ℕ, List, Option, Some, None, Ok, Err, IfOk, OnOk, OnErr, IsSome, IsTrue, true, false, option_map};
+ghost use Rattle.chunk_forms.specs.Metadata.{chunk_shape_of, dtype_of, with_shape};
+ghost use Rattle.chunk_forms.specs.Wants.{same_dtype};
 ghost use Rattle.chunk_forms.specs.declared.form.Damage.{Damage as DamageOf};
 ghost use Rattle.kv_face.specs.Store.{Contents};
 ghost use Rattle.history.specs.Arrays.{Known, known_after, form_of, is_local, chunk_shape};
@@ -11,19 +12,21 @@ ghost use Rattle.shared_state.specs.Fetches.{IsAnswered, IsDamagedThere, generat
 ghost use Rattle.shared_state.specs.Kept.{AreCellsOf};
 ghost use Rattle.shared_state.specs.Looks.{IsFailedLook};
 ghost use Rattle.std.specs.Option.{ForSome};
-ghost use Rattle.shared_state.specs.Left.{IsLeftOf};
-ghost use Rattle.shared_state.specs.declared.Left.TheVariants as left;
+ghost use Rattle.chunk_plans.specs.Leaving.{IsLeftOf, AreCellsIn, AreOfForm, IsLeftReady};
 ghost use Rattle.chunk_plans.specs.Under.{IsLeftNow};
+ghost use Rattle.chunk_plans.specs.declared.plan.Left.TheVariants as left;
 ghost use Rattle.chunk_plans.specs.Writes.{is_base, IsWrite, IsPlanOf, IsReadyWrite, IsSameButCache, chunk_of_write, may_use};
 
 use crate::held::held_over;
-use crate::leaving::left_over;
-use crate::write::ChunkWrite;
+use crate::leaving::{LeftOver, left_over};
+use crate::plan::{Left, Planned};
+use crate::write::{ChunkWrite, Ready};
+use cells::Dense;
 use chunk_cache::Snapshot;
 use chunk_forms::Form;
 use chunk_laying::covers;
 use kv_face::KvStore;
-use shared_state::{FetchError, Left, Planned, State};
+use shared_state::{FetchError, State};
 use std::alloc::{AllocError, Global};
 
 /// What a commit leaves of a chunk: prepared bytes where they may be used as they are, else the staged words over the chunk as it is,
@@ -31,16 +34,17 @@ use std::alloc::{AllocError, Global};
 ///
 /// # Errors
 /// As for `State::fetch`, and only where the chunk had to be read: `StoreFailed`, which one event more tells; `Damaged`; `Memory`.
-pub fn plan_write<K: KvStore>(
+pub fn plan_write<'a, K: KvStore>(
     alloc: Global,
     state: &mut State<K>,
     owner: u32,
     number: u64,
-    write: ChunkWrite<'_>,
-) -> Result<Planned, FetchError>
+    write: ChunkWrite<'a>,
+) -> Result<Planned<'a>, FetchError>
     requires agrees { IsState (K.seen state.old.store) state.old.log }
     requires write { IsWrite state.old.log.events write }
     ensures array { IfOk result (λ p. p.array ≡ write.entry.array) }
+    ensures chunk { IfOk result (λ p. p.chunk.now ≡ write.entry.chunk.now) }
     ensures key { IfOk result (λ p. p.key ≡ write.entry.key) }
     ensures left { IfOk result (λ p. (k : Known) → known_after state.old.log.events write.entry.array ≡ Some k
         → IsLeftOf k (chunk_of_write write.entry) p.left) }
@@ -72,16 +76,17 @@ pub fn plan_write<K: KvStore>(
 }
 
 /// The plan of a local array's cells.
-fn plan_held<K: KvStore>(
+fn plan_held<'a, K: KvStore>(
     alloc: Global,
     state: &mut State<K>,
     number: u64,
-    write: ChunkWrite<'_>,
-) -> Result<Planned, AllocError>
+    write: ChunkWrite<'a>,
+) -> Result<Planned<'a>, AllocError>
     requires agrees { IsState (K.seen state.old.store) state.old.log }
     requires write { IsWrite state.old.log.events write }
     requires local { (k : Known) → known_after state.old.log.events write.array ≡ Some k → is_local k.info.home ≡ true }
     ensures array { IfOk result (λ p. p.array ≡ write.entry.array) }
+    ensures chunk { IfOk result (λ p. p.chunk.now ≡ write.entry.chunk.now) }
     ensures key { IfOk result (λ p. p.key ≡ write.entry.key) }
     ensures left { IfOk result (λ p. (k : Known) → known_after state.old.log.events write.entry.array ≡ Some k
         → IsLeftOf k (chunk_of_write write.entry) p.left) }
@@ -96,27 +101,34 @@ fn plan_held<K: KvStore>(
         unreachable!();
     };
     let cells = held_over(alloc, number, write.staged, &base)?;
-    let ChunkWrite { array, key, .. } = write;
+    let ChunkWrite {
+        array,
+        chunk,
+        key,
+        ..
+    } = write;
     Ok(Planned {
         array,
+        chunk,
         key,
         left: Left::Held { array, cells },
     })
 }
 
 /// The plan of a stored array's chunk.
-fn plan_stored<K: KvStore>(
+fn plan_stored<'a, K: KvStore>(
     alloc: Global,
     state: &mut State<K>,
     owner: u32,
     form: &Form,
-    write: ChunkWrite<'_>,
-) -> Result<Planned, FetchError>
+    write: ChunkWrite<'a>,
+) -> Result<Planned<'a>, FetchError>
     requires agrees { IsState (K.seen state.old.store) state.old.log }
     requires write { IsWrite state.old.log.events write }
     requires form { (k : Known) → known_after state.old.log.events write.array ≡ Some k
         → (is_local k.info.home ≡ false) × (form.now ≡ with_shape (form_of k.info.home) k.shape) }
     ensures array { IfOk result (λ p. p.array ≡ write.entry.array) }
+    ensures chunk { IfOk result (λ p. p.chunk.now ≡ write.entry.chunk.now) }
     ensures key { IfOk result (λ p. p.key ≡ write.entry.key) }
     ensures left { IfOk result (λ p. (k : Known) → known_after state.old.log.events write.entry.array ≡ Some k
         → IsLeftOf k (chunk_of_write write.entry) p.left) }
@@ -140,25 +152,42 @@ fn plan_stored<K: KvStore>(
     ensures kept { KeepsAgreement (K.seen state.old.store) state.old.log (K.seen state.new.store) state.new.log }
 {
     if is_usable(state, &write)? {
-        return Ok(prepared(write));
+        return Ok(prepared(form, write));
     }
-    let bytes = left_now(alloc, state, owner, form, &write)?;
-    Ok(Planned {
+    let over = left_now(alloc, state, owner, form, &write)?;
+    Ok(planned(write, over))
+}
+
+/// What was worked out now as a plan.
+fn planned<'a>(write: ChunkWrite<'a>, over: LeftOver) -> Planned<'a>
+    ensures array { result.array ≡ write.entry.array }
+    ensures chunk { result.chunk.now ≡ write.entry.chunk.now }
+    ensures key { result.key ≡ write.entry.key }
+    ensures left { result.left ≡ left.Stored over.bytes (Some over.cells) }
+{
+    let LeftOver { cells, bytes } = over;
+    Planned {
         array: write.array,
+        chunk: write.chunk,
         key: write.key,
-        left: Left::Stored { bytes },
-    })
+        left: Left::Stored {
+            bytes,
+            cells: Some(cells),
+        },
+    }
 }
 
 /// Prepared bytes as a plan.
-fn prepared(write: ChunkWrite<'_>) -> Planned
+fn prepared<'a>(form: &Form, write: ChunkWrite<'a>) -> Planned<'a>
     requires { IsSome write.ready }
     ensures array { result.array ≡ write.entry.array }
+    ensures chunk { result.chunk.now ≡ write.entry.chunk.now }
     ensures key { result.key ≡ write.entry.key }
-    ensures left { ForSome write.entry.ready (λ r. result.left ≡ left.Stored r.bytes) }
+    ensures left { ForSome write.entry.ready (λ r. IsLeftReady form.now r result.left) }
 {
     let ChunkWrite {
         array,
+        chunk,
         key,
         ready,
         ..
@@ -168,9 +197,46 @@ fn prepared(write: ChunkWrite<'_>) -> Planned
     };
     Planned {
         array,
+        chunk,
         key,
-        left: Left::Stored { bytes: ready.bytes },
+        left: left_of(form, ready),
     }
+}
+
+/// What was prepared, with its cells where they are of the form.
+fn left_of(form: &Form, ready: Ready) -> Left
+    ensures { IsLeftReady form.now ready result }
+{
+    let Ready { bytes, cells, .. } = ready;
+    if !is_of_form(form, &cells) {
+        return Left::Stored { bytes, cells: None };
+    }
+    Left::Stored {
+        bytes,
+        cells: Some(cells),
+    }
+}
+
+/// Whether cells have the dtype and the chunk shape of a form.
+fn is_of_form(form: &Form, cells: &Dense) -> bool
+    ensures { IsTrue result → AreOfForm form.now cells.now }
+{
+    if !has_dtype(form, cells) {
+        return false;
+    }
+    has_shape(form, cells)
+}
+
+fn has_dtype(form: &Form, cells: &Dense) -> bool
+    ensures { result ≡ same_dtype cells.now.dtype (dtype_of form.now) }
+{
+    cells.dtype().name() == form.dtype().name()
+}
+
+fn has_shape(form: &Form, cells: &Dense) -> bool
+    ensures { IsTrue result → cells.now.shape ≡ chunk_shape_of form.now }
+{
+    cells.shape() == form.chunk_shape()
 }
 
 /// Whether this is the generation of the chunk of a write. Where none is given, it is.
@@ -202,22 +268,23 @@ fn is_usable<K: KvStore>(state: &State<K>, write: &ChunkWrite<'_>) -> Result<boo
     Ok(state.bounds(write.array)?.resized == ready.resized)
 }
 
-/// The bytes with the staged words over the chunk as it is, which is read where not every cell in the array's shape is staged.
+/// The staged words over the chunk as it is, which is read where not every cell in the array's shape is staged.
 fn left_now<K: KvStore>(
     alloc: Global,
     state: &mut State<K>,
     owner: u32,
     form: &Form,
     write: &ChunkWrite<'_>,
-) -> Result<Option<cells::List<u8>>, FetchError>
+) -> Result<LeftOver, FetchError>
     requires agrees { IsState (K.seen state.old.store) state.old.log }
     requires write { IsWrite state.old.log.events write.now }
     requires form { (k : Known) → known_after state.old.log.events write.now.array ≡ Some k
         → (is_local k.info.home ≡ false) × (form.now ≡ with_shape (form_of k.info.home) k.shape) }
-    ensures plan { IfOk result (λ bytes. (opening : Opening) (start : Contents) (k : Known)
+    ensures cells { IfOk result (λ l. AreOfForm form.now l.cells) }
+    ensures plan { IfOk result (λ l. (opening : Opening) (start : Contents) (k : Known)
         → Agrees opening (K.seen state.old.store) state.old.log
         → opening.store.contents ≡ Some start → known_after state.old.log.events write.now.array ≡ Some k
-        → IsLeftNow start state.old.log.events k (chunk_of_write write.now) write.now.staged.now bytes) }
+        → IsLeftNow start state.old.log.events k (chunk_of_write write.now) write.now.staged.now l.cells l.bytes) }
     ensures same { OnOk result (IsSameButCache state.old.log state.new.log) }
     ensures read { IsRead (K.seen state.old.store) (K.seen state.new.store) }
     ensures failed { (event : ℕ) → result ≡ Err (FetchError.StoreFailed event)
@@ -245,15 +312,16 @@ fn read_over<K: KvStore>(
     owner: u32,
     form: &Form,
     write: &ChunkWrite<'_>,
-) -> Result<Option<cells::List<u8>>, FetchError>
+) -> Result<LeftOver, FetchError>
     requires agrees { IsState (K.seen state.old.store) state.old.log }
     requires write { IsWrite state.old.log.events write.now }
     requires form { (k : Known) → known_after state.old.log.events write.now.array ≡ Some k
         → (is_local k.info.home ≡ false) × (form.now ≡ with_shape (form_of k.info.home) k.shape) }
-    ensures plan { IfOk result (λ bytes. (opening : Opening) (start : Contents) (k : Known)
+    ensures cells { IfOk result (λ l. AreOfForm form.now l.cells) }
+    ensures plan { IfOk result (λ l. (opening : Opening) (start : Contents) (k : Known)
         → Agrees opening (K.seen state.old.store) state.old.log
         → opening.store.contents ≡ Some start → known_after state.old.log.events write.now.array ≡ Some k
-        → IsLeftNow start state.old.log.events k (chunk_of_write write.now) write.now.staged.now bytes) }
+        → IsLeftNow start state.old.log.events k (chunk_of_write write.now) write.now.staged.now l.cells l.bytes) }
     ensures same { OnOk result (IsSameButCache state.old.log state.new.log) }
     ensures read { IsRead (K.seen state.old.store) (K.seen state.new.store) }
     ensures failed { (event : ℕ) → result ≡ Err (FetchError.StoreFailed event)

@@ -2,12 +2,12 @@
 ghost use Rattle.std.specs.Prelude.{◌≡◌, Option, IfOk, option_map};
 ghost use Rattle.std.specs.Option.{ForSome};
 ghost use Rattle.chunk_forms.specs.Metadata.{chunk_shape_of, dtype_of};
-ghost use Rattle.chunk_plans.specs.Left.{IsLeft};
+ghost use Rattle.chunk_plans.specs.Left.{IsLeftAs};
 ghost use Rattle.chunk_plans.specs.Laying.{MayLay, MayReady};
 ghost use Rattle.chunk_plans.specs.Readying.{IsReadyOf, IsWriteFor, is_told};
 
 use crate::asked::{Asked, Under};
-use crate::leaving::left_over;
+use crate::leaving::{LeftOver, left_over};
 use crate::write::{ChunkWrite, Ready};
 use cells::Dense;
 use std::alloc::{AllocError, Global};
@@ -75,14 +75,16 @@ fn ready_over(
     requires base_shape { ForSome base (λ b. b.now.shape ≡ chunk_shape_of asked.now.form) }
     ensures generation { IfOk result (λ r. r.generation ≡ generation) }
     ensures resized { IfOk result (λ r. r.resized ≡ asked.now.resized) }
-    ensures left { IfOk result (λ r. IsLeft asked.now.form asked.now.part.chunk.now asked.now.part.staged.now
-        (option_map (λ b. b.now) base.entry) r.bytes) }
+    ensures left { IfOk result (λ r. IsLeftAs asked.now.form asked.now.part.chunk.now asked.now.part.staged.now
+        (option_map (λ b. b.now) base.entry) r.cells r.bytes) }
 {
     let part = asked.part;
-    let bytes = left_over(alloc, &asked.form, part.chunk, part.staged, base)?;
+    let left = left_over(alloc, &asked.form, part.chunk, part.staged, base)?;
+    let LeftOver { cells, bytes } = left;
     Ok(Ready {
         generation,
         resized: asked.resized,
         bytes,
+        cells,
     })
 }

@@ -1,4 +1,4 @@
-use cells::{List, Name};
+use cells::{Dense, List, Name};
 use rebase_writes::Staged;
 
 /// Bytes of a chunk that were prepared before its commit.
@@ -10,6 +10,8 @@ pub struct Ready {
     pub resized: u64,
     /// The bytes, or none where every cell has the fill.
     pub bytes: Option<List<u8>>,
+    /// The chunk's cells, of which these are the bytes.
+    pub cells: Dense,
 }
 
 /// What a transaction has staged for a chunk. The transaction keeps it, so that it can be committed again where the store failed.

@@ -11,15 +11,14 @@ ghost use Rattle.state_laws.specs.Fetches.{IsChunkOf};
 ghost use Rattle.state_cases.specs.Ready.{IsReady};
 
 use case_lines::{Fault, bytes, items, member, number_or, told_line, word_of};
-use cells::{Dtype, List, MOST_CHUNK_CELLS, count_cells};
+use cells::{Dense, Dtype, List, MOST_CHUNK_CELLS, count_cells};
 use chunk_forms::Form;
 use chunk_laying::{is_chunk_of, is_gone};
-use chunk_plans::{ChunkWrite, Ready, plan_write};
+use chunk_plans::{ChunkWrite, Left, Ready, plan_write};
 use kv_face::KvStore;
 use rebase_writes::Staged;
 use serde_json::Value;
 use shared_state::State;
-use state_laws::Left;
 use std::alloc::Global;
 
 pub(crate) fn plan<K: KvStore>(
@@ -116,8 +115,11 @@ fn plan_staged<K: KvStore>(
 
 fn told_left(alloc: Global, left: &Left) -> Result<String, Fault> {
     match left {
-        Left::Stored { bytes: Some(bytes) } => told_line(alloc, &bytes.items()),
-        Left::Stored { bytes: None } => told_line(alloc, &"fill"),
+        Left::Stored {
+            bytes: Some(bytes),
+            ..
+        } => told_line(alloc, &bytes.items()),
+        Left::Stored { bytes: None, .. } => told_line(alloc, &"fill"),
         Left::Held { .. } => told_line(alloc, &"held"),
     }
 }
@@ -178,10 +180,13 @@ fn ready_of(alloc: Global, v: &Value) -> Result<Option<Ready>, Fault> {
         None => None,
     };
     let bytes = bytes_of(alloc, ready)?;
+    // No chunk of an array has these cells, so that they aren't left.
+    let cells = Dense::filled(alloc, Dtype::U8, &[1], 0)?;
     Ok(Some(Ready {
         generation,
         resized,
         bytes,
+        cells,
     }))
 }
 

@@ -1,7 +1,7 @@
 use Rattle.std.proofs.Common.{◌∙◌, sym, subst}
 use Rattle.std.specs.Prelude.{option_map}
 use Rattle.rebase_writes.specs.Staged.{AreWords}
-use Rattle.chunk_plans.proofs.LeftLaws.{laid_of, may_write, is_left}
+use Rattle.chunk_plans.proofs.LeftLaws.{laid_of, may_write, is_left_as}
 use Rattle.chunk_plans.proofs.leaving.left_over.Goals as goal
 
 pub lay-requires-clause-words : goal.lay-requires-clause-words
@@ -14,6 +14,6 @@ encode_form-requires-clause-may c =
 
 pub returns : goal.returns
 returns c =
-    is_left c.args.form.now c.args.chunk.now c.args.staged.now (option_map (λ b. b.now) c.args.base) c.in_ok-cells.cells c.fill-2.result c.encode_form.result
+    is_left_as c.args.form.now c.args.chunk.now c.args.staged.now (option_map (λ b. b.now) c.args.base) c.in_ok-cells.cells c.fill-2.result c.in_ok-bytes.bytes
     (laid_of c.args.form.now c.args.chunk.now c.args.staged.now (option_map (λ b. b.now) c.args.base) c.in_ok-cells.cells c.shape.result.now c.chunk_shape.result.now c.fill.result c.shape.ensures c.chunk_shape.ensures.value c.fill.ensures c.in_ok-cells.ensures.words)
-    (c.in_ok-cells.ensures.shape ∙ c.chunk_shape.ensures.value) c.fill-2.ensures c.count.ensures.well_formed.full c.encode_form.ensures.absent c.encode_form.ensures.written
+    (c.in_ok-cells.ensures.dtype ∙ c.dtype.ensures) (c.in_ok-cells.ensures.shape ∙ c.chunk_shape.ensures.value) c.fill-2.ensures c.count.ensures.well_formed.full c.in_ok-bytes.ensures.absent c.in_ok-bytes.ensures.written

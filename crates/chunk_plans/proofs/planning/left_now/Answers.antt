@@ -19,3 +19,6 @@ left_over-requires-clause-chunk g c =
 
 pub left_over-requires-clause-words : goal.left_over-requires-clause-words
 left_over-requires-clause-words g c = (may_lay_by c.args.write.now c.args.form.now c.requires.agrees c.requires.write c.requires.form).words
+
+pub returns-then-covers-clause-cells : goal.returns-then-covers-clause-cells
+returns-then-covers-clause-cells g c = record { dtype = c.in_ok-left_over.ensures.dtype; shape = c.in_ok-left_over.ensures.shape }

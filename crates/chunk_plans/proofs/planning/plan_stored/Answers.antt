@@ -1,4 +1,5 @@
 use Rattle.std.proofs.Common.{◌≡◌, Err, sym, ◌∙◌, ap}
+use Rattle.chunk_plans.proofs.LeavingLaws.{now_left, now_plan, ready_left, ready_plan}
 use Rattle.chunk_plans.proofs.Same.{err_and}
 use Rattle.chunk_plans.proofs.Usable.{usable_some}
 use Rattle.shared_state.specs.declared.FetchError.TheVariants as fetch
@@ -7,10 +8,25 @@ use Rattle.chunk_plans.proofs.planning.plan_stored.Goals as goal
 pub prepared-requires : goal.prepared-requires
 prepared-requires g c = usable_some _ _ c.args.write.ready (sym (c.in_ok-is_usable.ensures c.requires.write.0 c.requires.write.1.known) ∙ c.if-branch.true)
 
-pub returns-clause-plan : goal.returns-clause-plan
-returns-clause-plan g c opening start k number agrees told known ready = c.in_ok-bytes.ensures.plan opening start k agrees told known
+pub returns-then-branch-clause-left : goal.returns-then-branch-clause-left
+returns-then-branch-clause-left g c k known =
+    let some = usable_some _ _ c.args.write.ready (sym (c.in_ok-is_usable.ensures c.requires.write.0 c.requires.write.1.known) ∙ c.if-branch.true) in
+    ready_left c.args.write k c.args.form.now c.requires.agrees known (c.requires.form k known) c.prepared.result.left some c.prepared.ensures.left
 
-pub returns-in_err-bytes-clause-damaged : goal.returns-in_err-bytes-clause-damaged
-returns-in_err-bytes-clause-damaged g c name cause e =
-    let told = err_and _ c.from_residual-in_err-bytes.result (fetch.Damaged name cause) e c.from_residual-in_err-bytes.ensures.1 in
-    let is : c.left_now.result ≡ Err (fetch.Damaged name cause) = c.in_err-bytes.was ∙ ap Err (sym told) in c.left_now.ensures.damaged name cause is
+pub returns-then-branch-clause-plan : goal.returns-then-branch-clause-plan
+returns-then-branch-clause-plan g c opening start k number agrees told known ready =
+    let some = usable_some _ _ c.args.write.ready (sym (c.in_ok-is_usable.ensures c.requires.write.0 c.requires.write.1.known) ∙ c.if-branch.true) in
+    ready_plan start c.args.state.now.log number k c.args.write c.args.form.now c.prepared.result.left some c.prepared.ensures.left (sym (c.in_ok-is_usable.ensures k known) ∙ c.if-branch.true) ready
+
+pub returns-clause-left : goal.returns-clause-left
+returns-clause-left g c k known =
+    now_left c.args.write k c.args.form.now c.requires.agrees known (c.requires.form k known) c.planned.result.left c.in_ok-over.over.cells c.in_ok-over.over.bytes c.planned.ensures.left c.in_ok-over.ensures.cells
+
+pub returns-clause-plan : goal.returns-clause-plan
+returns-clause-plan g c opening start k number agrees told known ready =
+    now_plan start c.args.state.now.log.events number k c.args.write c.planned.result.left c.in_ok-over.over.cells c.in_ok-over.over.bytes c.planned.ensures.left (c.in_ok-over.ensures.plan opening start k agrees told known)
+
+pub returns-in_err-over-clause-damaged : goal.returns-in_err-over-clause-damaged
+returns-in_err-over-clause-damaged g c name cause e =
+    let told = err_and _ c.from_residual-in_err-over.result (fetch.Damaged name cause) e c.from_residual-in_err-over.ensures.1 in
+    let is : c.left_now.result ≡ Err (fetch.Damaged name cause) = c.in_err-over.was ∙ ap Err (sym told) in c.left_now.ensures.damaged name cause is
