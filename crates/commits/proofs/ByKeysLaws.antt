@@ -13,7 +13,7 @@ use Rattle.history.proofs.Laws.{done_each_legal}
 use Rattle.state_laws.specs.Agreement.{Opening, Agrees}
 use Rattle.state_laws.specs.Log.{Log}
 use Rattle.state_laws.specs.Seen.{StoreSeen}
-use Rattle.state_laws.specs.declared.plan.Planned.{Planned}
+use Rattle.chunk_plans.specs.declared.plan.Planned.{Planned}
 use Rattle.commits.specs.Plans.{keys_of}
 use Rattle.chunk_plans.specs.declared.write.ChunkWrite.{ChunkWrite}
 use Rattle.chunk_plans.specs.Writes.{IsReadyWrite, chunk_of_write}
@@ -46,6 +46,7 @@ key_plans_by store log ops number (w ∷ ws) (p ∷ ps) each are = (
     known = each.0.1.known;
     valid = each.0.1.valid;
     of_array = sym are.0.array;
+    of_index = sym are.0.chunk;
     named = each.0.1.named ∙ sym are.0.key;
     left = are.0.left each.0.0 each.0.1.known;
   },

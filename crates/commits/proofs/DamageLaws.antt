@@ -27,10 +27,10 @@ use Rattle.chunk_plans.specs.Laid as laid
 use Rattle.state_laws.specs.Agreement.{Opening, Agrees}
 use Rattle.state_laws.specs.Log.{Log}
 use Rattle.state_laws.specs.Seen.{StoreSeen}
-use Rattle.state_laws.specs.declared.plan.Left.{Left}
-use Rattle.state_laws.specs.declared.plan.Left.TheVariants.{Stored, Held}
-use Rattle.state_laws.specs.declared.plan.Planned.{Planned}
-use Rattle.state_laws.specs.Left.{IsLeftOf}
+use Rattle.chunk_plans.specs.declared.plan.Left.{Left}
+use Rattle.chunk_plans.specs.declared.plan.Left.TheVariants.{Stored, Held}
+use Rattle.chunk_plans.specs.declared.plan.Planned.{Planned}
+use Rattle.chunk_plans.specs.Leaving.{IsLeftOf}
 use Rattle.chunk_plans.specs.declared.write.ChunkWrite.{ChunkWrite}
 use Rattle.chunk_plans.specs.Under.{IsUnder}
 use Rattle.chunk_plans.specs.Writes.{IsPlanOf, IsReadyWrite, chunk_of_write}
@@ -110,7 +110,7 @@ module _ (start : Contents) (events : History) (t : Transaction) (legal : IsLega
   -- a chunk that is planned isn't both damaged and written in part
   planned_sound : (w : ChunkWrite) (k : Known) (number : ℕ) (left : Left) (key : Key) (cause : Damage) → known_after events w.array ≡ Some k → IsLeftOf k (chunk_of_write w) left → IsPlanOf start events number k w left → IsDamaged start events (chunk_of_write w) key cause
       → ¬ (laid.IsCovered k.shape (chunk_shape k.info) w.chunk.now w.staged.now) → ⊥
-  planned_sound w k number (Stored bytes) key cause known is plan damaged partly = by plan.base plan.under
+  planned_sound w k number (Stored bytes kept) key cause known is plan damaged partly = by plan.1.base plan.1.under
     where
       by : (base : Option DenseCells) → IsUnder start events k (chunk_of_write w) w.staged.now base → ⊥
       by None covered = partly covered

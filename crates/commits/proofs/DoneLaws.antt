@@ -17,7 +17,7 @@ use Rattle.state_laws.specs.declared.deed.ChangeError.TheVariants as change
 use Rattle.state_laws.specs.Agreement.{Opening, Agrees}
 use Rattle.state_laws.specs.Log.{Log}
 use Rattle.state_laws.specs.Seen.{StoreSeen}
-use Rattle.state_laws.specs.declared.plan.Planned.{Planned}
+use Rattle.chunk_plans.specs.declared.plan.Planned.{Planned}
 use Rattle.commits.specs.Plans.{keys_of}
 use Rattle.commits.specs.declared.refused.CommitRefused.{CommitRefused}
 use Rattle.commits.specs.declared.refused.CommitRefused.TheVariants as refused

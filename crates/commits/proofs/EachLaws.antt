@@ -27,14 +27,14 @@ use Rattle.history.proofs.Laws.{IsLegal-front, generation_untouched, known_after
 use Rattle.state_laws.specs.Log.{Log}
 use Rattle.state_laws.specs.Outline.{outline}
 use Rattle.state_laws.proofs.Laws.{known-outline}
-use Rattle.state_laws.specs.declared.plan.Left.{Left}
-use Rattle.state_laws.specs.declared.plan.Left.TheVariants.{Stored, Held}
-use Rattle.state_laws.specs.declared.plan.Planned.{Planned}
+use Rattle.chunk_plans.specs.declared.plan.Left.{Left}
+use Rattle.chunk_plans.specs.declared.plan.Left.TheVariants.{Stored, Held}
+use Rattle.chunk_plans.specs.declared.plan.Planned.{Planned}
 use Rattle.commits.specs.Plans.{IsRightLeft, keys_of, change_of, changes_of}
-use Rattle.state_laws.specs.Left.{IsLeftOf}
+use Rattle.chunk_plans.specs.Leaving.{IsLeftOf}
 use Rattle.chunk_plans.specs.declared.write.ChunkWrite.{ChunkWrite}
 use Rattle.chunk_plans.specs.Writes.{IsPlanOf, chunk_of_write}
-use Rattle.chunk_plans.proofs.Laws.{held_longer, held_snapshot, kept_of_left, left_longer}
+use Rattle.chunk_plans.proofs.Laws.{held_longer, held_snapshot, left_longer, right_of_left}
 use Rattle.commits.specs.Keyed.{AreRightKeys, AreRightPlans, IsKeyPlan, IsRightKey, each_event, key_event}
 use Rattle.commits.specs.Prepared.{IsStagedFor, IsStagedWrite}
 use Rattle.commits.proofs.LocalKeys.{local_key, stored_key}
@@ -97,7 +97,7 @@ module _ (events : History) (e : Event) (same : (a : ℕ) → known_after (event
   }
 
   key_plan_longer : (p : Planned) → IsKeyPlan events p → IsKeyPlan (events ++ e ∷ []) p
-  key_plan_longer p is = record { chunk = is.chunk; array = is.array; known = same is.chunk.array ∙ is.known; valid = is.valid; of_array = is.of_array; named = is.named; left = is.left }
+  key_plan_longer p is = record { chunk = is.chunk; array = is.array; known = same is.chunk.array ∙ is.known; valid = is.valid; of_array = is.of_array; of_index = is.of_index; named = is.named; left = is.left }
 
   pub key_plans_longer : (ps : List Planned) → AllByRecursion (IsKeyPlan events) ps → AllByRecursion (IsKeyPlan (events ++ e ∷ [])) ps
   key_plans_longer [] each = tt
@@ -111,9 +111,9 @@ module _ (start : Contents) (owner line : ℕ) (mode : Mode) where
   -- a right plan is right behind the event of its key
   head_right : (log : Log) (ops : List Op) (w : ChunkWrite) (k : Known) (key : Key) (left : Left) → IsLegal start log.events → IsStagedFor log.events ops w k → key ≡ w.key → IsLeftOf k (chunk_of_write w) left
       → IsPlanOf start log.events (length log.events + 1) k w left → IsRightLeft start log (key_event owner line mode ops key) k (chunk_of_write w) left
-  head_right log ops w k key (Stored bytes) legal is named stored plan =
-      kept_of_left start log.events owner (new_transaction line mode) ops (Some key) k (chunk_of_write w) w.staged.now is.known is.valid (touches_own owner line mode ops log.events (chunk_of_write w) k key is.known (is.named ∙ sym named))
-      (staged_by log.events ops w k is) stored (known_good start w.array log.events legal k is.known).kept bytes plan
+  head_right log ops w k key (Stored bytes kept) legal is named stored plan =
+      right_of_left start log.events owner (new_transaction line mode) ops (Some key) k (chunk_of_write w) w.staged.now is.known is.valid (touches_own owner line mode ops log.events (chunk_of_write w) k key is.known (is.named ∙ sym named))
+      (staged_by log.events ops w k is) stored.0 (known_good start w.array log.events legal k is.known).kept bytes kept plan
   head_right log ops w k key (Held a cells) legal is named local plan =
       subst (λ n. IsRightLeft start log (key_event owner line mode ops key) k (chunk_of_write w) (Held a (record cells { generation = n }))) (sym plan.0)
       (held_snapshot start log.events owner (new_transaction line mode) ops (Some key) k (chunk_of_write w) w.staged.now is.known is.valid (touches_own owner line mode ops log.events (chunk_of_write w) k key is.known (is.named ∙ sym named))
@@ -156,9 +156,12 @@ module _ (start : Contents) (owner line : ℕ) (mode : Mode) where
     later = events ++ key_event owner line mode ops key ∷ []
 
     plan_longer : (w : ChunkWrite) (k : Known) (number : ℕ) (left : Left) → known_after events w.array ≡ Some k → chunk_key k w.chunk.now ≡ w.key → bytes_eq key w.key ≡ false → IsPlanOf start events number k w left → IsPlanOf start later number k w left
-    plan_longer w k number (Stored bytes) known named apart plan =
-        left_longer start events (key_event owner line mode ops key ∷ []) k (chunk_of_write w) w.staged.now legal (key_known owner line mode ops key events w.array ∙ known)
-        (generation_untouched events (key_event owner line mode ops key) (chunk_of_write w) (touches_other owner line mode ops events (chunk_of_write w) k key w.key known named apart)) bytes plan
+    plan_longer w k number (Stored bytes kept) known named apart plan = (
+      plan.0,
+      left_longer start events (key_event owner line mode ops key ∷ []) k (chunk_of_write w) w.staged.now legal (key_known owner line mode ops key events w.array ∙ known)
+          (generation_untouched events (key_event owner line mode ops key) (chunk_of_write w) (touches_other owner line mode ops events (chunk_of_write w) k key w.key known named apart)) plan.0 bytes plan.1,
+      plan.2,
+    )
     plan_longer w k number (Held a cells) known named apart plan = (
       plan.0,
       held_longer start events (key_event owner line mode ops key ∷ []) k (chunk_of_write w) w.staged.now legal (key_known owner line mode ops key events w.array ∙ known)
@@ -198,7 +201,7 @@ module _ (start : Contents) (owner line : ℕ) (mode : Mode) where
   key_counted events ops p legal is = by p.left is.left
     where
       by : (left : Left) → IsLeftOf is.array is.chunk left → not (is_local_key events p.key) ≡ nat_lt 0 (length (change_of left p.key []))
-      by (Stored bytes) stored = ap (λ key. not (is_local_key events key)) (sym is.named) ∙ ap not (stored_key start events legal is.chunk.array is.array is.chunk.index is.known stored)
+      by (Stored bytes kept) stored = ap (λ key. not (is_local_key events key)) (sym is.named) ∙ ap not (stored_key start events legal is.chunk.array is.array is.chunk.index is.known stored.0)
       by (Held a cells) local = ap (λ key. not (is_local_key events key)) (sym is.named) ∙ ap not (local_key start events legal is.chunk.array is.array is.chunk.index is.known local.0)
 
 -- in a state two chunks with one key are one, whatever the store told

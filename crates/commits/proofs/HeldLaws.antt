@@ -27,11 +27,11 @@ use Rattle.history.specs.declared.event.Kind.TheVariants.{Done}
 use Rattle.state_laws.specs.Changing.{AreTouched, IsDeed, IsRightBy, IsHeldAnew, IsHeldStill, committed, with_cells}
 use Rattle.state_laws.specs.Kept.{AreCellsOf, IsCurrent}
 use Rattle.state_laws.specs.Log.{Log, cells_held}
-use Rattle.state_laws.specs.declared.plan.Left.{Left}
-use Rattle.state_laws.specs.declared.plan.Left.TheVariants.{Stored, Held}
-use Rattle.state_laws.specs.declared.plan.Planned.{Planned}
+use Rattle.chunk_plans.specs.declared.plan.Left.{Left}
+use Rattle.chunk_plans.specs.declared.plan.Left.TheVariants.{Stored, Held}
+use Rattle.chunk_plans.specs.declared.plan.Planned.{Planned}
 use Rattle.commits.specs.Plans.{IsPlanned, IsRightLeft, IsRightPlan, HasPlan, keys_of, ArePlans, held_of, cells_of, changes_of}
-use Rattle.state_laws.specs.Left.{IsLeftOf}
+use Rattle.chunk_plans.specs.Leaving.{IsLeftOf}
 use Rattle.commits.proofs.PlanLaws.{plans_touched, plans_changes}
 
 -- the one index of a local array's chunk
@@ -98,11 +98,11 @@ length_set (y ∷ xs) (suc n) x = ap suc (length_set xs n x)
 
 -- what is left isn't of the array
 abbrev IsOther : ℕ → Left → Type 0
-IsOther a (Stored bytes) = Unit {0}
+IsOther a (Stored bytes kept) = Unit {0}
 IsOther a (Held b cells) = b ≢ a
 
 other_leaves : (a : ℕ) (left : Left) (rest : List HeldCells) (locals : List (Option SnapshotCells)) → IsOther a left → ((ls : List (Option SnapshotCells)) → slice_get (with_cells ls rest) a ≡ slice_get ls a) → slice_get (with_cells locals (held_of left rest)) a ≡ slice_get locals a
-other_leaves a (Stored bytes) rest locals other before = before locals
+other_leaves a (Stored bytes kept) rest locals other before = before locals
 other_leaves a (Held b cells) rest locals other before = before (set locals b (Some cells)) ∙ get_set_other locals b a (Some cells) other
 
 -- plans of other arrays leave its cells
@@ -117,15 +117,15 @@ held_here a left cells rest locals is lt before =
 
 -- the cells that the run holds behind what is left of one chunk
 abbrev after_left : Left → List (Option SnapshotCells) → List (Option SnapshotCells)
-after_left (Stored bytes) locals = locals
+after_left (Stored bytes kept) locals = locals
 after_left (Held b cells) locals = set locals b (Some cells)
 
 step_left : (left : Left) (rest : List HeldCells) (locals : List (Option SnapshotCells)) → with_cells locals (held_of left rest) ≡ with_cells (after_left left locals) rest
-step_left (Stored bytes) rest locals = refl
+step_left (Stored bytes kept) rest locals = refl
 step_left (Held b cells) rest locals = refl
 
 length_after : (left : Left) (locals : List (Option SnapshotCells)) → length (after_left left locals) ≡ length locals
-length_after (Stored bytes) locals = refl
+length_after (Stored bytes kept) locals = refl
 length_after (Held b cells) locals = length_set locals b (Some cells)
 
 -- the plan of a local array's chunk, of which R holds if it does of all, and its cells
@@ -160,7 +160,7 @@ module _ (R : Planned → Type 0) (log : Log) (e : Event) (a : ℕ) (k : Known) 
       (array, sym is.named ∙ ap (λ (l : Known). chunk_key l is.chunk.index) array ∙ ap (chunk_key k) (only_origin k is.chunk.index local valid))
 
   other_by : (key : List ℕ) (q : Planned) (is : IsPlanned log e q) (left : Left) → q.left ≡ left → key ≡ chunk_key k (origin (chunk_shape k.info)) → bytes_eq key q.key ≡ false → IsOther a left
-  other_by key q is (Stored bytes) left at apart = tt
+  other_by key q is (Stored bytes kept) left at apart = tt
   other_by key q is (Held c cells) left at apart =
       λ same.
       let of_chunk : IsLeftOf is.array is.chunk (Held c cells) = subst (IsLeftOf is.array is.chunk) left is.left in
@@ -194,8 +194,8 @@ module _ (R : Planned → Type 0) (log : Log) (e : Event) (a : ℕ) (k : Known) 
 
   find_by : (p : Planned) (ps : List Planned) (locals : List (Option SnapshotCells)) (left : Left) → p.left ≡ left → IsPlanned log e p → AllByRecursion (IsPlanned log e) ps → IsDistinct bytes_eq (keys_of (p ∷ ps)) → a < length locals
       → (HoldsPlan R log e a k ps (after_left p.left locals) ⊎ AllByRecursion (λ q. IsOther a q.left) ps) → HoldsPlan R log e a k (p ∷ ps) locals ⊎ AllByRecursion (λ q. IsOther a q.left) (p ∷ ps)
-  find_by p ps locals (Stored bytes) left is all distinct lt (inl there) = inl (extend p ps locals there)
-  find_by p ps locals (Stored bytes) left is all distinct lt (inr none) = inr (subst (IsOther a) (sym left) tt, none)
+  find_by p ps locals (Stored bytes kept) left is all distinct lt (inl there) = inl (extend p ps locals there)
+  find_by p ps locals (Stored bytes kept) left is all distinct lt (inr none) = inr (subst (IsOther a) (sym left) tt, none)
   find_by p ps locals (Held b cells) left is all distinct lt (inl there) = inl (extend p ps locals there)
   find_by p ps locals (Held b cells) left is all distinct lt (inr none) = elim (equal_or_not b a) [
     | inl same ↦ inl (first p ps locals b cells left same is all distinct lt)
@@ -217,10 +217,10 @@ held_place (l ∷ locals) (suc a) snapshot is = let low = held_place locals a sn
 
 other_left : (log : Log) (e : Event) (a : ℕ) (index : List ℕ) (p : Planned) (k : Known) (left : Left) → p.left ≡ left → known_after log.events a ≡ Some k → is_local k.info.home ≡ true → IsOther a left → (is : IsPlanned log e p)
     → is.chunk ≡ record { array = a; index = index } → ⊥
-other_left log e a index p k (Stored bytes) left known local other is chunk =
-    let stored : IsLeftOf is.array is.chunk (Stored bytes) = subst (IsLeftOf is.array is.chunk) left is.left in
+other_left log e a index p k (Stored bytes kept) left known local other is chunk =
+    let stored : IsLeftOf is.array is.chunk (Stored bytes kept) = subst (IsLeftOf is.array is.chunk) left is.left in
     let array = some_inj is.array k (sym is.known ∙ ap (λ (d : Chunk). known_after log.events d.array) chunk ∙ known) in
-    let clash : true ≡ false = sym local ∙ ap (λ (l : Known). is_local l.info.home) (sym array) ∙ stored in
+    let clash : true ≡ false = sym local ∙ ap (λ (l : Known). is_local l.info.home) (sym array) ∙ stored.0 in
     cc
 other_left log e a index p k (Held b cells) left known local other is chunk =
     let of_chunk : IsLeftOf is.array is.chunk (Held b cells) = subst (IsLeftOf is.array is.chunk) left is.left in
@@ -236,7 +236,7 @@ other_planned log e a index k (p ∷ ps) known local all (inr more) = other_plan
 -- cells are those of arrays of the history
 known_left : (log : Log) (e : Event) (p : Planned) (left : Left) (rest : List HeldCells) → p.left ≡ left → IsPlanned log e p → AllByRecursion (λ (h : HeldCells). IsSome (known_after log.events h.array)) rest
     → AllByRecursion (λ (h : HeldCells). IsSome (known_after log.events h.array)) (held_of left rest)
-known_left log e p (Stored bytes) rest left is known = known
+known_left log e p (Stored bytes kept) rest left is known = known
 known_left log e p (Held a cells) rest left is known =
     let of_chunk : IsLeftOf is.array is.chunk (Held a cells) = subst (IsLeftOf is.array is.chunk) left is.left in
     (subst (λ n. IsSome (known_after log.events n)) (sym of_chunk.1) (subst IsSome (sym is.known) refl), known)

@@ -16,7 +16,7 @@ use Rattle.state_laws.specs.Changing.{AreMade}
 use Rattle.state_laws.specs.Log.{Log}
 use Rattle.state_laws.specs.Seen.{IsRead, StoreSeen}
 use Rattle.state_laws.proofs.Laws.{together-keys}
-use Rattle.state_laws.specs.declared.plan.Planned.{Planned}
+use Rattle.chunk_plans.specs.declared.plan.Planned.{Planned}
 use Rattle.commits.specs.Plans.{ArePlans, AreRightBy, changes_of}
 use Rattle.chunk_plans.specs.declared.write.ChunkWrite.{ChunkWrite}
 use Rattle.commits.specs.Keyed.{plan_arrays}

@@ -14,6 +14,7 @@ pub mod Conflicts
 pub mod ShrunkLaws
 pub mod DamageLaws
 pub mod PlanningLaws
+pub mod KeepLaws
 pub mod MadeLaws
 pub mod LocalKeys
 pub mod EachLaws

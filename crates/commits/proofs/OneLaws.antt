@@ -19,11 +19,11 @@ use Rattle.state_laws.specs.Changing.{AreMade}
 use Rattle.state_laws.specs.Log.{Log}
 use Rattle.state_laws.specs.Seen.{StoreSeen}
 use Rattle.state_laws.proofs.Laws.{takes_chunk}
-use Rattle.state_laws.specs.declared.plan.Left.{Left}
-use Rattle.state_laws.specs.declared.plan.Left.TheVariants.{Stored, Held}
-use Rattle.state_laws.specs.declared.plan.Planned.{Planned}
+use Rattle.chunk_plans.specs.declared.plan.Left.{Left}
+use Rattle.chunk_plans.specs.declared.plan.Left.TheVariants.{Stored, Held}
+use Rattle.chunk_plans.specs.declared.plan.Planned.{Planned}
 use Rattle.commits.specs.Plans.{ArePlans, AreRightBy, IsPlanned, change_of, changes_of}
-use Rattle.state_laws.specs.Left.{IsLeftOf}
+use Rattle.chunk_plans.specs.Leaving.{IsLeftOf}
 use Rattle.commits.specs.Keyed.{IsKeyPlan, IsRightKey, key_event}
 use Rattle.commits.proofs.EachLaws.{key_counted, one_key_in, touches_key, touches_own}
 
@@ -51,7 +51,7 @@ module _ (store : StoreSeen) (log : Log) (e : Event) (state : IsState store log)
 
   taken_by : (p : Planned) (is : IsPlanned log e p) (left : Left) → IsLeftOf is.array is.chunk left → (rest : List Change) → AllByRecursion (λ (c : Change). takes store.names c.key ≡ true) rest
       → AllByRecursion (λ (c : Change). takes store.names c.key ≡ true) (change_of left p.key rest)
-  taken_by p is (Stored bytes) stored rest all = (key_taken p is stored, all)
+  taken_by p is (Stored bytes kept) stored rest all = (key_taken p is stored.0, all)
   taken_by p is (Held a cells) local rest all = all
 
   taken_each : (ps : List Planned) → AllByRecursion (IsPlanned log e) ps → AllByRecursion (λ (c : Change). takes store.names c.key ≡ true) (changes_of ps)
@@ -71,6 +71,7 @@ module _ (store : StoreSeen) (log : Log) (owner line : ℕ) (mode : Mode) (ops :
     valid = is.valid;
     touched = touches_own owner line mode ops log.events is.chunk is.array p.key is.known is.named;
     of_array = is.of_array;
+    of_index = is.of_index;
     named = is.named;
     left = is.left;
   }
@@ -90,11 +91,11 @@ module _ (store : StoreSeen) (log : Log) (owner line : ℕ) (mode : Mode) (ops :
 
   distinct_one : (left : Left) → IsDistinct bytes_eq (keys_changed (change_of left p.key []))
   unfolding IsDistinct
-  distinct_one (Stored bytes) = (tt, tt)
+  distinct_one (Stored bytes kept) = (tt, tt)
   distinct_one (Held a cells) = tt
 
   together_one : (left : Left) → are_together store.prefixes (change_of left p.key []) 0 ≡ true
-  together_one (Stored bytes) = refl
+  together_one (Stored bytes kept) = refl
   together_one (Held a cells) = refl
 
   -- and its change may be made
@@ -112,7 +113,7 @@ one_right start log owner line mode ops p legal is right = record {
   each = (
     λ planned.
         right.right
-        (record { chunk = planned.chunk; array = planned.array; known = planned.known; valid = planned.valid; of_array = planned.of_array; named = planned.named; left = planned.left }),
+        (record { chunk = planned.chunk; array = planned.array; known = planned.known; valid = planned.valid; of_array = planned.of_array; of_index = planned.of_index; named = planned.named; left = planned.left }),
     tt,
   );
   counted = key_counted start owner line mode log.events ops p legal is;

@@ -3,6 +3,7 @@ use Rattle.std.proofs.Common.{◌≡◌, ℕ, ◌+◌, ◌⊎◌, inl, inr, List
 use Rattle.std.specs.List.{AllByRecursion, IsDistinct}
 use Rattle.std.specs.Str.{bytes_eq}
 use Rattle.std.proofs.lemmas.Map.Keys.{IsDistinct-head, IsDistinct-tail}
+use Rattle.cells.specs.Dense.{DenseCells}
 use Rattle.kv_face.specs.Store.{Contents, keys_of as keys_changed}
 use Rattle.kv_face.specs.declared.change.Change.{Change}
 use Rattle.history.specs.declared.event.Event.{Event}
@@ -18,11 +19,11 @@ use Rattle.state_laws.specs.declared.commit.Commit.{Commit}
 use Rattle.state_laws.specs.Recorded.{done_event}
 use Rattle.state_laws.specs.Changing.{IsOneOf, AreTouched}
 use Rattle.state_laws.specs.Log.{Log}
-use Rattle.state_laws.specs.declared.plan.Left.{Left}
-use Rattle.state_laws.specs.declared.plan.Left.TheVariants.{Stored, Held}
-use Rattle.state_laws.specs.declared.plan.Planned.{Planned}
+use Rattle.chunk_plans.specs.declared.plan.Left.{Left}
+use Rattle.chunk_plans.specs.declared.plan.Left.TheVariants.{Stored, Held}
+use Rattle.chunk_plans.specs.declared.plan.Planned.{Planned}
 use Rattle.commits.specs.Plans.{IsPlanned, IsRightLeft, IsRightPlan, keys_of, HasPlan, ArePlans, change_of, changes_of}
-use Rattle.state_laws.specs.Left.{IsLeftOf}
+use Rattle.chunk_plans.specs.Leaving.{IsLeftOf}
 
 -- the plan of a key
 pub record HasPlanOf (P : Planned → Type 0) (key : List ℕ) : Type 0 where
@@ -37,7 +38,7 @@ plan_at P key (p ∷ plans) all (inr more) = plan_at P key plans all.1 more
 
 -- keys of changes are some of those of the plans
 apart_by : (k key : List ℕ) (left : Left) (changes : List Change) → bytes_eq k key ≡ false → AllByRecursion (λ y. bytes_eq k y ≡ false) (keys_changed changes) → AllByRecursion (λ y. bytes_eq k y ≡ false) (keys_changed (change_of left key changes))
-apart_by k key (Stored bytes) changes other apart = (other, apart)
+apart_by k key (Stored bytes kept) changes other apart = (other, apart)
 apart_by k key (Held a cells) changes other apart = apart
 
 apart_changes : (k : List ℕ) (ps : List Planned) → AllByRecursion (λ y. bytes_eq k y ≡ false) (keys_of ps) → AllByRecursion (λ y. bytes_eq k y ≡ false) (keys_changed (changes_of ps))
@@ -46,7 +47,7 @@ apart_changes k (p ∷ ps) apart = apart_by k p.key p.left (changes_of ps) apart
 
 distinct_by : (key : List ℕ) (left : Left) (changes : List Change) → AllByRecursion (λ y. bytes_eq key y ≡ false) (keys_changed changes) → IsDistinct bytes_eq (keys_changed changes) → IsDistinct bytes_eq (keys_changed (change_of left key changes))
 unfolding IsDistinct
-distinct_by key (Stored bytes) changes apart distinct = (apart, distinct)
+distinct_by key (Stored bytes kept) changes apart distinct = (apart, distinct)
 distinct_by key (Held a cells) changes apart distinct = distinct
 
 distinct_changes : (ps : List Planned) → IsDistinct bytes_eq (keys_of ps) → IsDistinct bytes_eq (keys_changed (changes_of ps))
@@ -119,13 +120,13 @@ module _ (log : Log) (owner : ℕ) (commit : Commit) (plans : List Planned) (are
   module _ (start : Contents) (right : AllByRecursion (IsRightPlan start log e) plans) where
     -- a change of a key is that of its plan
     bytes_of : (p : Planned) (rest : List Planned) (key : List ℕ) (bytes : Option (List ℕ)) (left : Left) → p.left ≡ left → HasBytes (change_of left p.key (changes_of rest)) key bytes
-        → ((p.key ≡ key) × (left ≡ Stored bytes)) ⊎ HasBytes (changes_of rest) key bytes
-    bytes_of p rest key bytes (Stored b) is (inl here) = inl (here.0, ap Stored here.1)
-    bytes_of p rest key bytes (Stored b) is (inr more) = inr more
+        → ((p.key ≡ key) × ((kept : Option DenseCells) × (left ≡ Stored bytes kept))) ⊎ HasBytes (changes_of rest) key bytes
+    bytes_of p rest key bytes (Stored b kept) is (inl here) = inl (here.0, (kept, ap (λ o. Stored o kept) here.1))
+    bytes_of p rest key bytes (Stored b kept) is (inr more) = inr more
     bytes_of p rest key bytes (Held a cells) is more = inr more
 
     -- there is a stored plan for each change
-    change_planned : (ps : List Planned) (key : List ℕ) (bytes : Option (List ℕ)) → AllByRecursion (IsPlanned log e) ps → HasBytes (changes_of ps) key bytes → HasPlanOf (λ p. IsPlanned log e p × (p.left ≡ Stored bytes)) key
+    change_planned : (ps : List Planned) (key : List ℕ) (bytes : Option (List ℕ)) → AllByRecursion (IsPlanned log e) ps → HasBytes (changes_of ps) key bytes → HasPlanOf (λ p. IsPlanned log e p × ((kept : Option DenseCells) × (p.left ≡ Stored bytes kept))) key
     change_planned [] key bytes all has = absurd has
     change_planned (p ∷ ps) key bytes all has = elim (bytes_of p ps key bytes p.left refl has) [
       | inl here ↦ record { plan = p; named = here.0; holds = (all.0, here.1) }
@@ -133,7 +134,7 @@ module _ (log : Log) (owner : ℕ) (commit : Commit) (plans : List Planned) (are
     ]
 
     more_changes : (left : Left) (key other : List ℕ) (bytes : Option (List ℕ)) (changes : List Change) → HasBytes changes other bytes → HasBytes (change_of left key changes) other bytes
-    more_changes (Stored b) key other bytes changes has = inr has
+    more_changes (Stored b kept) key other bytes changes has = inr has
     more_changes (Held a cells) key other bytes changes has = has
 
     -- what a chunk of a stored array gets
@@ -145,12 +146,12 @@ module _ (log : Log) (owner : ℕ) (commit : Commit) (plans : List Planned) (are
     -- the plan of a key is that of the chunk
     change_of_plan : (p : Planned) (ps : List Planned) (key : List ℕ) (c : Chunk) (k : Known) (left : Left) → p.left ≡ left → p.key ≡ key → (is : IsPlanned log e p) → IsRightPlan start log e p → is.chunk ≡ c → is.array ≡ k → is_local k.info.home ≡ false
         → HasChange key c k (p ∷ ps)
-    change_of_plan p ps key c k (Stored bytes) left named is right chunk array stored = record {
+    change_of_plan p ps key c k (Stored bytes kept) left named is right chunk array stored = record {
       bytes = bytes;
       has = subst (λ l. HasBytes (change_of l p.key (changes_of ps)) key bytes) (sym left) (inl (named, refl));
       kept =
           subst (λ (d : Chunk). IsChunkKept start (h ++ e ∷ []) k d (shape_when_touched (h ++ e ∷ []) d) bytes) chunk
-          (subst (λ l. IsChunkKept start (h ++ e ∷ []) l is.chunk (shape_when_touched (h ++ e ∷ []) is.chunk) bytes) array (subst (IsRightLeft start log e is.array is.chunk) left (right is)));
+          (subst (λ l. IsChunkKept start (h ++ e ∷ []) l is.chunk (shape_when_touched (h ++ e ∷ []) is.chunk) bytes) array (subst (IsRightLeft start log e is.array is.chunk) left (right is)).0);
     }
     change_of_plan p ps key c k (Held a cells) left named is right chunk array stored =
         let local : IsLeftOf is.array is.chunk (Held a cells) = subst (IsLeftOf is.array is.chunk) left is.left in
@@ -179,7 +180,7 @@ module _ (log : Log) (owner : ℕ) (commit : Commit) (plans : List Planned) (are
       others = λ key free meta bytes has.
           let there = change_planned plans key bytes are.each has in
           let is = there.holds.0 in
-          let stored : IsLeftOf is.array is.chunk (Stored bytes) = subst (IsLeftOf is.array is.chunk) there.holds.1 is.left in
-          free is.chunk is.array is.touched (changed is.chunk is.array is.known is.valid is.touched stored) (ap (λ o. key_in o is.chunk) (same is.chunk.array ∙ is.known) ∙ ap Some (is.named ∙ there.named));
+          let stored : IsLeftOf is.array is.chunk (Stored bytes there.holds.1.0) = subst (IsLeftOf is.array is.chunk) there.holds.1.1 is.left in
+          free is.chunk is.array is.touched (changed is.chunk is.array is.known is.valid is.touched stored.0) (ap (λ o. key_in o is.chunk) (same is.chunk.array ∙ is.known) ∙ ap Some (is.named ∙ there.named));
       distinct = distinct_changes plans are.distinct;
     }

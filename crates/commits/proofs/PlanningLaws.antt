@@ -11,7 +11,7 @@ use Rattle.state_laws.specs.Agreement.{KeepsAgreement}
 use Rattle.state_laws.specs.Log.{Log}
 use Rattle.state_laws.specs.Looks.{IsFailedLook}
 use Rattle.state_laws.specs.Seen.{StoreSeen}
-use Rattle.state_laws.specs.declared.plan.Planned.{Planned}
+use Rattle.chunk_plans.specs.declared.plan.Planned.{Planned}
 use Rattle.chunk_plans.specs.declared.write.ChunkWrite.{ChunkWrite}
 use Rattle.history.specs.Damaged.{IsDamaged}
 use Rattle.chunk_plans.specs.Writes.{IsPlanOf, IsReadyBy, IsReadyWrite, IsSameButCache, chunk_of_write, is_usable, may_use}
@@ -33,6 +33,7 @@ module _ (first store : StoreSeen) (log now : Log) (same : IsSameButCache log no
   pub planned_first : (w : ChunkWrite) (p : Planned) (number : ℕ) → IsPlannedBy store now number w p → IsPlannedBy first log number w p
   planned_first w p number is = record {
     array = is.array;
+    chunk = is.chunk;
     key = is.key;
     left = λ k known. is.left k (ap (λ events. known_after events w.array) same.events ∙ known);
     plan = λ opening start k agrees told known ready.

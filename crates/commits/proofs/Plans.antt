@@ -22,18 +22,18 @@ use Rattle.history.specs.Writes.{Put, puts_of}
 use Rattle.std.proofs.lemmas.Bool.Decides.{nat_tests}
 use Rattle.std.proofs.lemmas.List.{length-map}
 use Rattle.history.proofs.Laws.{chunk_array, else_word, last_put, known_good, local_shape, one_key, same_chunks, some_inj, written-is}
-use Rattle.chunk_plans.proofs.Laws.{IsStagedBy, kept_of_left, held_snapshot}
+use Rattle.chunk_plans.proofs.Laws.{IsStagedBy, right_of_left, held_snapshot}
 use Rattle.state_laws.specs.declared.commit.Commit.{Commit}
 use Rattle.state_laws.specs.Recorded.{done_event}
 use Rattle.state_laws.specs.Agreement.{Opening, Agrees}
 use Rattle.state_laws.specs.Kept.{IsCurrent}
 use Rattle.state_laws.specs.Log.{Log}
 use Rattle.state_laws.specs.Seen.{StoreSeen}
-use Rattle.state_laws.specs.declared.plan.Left.{Left}
-use Rattle.state_laws.specs.declared.plan.Left.TheVariants.{Stored, Held}
-use Rattle.state_laws.specs.declared.plan.Planned.{Planned}
+use Rattle.chunk_plans.specs.declared.plan.Left.{Left}
+use Rattle.chunk_plans.specs.declared.plan.Left.TheVariants.{Stored, Held}
+use Rattle.chunk_plans.specs.declared.plan.Planned.{Planned}
 use Rattle.commits.specs.Plans.{IsPlanned, IsRightLeft, IsRightPlan, keys_of, HasPlan, ArePlans, change_of, changes_of}
-use Rattle.state_laws.specs.Left.{IsLeftOf}
+use Rattle.chunk_plans.specs.Leaving.{IsLeftOf}
 use Rattle.chunk_plans.specs.declared.write.ChunkWrite.{ChunkWrite}
 use Rattle.chunk_plans.specs.Writes.{IsPlanOf, IsReadyWrite, chunk_of_write}
 use Rattle.commits.specs.Keyed.{plan_arrays}
@@ -66,7 +66,7 @@ planned_changes store log ops number step (w ∷ ws) (p ∷ ps) each are =
     told b is = ap is_stored each.0.1.known ∙ ap not is
 
     by : (left : Left) → IsLeftOf each.0.0 (chunk_of_write w) left → keys_changed (change_of left p.key (changes_of ps)) ≡ cond (is_stored (known_after log.events w.array)) (w.key ∷ rest) rest
-    by (Stored bytes) is = ap (λ k. k ∷ rest) are.0.key ∙ sym (ap (λ b. cond b (w.key ∷ rest) rest) (told false is))
+    by (Stored bytes kept) is = ap (λ k. k ∷ rest) are.0.key ∙ sym (ap (λ b. cond b (w.key ∷ rest) rest) (told false is.0))
     by (Held a cells) is = sym (ap (λ b. cond b (w.key ∷ rest) rest) (told true is.0))
 
 -- a plan is of the chunk of its write, by a log of the same events
@@ -82,6 +82,7 @@ module _ (store : StoreSeen) (first log : Log) (owner : ℕ) (commit : Commit) (
     valid = staged.1.valid;
     touched = touched_by (chunk_of_write w) ∙ staged.1.written;
     of_array = sym is.array;
+    of_index = sym is.chunk;
     named = staged.1.named ∙ sym is.key;
     left = is.left staged.0 staged.1.known;
   }
@@ -125,7 +126,10 @@ staged_by events ops w k is = record { cells = λ index inside present. is.cells
 
 -- what is right by one log is right by another of the same events
 right_same : (start : Contents) (first log : Log) (e : Event) (k : Known) (c : Chunk) (left : Left) → log.events ≡ first.events → IsRightLeft start first e k c left → IsRightLeft start log e k c left
-right_same start first log e k c (Stored bytes) same right = subst (λ events. IsChunkKept start (with_event events e) k c (shape_when_touched (with_event events e) c) bytes) (sym same) right
+right_same start first log e k c (Stored bytes kept) same right = (
+  subst (λ events. IsChunkKept start (with_event events e) k c (shape_when_touched (with_event events e) c) bytes) (sym same) right.0,
+  λ cells is. subst (λ events. IsCurrent start (with_event events e) k c (record { generation = length events + 1; cells = cells })) (sym same) (right.1 cells is),
+)
 right_same start first log e k c (Held a cells) same right = subst (λ events. IsCurrent start (with_event events e) k c cells) (sym same) right
 
 -- plans are right behind the commit
@@ -138,9 +142,9 @@ module _ (opening : Opening) (start : Contents) (store : StoreSeen) (first log :
 
   right_left : (w : ChunkWrite) (k : Known) (left : Left) → IsStagedFor first.events commit.ops w k → IsLeftOf k (chunk_of_write w) left → IsPlanOf start first.events (length first.events + 1) k w left
       → IsRightLeft start first (done_event owner commit) k (chunk_of_write w) left
-  right_left w k (Stored bytes) is stored plan =
-      kept_of_left start first.events owner (new_transaction commit.line commit.mode) commit.ops commit.key k (chunk_of_write w) w.staged.now is.known is.valid (touched_write w k is) (staged_by first.events commit.ops w k is) stored
-      (known_good start w.array first.events legal k is.known).kept bytes plan
+  right_left w k (Stored bytes kept) is stored plan =
+      right_of_left start first.events owner (new_transaction commit.line commit.mode) commit.ops commit.key k (chunk_of_write w) w.staged.now is.known is.valid (touched_write w k is) (staged_by first.events commit.ops w k is) stored.0
+      (known_good start w.array first.events legal k is.known).kept bytes kept plan
   right_left w k (Held a cells) is local plan =
       subst (λ n. IsRightLeft start first (done_event owner commit) k (chunk_of_write w) (Held a (record cells { generation = n }))) (sym plan.0)
       (held_snapshot start first.events owner (new_transaction commit.line commit.mode) commit.ops commit.key k (chunk_of_write w) w.staged.now is.known is.valid (touched_write w k is) (staged_by first.events commit.ops w k is) local.0

@@ -17,9 +17,9 @@ use Rattle.history.specs.Sessions.{new_transaction}
 use Rattle.state_laws.specs.Agreement.{Opening, Agrees}
 use Rattle.state_laws.specs.Log.{Log}
 use Rattle.state_laws.specs.Seen.{StoreSeen}
-use Rattle.state_laws.specs.declared.plan.Planned.{Planned}
+use Rattle.chunk_plans.specs.declared.plan.Planned.{Planned}
 use Rattle.commits.specs.Plans.{IsRightLeft, keys_of}
-use Rattle.state_laws.specs.Left.{IsLeftOf}
+use Rattle.chunk_plans.specs.Leaving.{IsLeftOf}
 use Rattle.chunk_plans.specs.declared.write.ChunkWrite.{ChunkWrite}
 use Rattle.chunk_plans.specs.Writes.{IsPlanOf}
 use Rattle.commits.specs.declared.refused.CommitRefused.{CommitRefused}
@@ -46,6 +46,7 @@ pub record IsKeyPlan (events : History) (p : Planned) : Type 0 where
   pub known : known_after events chunk.array ≡ Some array
   pub valid : IsIndexOf array.info chunk.index
   pub of_array : chunk.array ≡ p.array
+  pub of_index : chunk.index ≡ p.chunk.now
   pub named : chunk_key array chunk.index ≡ p.key
   pub left : IsLeftOf array chunk p.left
 
@@ -66,6 +67,11 @@ pub record IsRightKey (start : Contents) (log : Log) (owner line : ℕ) (mode : 
 abbrev pub KeepsByKey : StoreSeen → Log → ℕ → ℕ → Mode → List Op → Planned → StoreSeen → Log → Type 0
 KeepsByKey store log owner line mode ops p next later =
     (opening : Opening) → Agrees opening store log → ((start : Contents) → opening.store.contents ≡ Some start → IsRightKey start log owner line mode ops p) → Agrees opening next later
+
+-- the state agrees with an opening by which a plan is right for the event of its key
+abbrev pub IsStateByKey : StoreSeen → Log → ℕ → ℕ → Mode → List Op → Planned → Type 0
+IsStateByKey store log owner line mode ops p =
+    (opening : Opening) × (Agrees opening store log × ((start : Contents) → opening.store.contents ≡ Some start → IsRightKey start log owner line mode ops p))
 
 -- plans are those of writes, each for the event of the next number
 abbrev pub AreRightPlans : Contents → History → List Op → ℕ → List ChunkWrite → List Planned → Type 0

@@ -2,6 +2,7 @@ pub mod Plans
 pub mod Prepared
 pub mod Writes
 pub mod Late
+pub mod Keeping
 pub mod Outside
 pub mod Planning
 pub mod Right

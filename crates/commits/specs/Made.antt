@@ -6,7 +6,7 @@ use Rattle.history.specs.Own.{numbered, numbers_of}
 use Rattle.history.specs.Sessions.{new_transaction}
 use Rattle.state_laws.specs.Log.{Log}
 use Rattle.state_laws.specs.Seen.{StoreSeen}
-use Rattle.state_laws.specs.declared.plan.Planned.{Planned}
+use Rattle.chunk_plans.specs.declared.plan.Planned.{Planned}
 use Rattle.chunk_plans.specs.declared.write.ChunkWrite.{ChunkWrite}
 use Rattle.commits.specs.declared.prepared.Prepared.{Prepared}
 use Rattle.commits.specs.declared.refused.CommitRefused.{CommitRefused}

@@ -11,8 +11,8 @@ use Rattle.state_laws.specs.Agreement.{Opening, Agrees}
 use Rattle.state_laws.specs.Fetches.{IsDamagedThere}
 use Rattle.state_laws.specs.Log.{Log}
 use Rattle.state_laws.specs.Seen.{StoreSeen}
-use Rattle.state_laws.specs.declared.plan.Planned.{Planned}
-use Rattle.state_laws.specs.Left.{IsLeftOf}
+use Rattle.chunk_plans.specs.declared.plan.Planned.{Planned}
+use Rattle.chunk_plans.specs.Leaving.{IsLeftOf}
 use Rattle.chunk_plans.specs.declared.write.ChunkWrite.{ChunkWrite}
 use Rattle.chunk_plans.specs.Writes.{IsPlanOf, IsReadyWrite, chunk_of_write}
 use Rattle.commits.specs.Writes.{stored_write_keys}
@@ -20,6 +20,7 @@ use Rattle.commits.specs.Writes.{stored_write_keys}
 -- the plan of a write, for the event of a number
 pub record IsPlannedBy (store : StoreSeen) (log : Log) (number : ℕ) (w : ChunkWrite) (p : Planned) : Type 0 where
   pub array : p.array ≡ w.array
+  pub chunk : p.chunk.now ≡ w.chunk.now
   pub key : p.key ≡ w.key
   pub left : (k : Known) → known_after log.events w.array ≡ Some k → IsLeftOf k (chunk_of_write w) p.left
   pub plan : (opening : Opening) (start : Contents) (k : Known) → Agrees opening store log → opening.store.contents ≡ Some start → known_after log.events w.array ≡ Some k

@@ -1,5 +1,6 @@
 -- What a commit, or one key of it, leaves of each chunk that it touches.
 use Rattle.std.specs.Prelude.{◌≡◌, ◌⊎◌, ℕ, ◌+◌, nat_lt, length, List, [], ◌∷◌, ◌++◌, map, Some, true}
+use Rattle.std.specs.Option.{ForSome}
 use Rattle.std.specs.List.{AllByRecursion, IsDistinct}
 use Rattle.std.specs.Str.{bytes_eq}
 use Rattle.kv_face.specs.Store.{Contents}
@@ -20,11 +21,12 @@ use Rattle.state_laws.specs.Agreement.{Opening, Agrees}
 use Rattle.state_laws.specs.Changing.{with_cells}
 use Rattle.state_laws.specs.Seen.{StoreSeen}
 use Rattle.state_laws.specs.Kept.{IsCurrent}
-use Rattle.state_laws.specs.Left.{IsLeftOf}
+use Rattle.chunk_plans.specs.Leaving.{IsLeftOf}
 use Rattle.state_laws.specs.Log.{Log}
-use Rattle.state_laws.specs.declared.plan.Left.{Left}
-use Rattle.state_laws.specs.declared.plan.Left.TheVariants.{Stored, Held}
-use Rattle.state_laws.specs.declared.plan.Planned.{Planned}
+use Rattle.chunk_plans.specs.declared.plan.Left.{Left}
+use Rattle.chunk_plans.specs.declared.plan.Left.TheVariants.{Stored, Held}
+use Rattle.chunk_plans.specs.declared.plan.Planned.{Planned}
+use Rattle.commits.specs.Keeping.{left_cells}
 use Rattle.commits.specs.declared.parts.Parts.{Parts}
 use Rattle.state_laws.specs.declared.deed.Deed.{Deed}
 
@@ -36,12 +38,15 @@ pub record IsPlanned (log : Log) (e : Event) (p : Planned) : Type 0 where
   pub valid : IsIndexOf array.info chunk.index
   pub touched : touches log.events e chunk ≡ true
   pub of_array : chunk.array ≡ p.array
+  pub of_index : chunk.index ≡ p.chunk.now
   pub named : chunk_key array chunk.index ≡ p.key
   pub left : IsLeftOf array chunk p.left
 
--- what is left of a chunk is what is kept of it behind the event, or the chunk then
+-- bytes that are left of a chunk are what is kept of it behind the event, and cells are the chunk then
 abbrev pub IsRightLeft : Contents → Log → Event → Known → Chunk → Left → Type 0
-IsRightLeft start log e k c (Stored bytes) = IsChunkKept start (with_event log.events e) k c (shape_when_touched (with_event log.events e) c) bytes
+IsRightLeft start log e k c (Stored bytes kept) =
+    IsChunkKept start (with_event log.events e) k c (shape_when_touched (with_event log.events e) c) bytes
+    × ForSome kept (λ cells. IsCurrent start (with_event log.events e) k c (record { generation = length log.events + 1; cells = cells }))
 IsRightLeft start log e k c (Held a cells) = IsCurrent start (with_event log.events e) k c cells
 
 abbrev pub IsRightPlan : Contents → Log → Event → Planned → Type 0
@@ -63,7 +68,7 @@ pub record ArePlans (log : Log) (e : Event) (plans : List Planned) : Type 0 wher
 
 -- the change of a key in a store, where the chunk is stored
 abbrev pub change_of : Left → List ℕ → List Change → List Change
-change_of (Stored bytes) key changes = record { key = key; bytes = bytes } ∷ changes
+change_of (Stored bytes kept) key changes = record { key = key; bytes = bytes } ∷ changes
 change_of (Held a cells) key changes = changes
 
 abbrev pub changes_of : List Planned → List Change
@@ -72,7 +77,7 @@ changes_of (p ∷ plans) = change_of p.left p.key (changes_of plans)
 
 -- the cells of a local array
 abbrev pub held_of : Left → List HeldCells → List HeldCells
-held_of (Stored bytes) cells = cells
+held_of (Stored bytes kept) cells = cells
 held_of (Held a snapshot) cells = record { array = a; cells = snapshot } ∷ cells
 
 abbrev pub cells_of : List Planned → List HeldCells
@@ -95,6 +100,11 @@ pub record AreRightBy (start : Contents) (log : Log) (owner : ℕ) (commit : Com
   pub each : AllByRecursion (IsRightPlan start log (done_event owner commit)) plans
   pub counted : is_change start log.events (Done commit.line commit.mode commit.ops commit.key) ≡ nat_lt 0 (length (changes_of plans))
 
+-- the state agrees with an opening by which the plans are right
+abbrev pub IsStateByPlans : StoreSeen → Log → ℕ → Commit → List Planned → Type 0
+IsStateByPlans store log owner commit plans =
+    (opening : Opening) × (Agrees opening store log × ((start : Contents) → opening.store.contents ≡ Some start → AreRightBy start log owner commit plans))
+
 -- behind a commit, a state agrees with each opening by which the plans were right
 abbrev pub KeepsByPlans : StoreSeen → Log → ℕ → Commit → List Planned → StoreSeen → Log → Type 0
 KeepsByPlans store log owner commit plans next later =
@@ -105,6 +115,7 @@ pub record ArePartsOf (plans : List Planned) (parts : Parts) : Type 0 where
   pub changes : parts.changes.items ≡ changes_of plans
   pub keys : parts.keys.items ≡ keys_of plans
   pub cells : parts.cells.items ≡ cells_of plans
+  pub left : parts.left.items ≡ left_cells plans
 
 -- a commit by its parts
 abbrev pub deed_of : List ℕ → Commit → Parts → Deed

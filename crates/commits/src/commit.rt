@@ -4,7 +4,7 @@ ghost use Rattle.std.specs.List.{AllByRecursion};
 ghost use Rattle.kv_face.specs.Store.{Contents};
 ghost use Rattle.history.specs.Commit.{Transaction, are_together};
 ghost use Rattle.state_laws.specs.Seen.{IsFrame};
-ghost use Rattle.state_laws.specs.Agreement.{Agrees, IsState, Opening};
+ghost use Rattle.state_laws.specs.Agreement.{Agrees, Opening};
 ghost use Rattle.chunk_plans.specs.Writes.{IsWrite};
 ghost use Rattle.commits.specs.Answers.{IsCommitRow, IsCommitted, IsStateByTransaction, IsTold, KeepsByTransaction};
 ghost use Rattle.commits.specs.Keyed.{each_event};
@@ -32,7 +32,7 @@ fn commit_whole<K: KvStore>(
     owner: u32,
     p: Prepared<'_>,
 ) -> Result<List<u64>, CommitRefused>
-    requires agrees { IsState (K.seen state.old.store) state.old.log }
+    requires agrees { IsStateByCommit (K.seen state.old.store) state.old.log p.ops p.writes.items }
     requires writes { AllByRecursion (IsWrite state.old.log.events) p.writes.items }
     requires all { AreWrites state.old.log.events p.ops p.writes.items }
     requires together { are_together ((K.seen state.old.store).prefixes)

@@ -4,10 +4,9 @@ ghost use Rattle.std.specs.List.{AllByRecursion};
 ghost use Rattle.history.specs.Arrays.{known_after};
 ghost use Rattle.history.specs.Commit.{is_write};
 ghost use Rattle.state_laws.specs.Seen.{IsFrame};
-ghost use Rattle.state_laws.specs.Agreement.{IsState};
 ghost use Rattle.commits.specs.Plans.{keys_of};
 ghost use Rattle.chunk_plans.specs.Writes.{IsWrite};
-ghost use Rattle.commits.specs.Keyed.{AreKeyPlans, IsKeyPlan, IsMadeEach, IsMountAt, IsStateByKeys, KeepsByKey, KeepsByKeys, each_event, key_event, plan_arrays};
+ghost use Rattle.commits.specs.Keyed.{AreKeyPlans, IsKeyPlan, IsMadeEach, IsMountAt, IsStateByKey, IsStateByKeys, KeepsByKey, KeepsByKeys, each_event, key_event, plan_arrays};
 ghost use Rattle.commits.specs.Made.{IsMade};
 ghost use Rattle.commits.specs.Planning.{HasFailedFor};
 ghost use Rattle.commits.specs.Prepared.{AreWrites, write_keys};
@@ -17,10 +16,10 @@ use crate::making::commit_planned;
 use crate::planning::plan_writes;
 use crate::refused::{CommitRefused, unmade, unplanned};
 use cells::{List, Name, copy_name};
-use chunk_plans::{ChangeError, ChunkWrite, State};
+use chunk_plans::{ChangeError, ChunkWrite, Planned, State};
 use history::{Mode, Ops};
 use kv_face::KvStore;
-use state_laws::{Commit, Planned};
+use state_laws::Commit;
 use std::alloc::{AllocError, Global};
 
 /// A transaction of which each key is committed by itself: the operations of the first event, and the writes among them.
@@ -57,8 +56,8 @@ fn keyed(alloc: Global, line: u64, mode: Mode, ops: Ops, key: &Name) -> Result<C
 }
 
 /// The one plan as a list.
-fn alone(alloc: Global, plan: Planned) -> Result<Vec<Planned>, AllocError>
-    ensures { IfOk result (λ plans. plans.items ≡ plan ∷ []) }
+fn alone<'a>(alloc: Global, plan: Planned<'a>) -> Result<Vec<Planned<'a>>, AllocError>
+    ensures { IfOk result (λ plans. plans.items ≡ plan.entry ∷ []) }
 {
     let mut plans = Vec::with_capacity(alloc, 1)?;
     plans.push_reserved(plan);
@@ -73,19 +72,19 @@ fn make_one<K: KvStore>(
     line: u64,
     mode: Mode,
     ops: Ops,
-    plan: Planned,
+    plan: Planned<'_>,
 ) -> Result<u64, ChangeError>
-    requires agrees { IsState (K.seen state.old.store) state.old.log }
+    requires agrees { IsStateByKey (K.seen state.old.store) state.old.log owner line mode ops plan }
     requires plan { IsKeyPlan state.old.log.events plan }
     ensures number { IfOk result (λ n. n ≡ length state.old.log.events + 1) }
     ensures after { OnOk result (state.new.log.events
-        ≡ state.old.log.events ++ key_event owner line mode ops plan.key ∷ []) }
+        ≡ state.old.log.events ++ key_event owner line mode ops plan.entry.key ∷ []) }
     ensures failed { (event : ℕ) → result ≡ Err (ChangeError.StoreFailed event)
-        → HasFailedFor owner (plan.array ∷ []) (K.seen state.old.store)
+        → HasFailedFor owner (plan.entry.array ∷ []) (K.seen state.old.store)
         (K.seen state.new.store) state.old.log.events state.new.log.events event }
     ensures memory { result ≡ Err ChangeError.Memory → state.new.log.events ≡ state.old.log.events }
     ensures frame { IsFrame (K.seen state.old.store) (K.seen state.new.store) }
-    ensures kept { KeepsByKey (K.seen state.old.store) state.old.log owner line mode ops plan
+    ensures kept { KeepsByKey (K.seen state.old.store) state.old.log owner line mode ops plan.entry
         (K.seen state.new.store) state.new.log }
 {
     let Ok(mount) = mount_at(alloc, state, plan.array) else {
@@ -106,17 +105,17 @@ fn make_each<K: KvStore>(
     state: &mut State<K>,
     owner: u32,
     by: ByKeys,
-    plans: Vec<Planned>,
+    plans: Vec<Planned<'_>>,
 ) -> Result<List<u64>, CommitRefused>
     requires agrees { IsStateByKeys (K.seen state.old.store) state.old.log owner by.line by.mode by.ops plans.items }
     requires plans { AreKeyPlans state.old.log.events plans.items }
     requires some { 0 < length plans.items }
     requires writes { by.writes ≡ filter is_write by.ops }
-    ensures made { IsMadeEach owner (plan_arrays plans.items) (K.seen state.old.store)
+    ensures made { IsMadeEach owner (plan_arrays plans.entry.items) (K.seen state.old.store)
         (K.seen state.new.store) state.old.log.events state.new.log.events
-        (each_event owner by.line by.mode by.ops (keys_of plans.items)) result }
+        (each_event owner by.line by.mode by.ops (keys_of plans.entry.items)) result }
     ensures frame { IsFrame (K.seen state.old.store) (K.seen state.new.store) }
-    ensures kept { KeepsByKeys (K.seen state.old.store) state.old.log owner by.line by.mode by.ops plans.items
+    ensures kept { KeepsByKeys (K.seen state.old.store) state.old.log owner by.line by.mode by.ops plans.entry.items
         (K.seen state.new.store) state.new.log }
 {
     let ByKeys {

@@ -4,15 +4,14 @@ ghost use Rattle.std.specs.List.{AllByRecursion};
 ghost use Rattle.history.specs.Commit.{are_together};
 ghost use Rattle.state_laws.specs.Recorded.{done_event};
 ghost use Rattle.state_laws.specs.Seen.{IsFrame};
-ghost use Rattle.state_laws.specs.Agreement.{IsState};
 ghost use Rattle.state_laws.specs.Changing.{AreMade};
-ghost use Rattle.commits.specs.Plans.{ArePlans, KeepsByPlans, changes_of};
+ghost use Rattle.commits.specs.Plans.{ArePlans, IsStateByPlans, KeepsByPlans, changes_of};
 ghost use Rattle.chunk_plans.specs.Writes.{IsWrite};
 ghost use Rattle.commits.specs.Keyed.{IsMadeEach, plan_arrays};
 ghost use Rattle.commits.specs.Made.{IsMade};
 ghost use Rattle.commits.specs.Planning.{IsAmongOn};
 ghost use Rattle.commits.specs.Prepared.{AreWrites};
-ghost use Rattle.commits.specs.Right.{KeepsByCommit};
+ghost use Rattle.commits.specs.Right.{IsStateByCommit, KeepsByCommit};
 ghost use Rattle.commits.specs.Writes.{stored_write_keys};
 
 use crate::making::commit_planned;
@@ -20,9 +19,9 @@ use crate::mount::mount_of_writes;
 use crate::planning::plan_writes;
 use crate::refused::{CommitRefused, unmade, unplanned};
 use cells::{List, Name};
-use chunk_plans::{ChunkWrite, State};
+use chunk_plans::{ChunkWrite, Planned, State};
 use kv_face::KvStore;
-use state_laws::{Commit, Planned};
+use state_laws::Commit;
 use std::alloc::Global;
 
 /// Makes the commit by its plans. Room for the answer is made before.
@@ -32,17 +31,17 @@ fn make_joint<K: KvStore>(
     owner: u32,
     mount: Name,
     commit: Commit,
-    plans: Vec<Planned>,
+    plans: Vec<Planned<'_>>,
 ) -> Result<List<u64>, CommitRefused>
-    requires agrees { IsState (K.seen state.old.store) state.old.log }
+    requires agrees { IsStateByPlans (K.seen state.old.store) state.old.log owner commit plans.items }
     requires plans { ArePlans state.old.log (done_event owner commit) plans.items }
     requires made { AreMade (K.seen state.old.store) (changes_of plans.items) }
     requires mount { IsAmongOn state.old.log.events (plan_arrays plans.items) mount
         ⊎ (length (changes_of plans.items) ≡ 0) }
-    ensures made { IsMadeEach owner (plan_arrays plans.items) (K.seen state.old.store)
+    ensures made { IsMadeEach owner (plan_arrays plans.entry.items) (K.seen state.old.store)
         (K.seen state.new.store) state.old.log.events state.new.log.events (done_event owner commit ∷ []) result }
     ensures frame { IsFrame (K.seen state.old.store) (K.seen state.new.store) }
-    ensures kept { KeepsByPlans (K.seen state.old.store) state.old.log owner commit plans.items
+    ensures kept { KeepsByPlans (K.seen state.old.store) state.old.log owner commit plans.entry.items
         (K.seen state.new.store) state.new.log }
 {
     let mut numbers = Vec::with_capacity(alloc, 1)?;
@@ -63,7 +62,7 @@ pub(crate) fn commit_joint<K: KvStore>(
     commit: Commit,
     writes: Vec<ChunkWrite<'_>>,
 ) -> Result<List<u64>, CommitRefused>
-    requires agrees { IsState (K.seen state.old.store) state.old.log }
+    requires agrees { IsStateByCommit (K.seen state.old.store) state.old.log commit.ops writes.items }
     requires writes { AllByRecursion (IsWrite state.old.log.events) writes.items }
     requires all { AreWrites state.old.log.events commit.ops writes.items }
     requires whole { commit.key ≡ None }

@@ -8,6 +8,7 @@
 mod commit;
 mod each;
 mod joint;
+mod keeping;
 mod late;
 mod making;
 mod mount;

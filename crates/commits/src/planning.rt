@@ -7,21 +7,20 @@ ghost use Rattle.state_laws.specs.Agreement.{IsState, KeepsAgreement};
 ghost use Rattle.chunk_plans.specs.Writes.{IsSameButCache, IsWrite};
 ghost use Rattle.commits.specs.Planning.{ArePlannedBy, HasFailedFor, IsFirstDamaged, write_arrays};
 
-use chunk_plans::{ChunkWrite, FetchError, State, plan_write};
+use chunk_plans::{ChunkWrite, FetchError, Planned, State, plan_write};
 use kv_face::KvStore;
-use state_laws::Planned;
 use std::alloc::Global;
 
 /// What a commit leaves of each chunk that it writes. `number` is that of the event that puts the first of them, and `step` how many
 /// numbers there are from one to the next.
-pub(crate) fn plan_writes<K: KvStore>(
+pub(crate) fn plan_writes<'a, K: KvStore>(
     alloc: Global,
     state: &mut State<K>,
     owner: u32,
     number: u64,
     step: u64,
-    writes: Vec<ChunkWrite<'_>>,
-) -> Result<Vec<Planned>, FetchError>
+    writes: Vec<ChunkWrite<'a>>,
+) -> Result<Vec<Planned<'a>>, FetchError>
     requires agrees { IsState (K.seen state.old.store) state.old.log }
     requires writes { AllByRecursion (IsWrite state.old.log.events) writes.items }
     requires numbers { number + step * length writes.items < 2 ^ 64 }

@@ -13,7 +13,16 @@ pub way_of-requires-clause-writes : goal.way_of-requires-clause-writes
 way_of-requires-clause-writes g c = sized_each c.args.state.now.log.events c.args.p.ops c.args.p.writes.items c.requires.writes.each
 
 pub commit_whole-requires-clause-agrees : goal.commit_whole-requires-clause-agrees
-commit_whole-requires-clause-agrees g c = (c.requires.agrees.0, c.requires.agrees.1.0)
+commit_whole-requires-clause-agrees g c =
+    let seen = g.K.KvStore.seen in
+    let way = subst (λ w. IsWay ((g.K.KvStore.seen c.args.state.now.store).prefixes) c.args.state.now.log c.args.p (Ok w)) c.in-Ok-Whole.field-0-is (subst (IsWay ((g.K.KvStore.seen c.args.state.now.store).prefixes) c.args.state.now.log c.args.p) c.in-Ok-Whole.is c.way_of.ensures) in
+    let it = c.requires.agrees in (
+      it.0,
+      (
+        it.1.0,
+        λ start told. let is = it.1.1 start told in right_of it.0 start (seen c.args.state.now.store) c.args.state.now.log c.args.owner is.0 c.args.p it.1.0 told is.1 c.requires.writes way.0,
+      ),
+    )
 
 pub commit_by_keys-requires-clause-agrees : goal.commit_by_keys-requires-clause-agrees
 commit_by_keys-requires-clause-agrees g c =

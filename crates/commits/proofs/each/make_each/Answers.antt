@@ -2,7 +2,7 @@ use Rattle.std.proofs.Common.{◌≡◌, Err, List, [], length, inl, inr, refl, 
 use Rattle.std.specs.Prelude.{filter}
 use Rattle.history.specs.Commit.{is_write}
 use Rattle.state_laws.proofs.Laws.{frame_same, frame_then}
-use Rattle.state_laws.specs.declared.plan.Planned.{Planned}
+use Rattle.chunk_plans.specs.declared.plan.Planned.{Planned}
 use Rattle.commits.specs.Plans.{keys_of}
 use Rattle.commits.specs.Keyed.{AreKeyPlans, AreRightKeys, IsMadeEach, each_event, key_event, plan_arrays}
 use Rattle.commits.specs.Planning.{IsAmongOn}
@@ -41,7 +41,19 @@ loop-plan-init g c =
     }
 
 pub make_one-requires-clause-agrees : goal.make_one-requires-clause-agrees
-make_one-requires-clause-agrees g c = let it = c.requires.agrees in (it.0, (c.loop-plan.invariant.kept it.0 it.1.0 it.1.1).0)
+make_one-requires-clause-agrees g c =
+    let by = c.args.by in
+    let it = c.requires.agrees in
+    let there = c.loop-plan.invariant.kept it.0 it.1.0 it.1.1 in
+    let each = (subst (AreKeyPlans c.loop-plan.state.log.events) c.in-Some.ensures.steps.0 c.loop-plan.invariant.plans).each in (
+      it.0,
+      (
+        there.0,
+        λ start told.
+            first_right start c.args.owner by.line by.mode c.loop-plan.state.log c.loop-plan.ops c.in-Some.plan c.next.new.self.rest.items each
+            (subst (λ (ps : List Planned). AreRightKeys start c.args.owner by.line by.mode c.loop-plan.state.log.events c.loop-plan.ops ps) c.in-Some.ensures.steps.0 (there.1 start told)),
+      ),
+    )
 
 pub make_one-requires-clause-plan : goal.make_one-requires-clause-plan
 make_one-requires-clause-plan g c = (subst (AreKeyPlans c.loop-plan.state.log.events) c.in-Some.ensures.steps.0 c.loop-plan.invariant.plans).each.0

@@ -7,8 +7,21 @@ use Rattle.commits.proofs.JointLaws.{joint_made, joint_mount, joint_plans, joint
 use Rattle.commits.proofs.MadeLaws.{made_then, unplanned_made}
 use Rattle.commits.proofs.joint.commit_joint.Goals as goal
 
+pub plan_writes-requires-clause-agrees : goal.plan_writes-requires-clause-agrees
+plan_writes-requires-clause-agrees g c = (c.requires.agrees.0, c.requires.agrees.1.0)
+
 pub make_joint-requires-clause-agrees : goal.make_joint-requires-clause-agrees
-make_joint-requires-clause-agrees g c = (c.requires.agrees.0, c.plan_writes.ensures.kept c.requires.agrees.0 c.requires.agrees.1)
+make_joint-requires-clause-agrees g c =
+    let seen = g.K.KvStore.seen in
+    let it = c.requires.agrees in (
+      it.0,
+      (
+        c.plan_writes.ensures.kept it.0 it.1.0,
+        λ start told.
+            joint_right it.0 start (seen c.args.state.now.store) c.args.state.now.log c.plan_writes.new.state.log c.args.owner c.args.commit c.args.writes.items c.in-Ok.plans.items c.requires.whole c.in-Ok.ensures.same.events c.requires.all
+            (subst (λ n. ArePlannedBy (seen c.args.state.now.store) c.args.state.now.log n 0 c.args.writes.items c.in-Ok.plans.items) (ap (λ n. n + 1) (ap length c.events.ensures)) c.in-Ok.ensures.plans) it.1.0 told (it.1.1 start told),
+      ),
+    )
 
 pub make_joint-requires-clause-plans : goal.make_joint-requires-clause-plans
 make_joint-requires-clause-plans g c =
@@ -20,7 +33,7 @@ pub make_joint-requires-clause-made : goal.make_joint-requires-clause-made
 make_joint-requires-clause-made g c =
     let seen = g.K.KvStore.seen in
     joint_made (seen c.args.state.now.store) (seen c.plan_writes.new.state.store) c.args.state.now.log c.plan_writes.new.state.log c.args.owner c.args.commit _ c.args.writes.items c.in-Ok.plans.items c.requires.whole c.in-Ok.ensures.same.events c.plan_writes.ensures.read c.requires.all
-    c.in-Ok.ensures.plans (c.requires.agrees.0, c.plan_writes.ensures.kept c.requires.agrees.0 c.requires.agrees.1) c.requires.together
+    c.in-Ok.ensures.plans (c.requires.agrees.0, c.plan_writes.ensures.kept c.requires.agrees.0 c.requires.agrees.1.0) c.requires.together
 
 pub make_joint-requires-clause-mount : goal.make_joint-requires-clause-mount
 make_joint-requires-clause-mount g c =

@@ -4,7 +4,7 @@ use Rattle.std.specs.List.{AllByRecursion}
 use Rattle.chunk_forms.specs.declared.form.Damage.{Damage}
 use Rattle.state_laws.specs.Seen.{IsRead}
 use Rattle.state_laws.specs.Agreement.{KeepsAgreement}
-use Rattle.state_laws.specs.declared.plan.Planned.{Planned}
+use Rattle.chunk_plans.specs.declared.plan.Planned.{Planned}
 use Rattle.chunk_plans.specs.Writes.{IsSameButCache, IsWrite}
 use Rattle.commits.specs.Planning.{ArePlannedBy, IsAmongOn, IsFirstDamaged, write_arrays}
 use Rattle.commits.proofs.planning.plan_writes.Given as goal
