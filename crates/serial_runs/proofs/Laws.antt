@@ -22,6 +22,12 @@ use Rattle.serial_runs.proofs.Held.{holds_arrays}
 use Rattle.serial_runs.proofs.Together.{AreOwn, own_on, all_on, own_joint}
 use Rattle.serial_runs.proofs.Numbers.{all_of_owned}
 use Rattle.serial_runs.proofs.Sessions.{session_serial}
+-- what a line is refused with before anything is done
+pub use Rattle.serial_runs.proofs.Refused.{IsRefusedAsked, IsFaultBody, act_of-refused, cell_refused, without_refused}
+-- a run is one over every store that starts alike and by whose prefixes the same keys go together
+pub use Rattle.serial_runs.proofs.Alike.{run_alike}
+-- each conflict of a run is with another session, over whatever store
+pub use Rattle.serial_runs.proofs.Foreign.{logs_foreign}
 
 -- the item at a place below the length
 got : {A : Type 0} (xs : List A) (k : ℕ) → k < length xs → (x : A) × (slice_get xs k ≡ Some x)
@@ -68,7 +74,7 @@ module _ (mount : Text) (scripts : List Script) (history : History) (logs : List
   -- the log of each session shows serial transactions; the history being legal, this needs nothing of the store
   pub serial_session : IsLegal finmap.empty history → (k : ℕ) (script : Script) (log : List Answer) → slice_get scripts k ≡ Some script → slice_get logs k ≡ Some log → IsSerialSession history k script log
   serial_session legal k script log is are =
-      session_serial mount k history legal (commits_joint legal) (arrays_on legal) script log (among (AllByRecursion IsWithin) scripts k script good.within is) (run.each k script log is are)
+      session_serial mount k history legal (commits_joint legal) (arrays_on legal) script log (among (AllByRecursion (IsOn mount)) scripts k script good.on_mount is) (among (AllByRecursion IsWithin) scripts k script good.within is) (run.each k script log is are)
 
   -- a store that represents the history holds exactly the plain arrays
   pub store_holds : (store : Contents) → IsLegal finmap.empty history → RepresentsHistory store finmap.empty history → HoldsArrays store history

@@ -8,6 +8,8 @@ pub mod Refused
 pub mod Commits
 pub mod Rows
 pub mod Together
+pub mod Alike
+pub mod Foreign
 pub mod Sessions
 pub mod Held
 pub mod Laws

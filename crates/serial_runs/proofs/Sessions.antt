@@ -5,7 +5,7 @@ use Rattle.std.specs.List.{AllByRecursion, flat_map}
 use Rattle.std.specs.FinMap as finmap
 use Rattle.history.specs.declared.event.Kind.{Kind}
 use Rattle.history.specs.History.{History}
-use Rattle.history.specs.Alone.{single_store, AreOnMount}
+use Rattle.history.specs.Alone.{single_store, AreOnMount, IsOn}
 use Rattle.history.specs.Answers as body
 use Rattle.history.specs.Answers.{Body, Text, Answer}
 use Rattle.history.specs.Bound.{IsWithin}
@@ -23,7 +23,7 @@ use Rattle.history.proofs.Quiet.{HasQuiet, step_quiet}
 use Rattle.history.proofs.StepsKept.{step_keeps}
 use Rattle.history.proofs.StepsKnown.{AreKnown, step_known}
 use Rattle.history.proofs.Transactions.{all_with}
-use Rattle.serial_runs.specs.Attempts.{Attempt, wanting, AreShown, ends, blank, next, last}
+use Rattle.serial_runs.specs.Attempts.{Attempt, blames_store, wanting, AreShown, ends, blank, next, last}
 use Rattle.serial_runs.specs.Ends.{IsEnd}
 use Rattle.serial_runs.specs.Numbered.{is_commit_or_resize, is_fault, events_of, numbers_in, failed_in, opened_in, opened_by, events_in, told_by}
 use Rattle.serial_runs.specs.Runs.{ends_in_memory, IsLog}
@@ -32,25 +32,26 @@ use Rattle.serial_runs.proofs.Commits.{AreJoint}
 use Rattle.serial_runs.proofs.Numbers.{own_parts, chosen_in, chosen_in-append, numbers-append}
 use Rattle.serial_runs.proofs.Rows.{step_told, step_printed}
 
--- what lines and answers from some line on show, and that each attempt ends rightly
+-- what lines and answers from some line on show, that each attempt ends rightly, and that no answer blames the store
 record AreTold (history : History) (owner : ℕ) (names : Names) (t : Option Transaction) (line : ℕ) (lines : List (Option Line)) (answers : List Answer) : Type 0 where
   attempts : List Attempt
   shown : AreShown history owner names t line lines answers attempts
   right : AllByRecursion (λ (a : Attempt). IsEnd history owner a.transaction a.answer) attempts
+  sound : AllByRecursion (λ (a : Answer). blames_store a.body ≡ false) answers
 
 module _ (mount : Text) (owner : ℕ) (history : History) (legal : IsLegal finmap.empty history) (joint : AreJoint history) (on : AreOnMount mount history) where
-  run_told : {s last : SessionState} {line : ℕ} {lines : List (Option Line)} {answers : List Answer} (behind : List (Option Line)) → AllByRecursion IsWithin lines → AreKnown (take s.seen history) s.names s.transaction → HasTransaction finmap.empty (take s.seen history) s.transaction
+  run_told : {s last : SessionState} {line : ℕ} {lines : List (Option Line)} {answers : List Answer} (behind : List (Option Line)) → AllByRecursion (IsOn mount) lines → AllByRecursion IsWithin lines → AreKnown (take s.seen history) s.names s.transaction → HasTransaction finmap.empty (take s.seen history) s.transaction
       → HasQuiet owner s.seen history s.transaction → IsSessionRun (single_store mount) owner history s line lines answers last → AreTold history owner s.names (bare_of s.transaction) line (lines ++ behind) answers
-  run_told behind within known reads quiet no_line = record { attempts = []; shown = ends; right = tt }
-  run_told behind within known reads quiet (blank_line rest) =
-      let more = run_told behind within.1 known reads quiet rest in
-      record { attempts = more.attempts; shown = blank more.shown; right = more.right }
-  run_told behind within known reads quiet (next_line {s} {m} {last} {line} {asked} {answer} step goes_on rest) =
-      let here = step_told mount owner history legal joint on s line asked m answer step within.0 known reads quiet goes_on in
+  run_told behind lie within known reads quiet no_line = record { attempts = []; shown = ends; right = tt; sound = tt }
+  run_told behind lie within known reads quiet (blank_line rest) =
+      let more = run_told behind lie.1 within.1 known reads quiet rest in
+      record { attempts = more.attempts; shown = blank more.shown; right = more.right; sound = more.sound }
+  run_told behind lie within known reads quiet (next_line {s} {m} {last} {line} {asked} {answer} step goes_on rest) =
+      let here = step_told mount owner history legal joint on s line asked m answer step lie.0 within.0 known reads quiet goes_on in
       let more =
-      run_told behind within.1 (step_known (single_store mount) owner history s line asked m answer legal within.0 step known) (step_keeps (single_store mount) owner history s line asked m answer legal step reads) (step_quiet (single_store mount) owner history s line asked m answer step quiet) rest in
-      record { attempts = here.attempts ++ more.attempts; shown = next here.shown goes_on more.shown; right = all_with (λ (a : Attempt). IsEnd history owner a.transaction a.answer) here.attempts more.attempts here.ends more.right }
-  run_told behind within known reads quiet (last_line step) = record { attempts = []; shown = last wanting; right = tt }
+      run_told behind lie.1 within.1 (step_known (single_store mount) owner history s line asked m answer legal within.0 step known) (step_keeps (single_store mount) owner history s line asked m answer legal step reads) (step_quiet (single_store mount) owner history s line asked m answer step quiet) rest in
+      record { attempts = here.attempts ++ more.attempts; shown = next here.shown goes_on more.shown; right = all_with (λ (a : Attempt). IsEnd history owner a.transaction a.answer) here.attempts more.attempts here.ends more.right; sound = (here.sound, more.sound) }
+  run_told behind lie within known reads quiet (last_line step) = record { attempts = []; shown = last wanting; right = tt; sound = (refl, tt) }
 
   -- what a step adds, of the events of some kinds
   abbrev added : (Kind → Bool) → SessionState → SessionState → List ℕ
@@ -147,16 +148,16 @@ module _ (mount : Text) (owner : ℕ) (history : History) (legal : IsLegal finma
   all_free (a ∷ attempts) right = (free a right.0, all_free attempts right.1)
 
   -- a session's log shows serial transactions
-  pub session_serial : (script : List (Option Line)) (log : List Answer) → AllByRecursion IsWithin script → IsLog (single_store mount) history owner script log → IsSerialSession history owner script log
-  session_serial script log within is =
-      let ran_within = (all_parts_of within) in
-      let told = run_told is.left ran_within ((λ name view there. absurd (cc)), tt) tt tt is.run in
+  pub session_serial : (script : List (Option Line)) (log : List Answer) → AllByRecursion (IsOn mount) script → AllByRecursion IsWithin script → IsLog (single_store mount) history owner script log → IsSerialSession history owner script log
+  session_serial script log lie within is =
+      let told = run_told is.left (ran_of (IsOn mount) lie) (ran_of IsWithin within) ((λ name view there. absurd (cc)), tt) tt tt is.run in
       let openings = run_opened is.run in
       record {
         attempts = told.attempts;
         shown = subst (λ lines. AreShown history owner (λ name. None) None 1 lines log told.attempts) (sym is.parts) told.shown;
         ends = told.right;
         free = all_free told.attempts told.right;
+        sound = told.sound;
         printed = all_printed is_commit_or_resize numbers_in (λ s m line asked answer step. (step_printed mount owner history legal joint on s line asked m answer step).changes);
         failed = all_printed is_fault failed_in (λ s m line asked answer step. (step_printed mount owner history legal joint on s line asked m answer step).faults);
         unprinted = openings.unprinted;
@@ -170,9 +171,9 @@ module _ (mount : Text) (owner : ℕ) (history : History) (legal : IsLegal finma
           let by = flat_map (λ (a : Answer). prints a.body) log in
           sym (run_printed chosen prints each is.run ∙ ap (λ own. by ++ chosen_in chosen own) is.no_more ∙ append-nil by)
 
-      front_within : (xs ys : List (Option Line)) → AllByRecursion IsWithin (xs ++ ys) → AllByRecursion IsWithin xs
-      front_within [] ys all = tt
-      front_within (x ∷ xs) ys all = (all.0, front_within xs ys all.1)
+      front_of : (P : Option Line → Type 0) (xs ys : List (Option Line)) → AllByRecursion P (xs ++ ys) → AllByRecursion P xs
+      front_of P [] ys all = tt
+      front_of P (x ∷ xs) ys all = (all.0, front_of P xs ys all.1)
 
-      all_parts_of : AllByRecursion IsWithin script → AllByRecursion IsWithin is.ran
-      all_parts_of all = front_within is.ran is.left (subst (AllByRecursion IsWithin) is.parts all)
+      ran_of : (P : Option Line → Type 0) → AllByRecursion P script → AllByRecursion P is.ran
+      ran_of P all = front_of P is.ran is.left (subst (AllByRecursion P) is.parts all)

@@ -153,6 +153,10 @@ no_number s = let printed : ◌≡◌ {A = List ℕ} [] (3 ∷ []) = s.printed i
 pub other_opening : IsSerialSession events 1 writes_cell (record { line = 1; body = opened_body (codes "c") (at 1) (1 ∷ []) } ∷ record { line = 2; body = body.written 1 (3 ∷ []) } ∷ []) → ⊥
 other_opening s = let opened : ◌≡◌ {A = List ℕ} (1 ∷ s.unprinted) [] = s.opened in absurd (cc)
 
+-- or say that the store can't make its change together
+pub blames_it : IsSerialSession events 1 writes_cell (record { line = 1; body = opened_body (codes "c") (at 1) [] } ∷ record { line = 2; body = body.not_atomic 2 } ∷ []) → ⊥
+blames_it s = let sound : true ≡ false = s.sound.1.0 in absurd (cc)
+
 -- nor is a log whole that leaves a line unanswered, and none goes on behind want of memory
 pub no_answer : ¬ IsWholeLog writes_cell (record { line = 1; body = opened_body (codes "c") (at 1) [] } ∷ [])
 no_answer (inl same) = let clash : ◌≡◌ {A = ℕ} 1 2 = same in absurd (cc)

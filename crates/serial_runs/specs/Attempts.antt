@@ -42,7 +42,7 @@ is_ok (body.resized event) = true
 is_ok (body.resolved name dtype transform) = true
 is_ok answer = false
 
--- an open is refused or fails so, having opened some of its leaves
+-- an open is refused or fails so, having opened some of its leaves: over a store that starts empty no metadata is bad
 abbrev pub is_open_refusal : Body → Bool
 is_open_refusal (body.bad_spec path (Some events)) = true
 is_open_refusal (body.refused_spec path cause events) = true
@@ -50,7 +50,6 @@ is_open_refusal (body.not_found at path events) = true
 is_open_refusal (body.exists at path events) = true
 is_open_refusal (body.path_taken at path events) = true
 is_open_refusal (body.mismatch at member path events) = true
-is_open_refusal (body.bad_metadata key why events) = true
 is_open_refusal (body.store_failed event [] (Some events)) = true
 is_open_refusal answer = false
 
@@ -60,12 +59,18 @@ is_read_refusal (body.shrunk key now) = true
 is_read_refusal (body.store_failed event [] None) = true
 is_read_refusal answer = false
 
--- a resize is refused or fails so
+-- a resize is refused or fails so: a store that makes all changes together refuses none for the number of its keys
 abbrev pub is_resize_refusal : Body → Bool
-is_resize_refusal (body.not_atomic keys) = true
 is_resize_refusal (body.too_many_chunks at) = true
 is_resize_refusal (body.store_failed event [] None) = true
 is_resize_refusal answer = false
+
+-- the answer says that the store can't make changes together, or that it holds bytes which are no chunk or no metadata
+abbrev pub blames_store : Body → Bool
+blames_store (body.not_atomic keys) = true
+blames_store (body.damaged key cause) = true
+blames_store (body.bad_metadata key why events) = true
+blames_store answer = false
 
 -- a resolve is refused so
 abbrev pub is_resolve_refusal : Body → Bool

@@ -9,7 +9,7 @@ use Rattle.history.specs.Answers as body
 use Rattle.history.specs.Answers.{Body, Answer}
 use Rattle.history.specs.Commit.{Key, is_write}
 use Rattle.history.specs.Own.{numbers_of, own_events}
-use Rattle.serial_runs.specs.Attempts.{Attempt, AreShown}
+use Rattle.serial_runs.specs.Attempts.{Attempt, blames_store, AreShown}
 use Rattle.serial_runs.specs.Ends.{IsEnd}
 use Rattle.serial_runs.specs.Held.{HoldsArrays}
 use Rattle.serial_runs.specs.Numbered.{changes_of, printed_by, faults_of, failed_by, openings_of, opened_by, told_by}
@@ -30,6 +30,8 @@ pub record IsSerialSession (history : History) (owner : ℕ) (script : Script) (
   pub ends : AllByRecursion (λ (a : Attempt). IsEnd history owner a.transaction a.answer) attempts
   -- so one that only wrote is refused by shrinking, a failed store or want of memory alone
   pub free : AllByRecursion IsFreeIfOnlyWrites attempts
+  -- and no answer is that changes can't be made together, that a chunk is damaged, or that metadata is bad
+  pub sound : AllByRecursion (λ (a : Answer). blames_store a.body ≡ false) log
   -- the numbers that its log prints for commits and resizes are those of its commits and resizes in the history, in order
   pub printed : printed_by log ≡ changes_of owner history
   -- those that it prints for failed store calls are those of its failed calls in the history, in order
