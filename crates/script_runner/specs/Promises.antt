@@ -61,7 +61,8 @@ pub record IsSingleOutcome (mount script : List ℕ) (outcome : Outcome) : Type 
 -- SERIAL TRANSACTIONS. The scripts ran in sessions of their own, and the logs are printed ones of these sessions. Each committed transaction whose
 -- reads are repeatable printed what one thread reads from plain arrays when commits and resizes run in printed order, and the store holds exactly these
 -- arrays in the end. A conflict names a chunk that was read, and a later commit or resize of another session that touched it. A transaction that only wrote
--- is refused by a resize, a failed store or want of memory alone
+-- is refused by a resize, a failed store or want of memory alone. No answer is that changes can't be made together, that a chunk is damaged or that metadata
+-- is bad
 pub record IsSerialOutcome (contents : Option Contents) (words : List (List ℕ)) (old new : List Part) (outcome : Outcome) : Type 0 where
   pub scripts : List (List ℕ)
   pub asked : AreAskedFor contents words scripts

@@ -4,6 +4,7 @@ pub mod Fresh
 pub mod Kept
 pub mod Logs
 pub mod Mounts
+pub mod Joined
 pub mod Sends
 pub mod Worked
 pub mod NamesCopied

@@ -6,6 +6,7 @@ use Rattle.std.specs.FinMap as finmap
 use Rattle.answer_text.specs.declared.answer.Answer.{Answer}
 use Rattle.history.specs.Alone.{single_store}
 use Rattle.history.specs.Answers as plain
+use Rattle.history.specs.Commit.{Key, are_together}
 use Rattle.history.specs.Counting.{IsCounted}
 use Rattle.history.specs.Lines.{Line}
 use Rattle.kv_face.specs.Store.{Contents}
@@ -20,9 +21,10 @@ use Rattle.session_workers.proofs.Alone.{alone_where, alone_run}
 use Rattle.session_workers.proofs.Finishing.{names_stay, union_stays, prefixes_stay, count_stays, counts_rise, counts_sum, faults_rise, listed_rise, all_closed}
 use Rattle.serial_runs.specs.Runs.{IsRunOf, AreLogs, AreOfMount}
 use Rattle.serial_runs.specs.Serial.{IsSerial}
-use Rattle.serial_runs.proofs.Laws.{serial}
+use Rattle.serial_runs.proofs.Laws.{logs_foreign, run_alike, serial}
 use Rattle.session_workers.specs.Workers.{AreSessionLogs, AreWhole, asked_by, numbers_from}
 use Rattle.session_workers.specs.Runs.{ArePrinted}
+use Rattle.session_workers.proofs.Joined.{joined}
 use Rattle.session_workers.proofs.Logs.{run_logs}
 use Rattle.session_workers.proofs.Mounts.{of_mount}
 use Rattle.state_laws.specs.Agreement.{Opening, Agrees, IsTrueTo, is_fault}
@@ -102,7 +104,14 @@ module _ (scripts : List (List ℕ)) (old mid new : List Part) (limit : ℕ) (lo
   printed_run start is =
       let printed : ArePrinted (fixed_over old start) (names_of old) scripts log.events logs = run_logs (opening_over old limit) start is (names_of old) scripts log.events logs ended in
       let holds = agrees.holds start is in
-      record { answers = printed.answers; printed = printed.printed; run = run_of start holds printed; store = holds.contents; still = union_stays mid new finished ∙ holds.told }
+      record {
+        answers = printed.answers;
+        printed = printed.printed;
+        run = run_of start holds printed;
+        foreign = logs_foreign (fixed_over old start) log.events (map (asked_by (names_of old)) scripts) printed.answers holds.legal printed.are;
+        store = holds.contents;
+        still = union_stays mid new finished ∙ holds.told;
+      }
 
   module _ (empty : IsEmptyMount old) where
     union_empty : union_of old ≡ Some finmap.empty
@@ -111,11 +120,9 @@ module _ (scripts : List (List ℕ)) (old mid new : List Part) (limit : ℕ) (lo
         by : (contents : Option Contents) → contents ≡ Some finmap.empty → union_of (record empty.part { contents = contents } ∷ []) ≡ Some finmap.empty
         by contents e = ap (λ c. union_of (record empty.part { contents = c } ∷ [])) e ∙ ap (λ es. Some (finmap.from_entries (map (λ (x : List ℕ × List ℕ). (below empty.part.name x.0, x.1)) es ++ []))) (no_entries finmap.empty refl)
 
-    prefixes_one : prefixes_of old ≡ (empty.part.name ++ 47 ∷ []) ∷ []
-    prefixes_one = ap prefixes_of empty.alone ∙ ap (λ ks. map (λ k. empty.part.name ++ 47 ∷ k) ks ++ []) empty.together
-
-    fixed_one : fixed_over old finmap.empty ≡ single_store empty.part.name
-    fixed_one = ap (λ ps. record { start = finmap.empty; prefixes = ps }) prefixes_one
+    -- the same keys go together as over the one mount
+    same_keys : (keys : List Key) → are_together (prefixes_of old) keys ≡ are_together ((empty.part.name ++ 47 ∷ []) ∷ []) keys
+    same_keys keys = ap (λ ps. are_together (prefixes_of ps) keys) empty.alone ∙ joined empty.part.name keys empty.part.prefixes empty.together
 
     names_one : names_of old ≡ empty.part.name ∷ []
     names_one = ap names_of empty.alone
@@ -132,7 +139,7 @@ module _ (scripts : List (List ℕ)) (old mid new : List Part) (limit : ℕ) (lo
     -- as a run over the one mount
     of_one : IsRunOf (single_store empty.part.name) (map (asked_by (empty.part.name ∷ [])) scripts) log.events as_printed.answers (Some held.contents) (change_count_of old) (change_count_of new)
     of_one =
-        subst (λ f. IsRunOf f (map (asked_by (empty.part.name ∷ [])) scripts) log.events as_printed.answers (Some held.contents) (change_count_of old) (change_count_of new)) fixed_one
+        run_alike finmap.empty (prefixes_of old) ((empty.part.name ++ 47 ∷ []) ∷ []) same_keys (map (asked_by (empty.part.name ∷ [])) scripts) log.events as_printed.answers (Some held.contents) (change_count_of old) (change_count_of new)
         (subst (λ ns. IsRunOf (fixed_over old finmap.empty) (map (asked_by ns) scripts) log.events as_printed.answers (Some held.contents) (change_count_of old) (change_count_of new)) names_one
         (subst (λ c. IsRunOf (fixed_over old finmap.empty) (map (asked_by (names_of old)) scripts) log.events as_printed.answers c (change_count_of old) (change_count_of new)) told_now as_printed.run))
 
