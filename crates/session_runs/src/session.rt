@@ -53,7 +53,7 @@ impl<K: KvStore> Session<K> {
     /// answer is added to the log, and no turn is held at return. Where the answer is want of memory the session has ended.
     ///
     /// # Errors
-    /// There was no memory for the answer: none is added, nothing is done, and the session has ended.
+    /// There was no memory for the answer: none is added, nothing is done, and the session has ended. It is else as it was.
     pub fn step<R: Wait, G: Gate>(
         &mut self,
         alloc: Global,
@@ -80,6 +80,8 @@ impl<K: KvStore> Session<K> {
         ensures on { self.new.ended ≡ false → MayGoOn book.now self.new.pass (get_by_text self.new.names) self.new.txn }
         ensures ended { OnErr result (self.new.ended ≡ true) }
         ensures same { OnErr result ((self.new.pass ≡ self.old.pass) × (self.new.log.items ≡ self.old.log.items)) }
+        ensures names { OnErr result (get_by_text self.new.names ≡ get_by_text self.old.names) }
+        ensures txn { OnErr result (self.new.txn ≡ self.old.txn) }
     {
         if self.log.reserve(1).is_err() {
             self.ended = true;
