@@ -1,0 +1,32 @@
+use crate::args::{items_at, text_or_none};
+use crate::fault::Fault;
+use crate::judging::judged;
+use crate::texts::{bytes_of, scripts_of};
+use cells::List;
+use json_forms::parse;
+use serde_json::Value;
+use std::alloc::{AllocError, Global};
+
+/// What the first steps of a check tell of a line's transcript; `no case` where it has none.
+pub(crate) fn answer(alloc: Global, line: &str) -> Result<String, AllocError> {
+    match told(alloc, line) {
+        Ok(text) => Ok(text),
+        Err(Fault::Line) => String::from_str(alloc, "no case"),
+        Err(Fault::Memory) => Err(AllocError),
+    }
+}
+
+fn told(alloc: Global, line: &str) -> Result<String, Fault> {
+    let v = parse(alloc, line.as_bytes())?;
+    of_value(alloc, &v)
+}
+
+fn of_value(alloc: Global, v: &Value) -> Result<String, Fault> {
+    let scripts = scripts_of(alloc, items_at(v, "scripts")?)?;
+    of_scripts(alloc, v, &scripts)
+}
+
+fn of_scripts(alloc: Global, v: &Value, scripts: &[List<u8>]) -> Result<String, Fault> {
+    let transcript = bytes_of(alloc, items_at(v, "transcript")?, text_or_none(v, "rest")?)?;
+    judged(alloc, scripts, &transcript)
+}

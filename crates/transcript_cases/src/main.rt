@@ -1,0 +1,21 @@
+//! `transcript_cases`: each line of stdin has scripts and a transcript, each line of stdout what the first steps of a check tell of them.
+//!
+//! The lines stand in the file `stdin` and what they must give in `stdout`, worked out by hand.
+#![tactic(auto)]
+
+mod args;
+mod cases;
+mod fault;
+mod judging;
+mod texts;
+
+use cases::answer;
+use std::io;
+
+fn main(rt: HostRuntime) -> io::Result<()> {
+    for line in rt.lines(rt.alloc()) {
+        let text = answer(rt.alloc(), line?.as_str())?;
+        println!(rt; "{text}")?;
+    }
+    Ok(())
+}

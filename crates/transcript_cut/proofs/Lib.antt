@@ -1,0 +1,13 @@
+pub mod Lines
+pub mod ScriptLines
+pub mod Behind
+pub mod Bytes
+pub mod Values
+pub mod Fronts
+pub mod Cuts
+pub mod Checked
+pub mod Rising
+pub mod Slots
+pub mod Numbered
+pub mod Sessions
+pub mod Laws

@@ -1,0 +1,7 @@
+use Rattle.std.proofs.Common.{◌≡◌, drop}
+use Rattle.answer_data.specs.Lines.{outside, is_compact}
+use Rattle.transcript_cut.specs.Readings.{reading_of}
+use Rattle.transcript_cut.proofs.compact.is_compact.Given as goal
+
+abbrev pub invariant-loop-byte : goal.invariant-loop-byte
+invariant-loop-byte l = is_compact (reading_of l.reading) (drop l.byte-index l.bytes) ≡ is_compact outside l.bytes

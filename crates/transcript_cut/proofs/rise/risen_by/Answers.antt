@@ -1,0 +1,10 @@
+use Rattle.std.proofs.Common.{◌++◌}
+use Rattle.transcript_laws.specs.Numbers.{single}
+use Rattle.transcript_cut.proofs.Rising.{rises_both, first_stops}
+use Rattle.transcript_cut.proofs.rise.risen_by.Goals as goal
+
+pub returns-in-Up : goal.returns-in-Up
+returns-in-Up c = rises_both c.args.last c.in-Up.last c.args.numbers.now.opened (c.args.numbers.now.done ++ single c.args.numbers.now.failed) c.risen_behind.result c.in-Up.ensures c.risen_behind.ensures
+
+pub returns-in-Down : goal.returns-in-Down
+returns-in-Down c = first_stops c.args.last c.args.numbers.now.opened (c.args.numbers.now.done ++ single c.args.numbers.now.failed) c.in-Down.ensures

@@ -1,0 +1,12 @@
+pub mod LineEnds
+pub mod Spans
+pub mod Cursors
+pub mod Readings
+pub mod Numbers
+pub mod Judged
+pub mod Fronts
+pub mod Said
+pub mod Cuttings
+pub mod Numbered
+pub mod Slots
+pub mod Risen

@@ -1,0 +1,15 @@
+-- The numbers of events of an answer.
+use Rattle.std.specs.Prelude.{◌≡◌, ℕ, List, ◌++◌}
+use Rattle.serde_json.specs.Data.{Data}
+use Rattle.transcript_laws.specs.Numbers.{opened_in, done_in, failed_in, single}
+use Rattle.transcript_cut.specs.declared.numbers.EventNumbers.{EventNumbers}
+
+-- the answer prints these numbers and no others
+pub record PrintsNumbers (answer : Data) (numbers : EventNumbers) : Type 0 where
+  pub opened : opened_in answer ≡ numbers.opened
+  pub done : done_in answer ≡ numbers.done
+  pub failed : failed_in answer ≡ single numbers.failed
+
+-- all of them, in the order in which a line adds its events
+abbrev pub all_numbers : EventNumbers → List ℕ
+all_numbers numbers = numbers.opened ++ (numbers.done ++ single numbers.failed)

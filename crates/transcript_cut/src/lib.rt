@@ -1,0 +1,24 @@
+//! A transcript cut into the answers to the lines of its scripts, and the numbers of events that these print.
+//!
+//! A checker of transcripts begins here. `first_unchecked` finds the first line that isn't checked, `cut` gives each line its answer, and
+//! `number_events` the line of each event. Others rest on three definitions of `transcript_laws`: `IsFirstUnchecked`, `IsCut` with `IsCutOff`,
+//! and `AreNumbered`.
+#![tactic(auto)]
+
+mod answers;
+mod compact;
+mod cursor;
+mod cutting;
+mod line_end;
+mod numbering;
+mod numbers;
+mod rise;
+mod said;
+mod spots;
+mod unchecked;
+
+pub use cutting::{Cutting, cut};
+pub use numbering::number_events;
+pub use numbers::EventNumbers;
+pub use said::{AskedLine, Said, Span};
+pub use unchecked::first_unchecked;

@@ -1,0 +1,24 @@
+use crate::numbers::EventNumbers;
+
+/// Bytes of a text: from the first up to, and without, the last.
+#[derive(Clone, Copy, Debug, PartialEq, Eq)]
+pub struct Span {
+    pub from: usize,
+    pub upto: usize,
+}
+
+/// A line of a script that isn't blank: its session, its number in the script, counted from 1, and where it stands there.
+#[derive(Clone, Copy, Debug, PartialEq, Eq)]
+pub struct AskedLine {
+    pub session: u32,
+    pub number: u64,
+    pub bytes: Span,
+}
+
+/// What a transcript has for a line: where the answer stands, with its LF, and the numbers of events that it prints.
+#[derive(Debug, Drop)]
+pub struct Said {
+    pub line: AskedLine,
+    pub text: Span,
+    pub numbers: EventNumbers,
+}
