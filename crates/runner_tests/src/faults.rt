@@ -78,12 +78,24 @@ const NOT_COMMITTED: &str = r#"status 1, unfinished [], events 3
 {"line":3,"no_transaction":true}
 Some([0, 0, 0, 0, 6, 0, 0, 0])"#;
 
-// The first session asks for the metadata and makes it; the other's write asks for the chunk and makes it; the commit does so again.
+// Both are done: what session 1's write left of the chunk is kept, so session 0's commit asks for nothing.
+const BOTH_DONE: &str = r#"status 1, unfinished [], events 3
+{"domain":{"exclusive_max":[[2]],"inclusive_min":[0]},"dtype":"int32","events":[1],"line":1,"open":"a"}
+{"begin":true,"line":2}
+{"line":3,"write":1}
+{"line":4,"origin":[],"values":5}
+{"commit":[3],"line":5}
+{"domain":{"exclusive_max":[[2]],"inclusive_min":[0]},"dtype":"int32","events":[],"line":1,"open":"a"}
+{"commit":[2],"line":2,"write":1}
+{"line":3,"no_transaction":true}
+Some([5, 0, 0, 0, 6, 0, 0, 0])"#;
+
+// The first session asks for the metadata and makes it; the other's write asks for the chunk and makes it; the commit makes it again.
 #[test]
 fn each_get_of_two_sessions_fails_once(rt: HostRuntime) -> Result<(), Fail> {
     assert!(rt; failed(&rt, rt.alloc(), 1, 0)?.as_str() == NOT_OPENED);
     assert!(rt; failed(&rt, rt.alloc(), 2, 0)?.as_str() == NOT_WRITTEN);
-    assert!(rt; failed(&rt, rt.alloc(), 3, 0)?.as_str() == NOT_COMMITTED);
+    assert!(rt; failed(&rt, rt.alloc(), 3, 0)?.as_str() == BOTH_DONE);
     Ok(())
 }
 
