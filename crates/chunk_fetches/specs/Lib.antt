@@ -12,3 +12,12 @@ pub use Rattle.shared_state.specs.Fetches
 pub use Rattle.shared_state.specs.Log
 pub use Rattle.shared_state.specs.Outline
 pub use Rattle.shared_state.specs.Seen
+pub use Rattle.transaction_cells.specs.Found
+pub use Rattle.transaction_cells.specs.Gathered
+pub use Rattle.transaction_cells.specs.Lanes
+pub use Rattle.transaction_cells.specs.Needs
+pub use Rattle.transaction_cells.specs.Operations
+pub use Rattle.transaction_cells.specs.Outside
+pub use Rattle.transaction_cells.specs.Pieces
+pub use Rattle.transaction_cells.specs.Sites
+pub use Rattle.transaction_cells.specs.Staging

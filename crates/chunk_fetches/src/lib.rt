@@ -21,3 +21,4 @@ pub use kept::Kept;
 pub use looking::{array_in, index_in};
 pub use shared_state::{Bounds, State};
 pub use source::Source;
+pub use transaction_cells::{Piece, Staging, ViewCells, locate};

@@ -1,18 +1,13 @@
 -- What crates above rest on. Each law with what it says; where it stands, it has its premises.
 
 -- what is left of a stored chunk is what is kept of it behind the commit, and its cells are the chunk then
-pub use Rattle.chunk_plans.proofs.Kept.{right_of_left}
+pub use Rattle.chunk_plans.proofs.Kept.{chunk_told, fill_told, held_longer, held_snapshot, kept_of_bytes, left_longer, right_of_left, shape_told}
 -- the cells of a local array are its chunk behind the commit
-pub use Rattle.chunk_plans.proofs.Kept.{held_snapshot}
 -- both stay right while no event touches the chunk
-pub use Rattle.chunk_plans.proofs.Kept.{left_longer, held_longer}
 -- words that are staged by an array's form, as a state tells it, are a write
-pub use Rattle.chunk_plans.proofs.Forms.{write_by_form}
+pub use Rattle.chunk_plans.proofs.Forms.{dtype_told, kept_as, valid_chunks, valid_ranks, write_by_form}
 -- the bytes of a stored chunk's words are what is kept of it
-pub use Rattle.chunk_plans.proofs.Kept.{kept_of_bytes}
 -- what the form of a stored array, with some shape, says of the array
-pub use Rattle.chunk_plans.proofs.Kept.{shape_told, chunk_told, fill_told}
-pub use Rattle.chunk_plans.proofs.Forms.{dtype_told, kept_as, valid_chunks, valid_ranks}
 -- what is laid of a chunk that reaches into its array's shape may be written, and its bytes are what is left of it
 pub use Rattle.chunk_plans.proofs.LeftLaws.{IsLaidBy, laid_of, may_write, is_left}
 -- a chunk that was fetched changes the cache alone
@@ -27,3 +22,4 @@ pub use Rattle.chunk_plans.proofs.UnderLaws.{may_ready}
 pub use Rattle.chunk_plans.proofs.SortLaws.{rising_sorted}
 -- laws of crates below, given on to those above
 pub use Rattle.chunk_laying.proofs.Laws.{IsStagedBy, snapshot_of_cut}
+pub use Rattle.shared_state.proofs.Laws.{array_at-outline, form_fill, frame_same, frame_then, good_in, known-outline, read_then, taken_shape, takes_chunk, together-keys}

@@ -10,3 +10,15 @@ pub mod Sorting
 -- names of crates below, given on to those above
 pub use Rattle.chunk_laying.specs.Laid
 pub use Rattle.chunk_laying.specs.Resized
+pub use Rattle.shared_state.specs.Agreement
+pub use Rattle.shared_state.specs.Changing
+pub use Rattle.shared_state.specs.Fetches
+pub use Rattle.shared_state.specs.Kept
+pub use Rattle.shared_state.specs.Log
+pub use Rattle.shared_state.specs.Looks
+pub use Rattle.shared_state.specs.Outline
+pub use Rattle.shared_state.specs.Recorded
+pub use Rattle.shared_state.specs.Seen
+pub use Rattle.shared_state.specs.Homes
+pub use Rattle.shared_state.specs.Opening
+pub use Rattle.shared_state.specs.Openings

@@ -24,6 +24,9 @@ pub use mark::Mark;
 pub use plan::{Left, Planned};
 pub use planning::plan_write;
 pub use readying::write_of;
-pub use shared_state::{ChangeError, Deed, FetchError, HeldCells, NewShape, State};
+pub use shared_state::{
+    Bounds, ChangeError, Commit, Deed, FetchError, HeldCells, MetaCause, NewShape, OpenError,
+    Opened, State, metadata_change,
+};
 pub use sorting::{sort_marks, sort_writes};
 pub use write::{ChunkWrite, Ready};

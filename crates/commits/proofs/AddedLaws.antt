@@ -7,8 +7,8 @@ use Rattle.history.specs.Own.{fault}
 use Rattle.history.specs.Sessions.{new_transaction}
 use Rattle.history.specs.declared.event.Event.{Event}
 use Rattle.history.specs.declared.event.Op.{Op}
-use Rattle.state_laws.specs.Log.{Log}
-use Rattle.state_laws.specs.Seen.{StoreSeen}
+use Rattle.chunk_plans.specs.Log.{Log}
+use Rattle.chunk_plans.specs.Seen.{StoreSeen}
 use Rattle.commits.specs.Answers.{IsTold, MayAdd, all_of}
 use Rattle.commits.specs.Prepared.{write_keys}
 use Rattle.commits.specs.declared.prepared.Prepared.{Prepared}

@@ -10,9 +10,9 @@ use Rattle.history.specs.Arrays.{Known, known_after}
 use Rattle.history.specs.Commit.{Key, is_write}
 use Rattle.history.specs.Sessions.{new_transaction}
 use Rattle.history.proofs.Laws.{done_each_legal}
-use Rattle.state_laws.specs.Agreement.{Opening, Agrees}
-use Rattle.state_laws.specs.Log.{Log}
-use Rattle.state_laws.specs.Seen.{StoreSeen}
+use Rattle.chunk_plans.specs.Agreement.{Opening, Agrees}
+use Rattle.chunk_plans.specs.Log.{Log}
+use Rattle.chunk_plans.specs.Seen.{StoreSeen}
 use Rattle.chunk_plans.specs.declared.plan.Planned.{Planned}
 use Rattle.commits.specs.Plans.{keys_of}
 use Rattle.chunk_plans.specs.declared.write.ChunkWrite.{ChunkWrite}

@@ -10,7 +10,7 @@ use Rattle.history.specs.Commit.{Key, changed_keys, in_order, is_before, stored_
 use Rattle.history.specs.Counting.{is_stored}
 use Rattle.history.specs.Writes.{Put, puts_of}
 use Rattle.history.proofs.Laws.{chunk_array, same_chunks, some_inj}
-use Rattle.state_laws.specs.Changing.{IsOneOf}
+use Rattle.chunk_plans.specs.Changing.{IsOneOf}
 use Rattle.chunk_plans.specs.declared.write.ChunkWrite.{ChunkWrite}
 use Rattle.chunk_plans.specs.Writes.{chunk_of_write}
 use Rattle.commits.specs.Prepared.{AreWrites, HasWrite, IsPutAmong, IsStagedWrite, write_keys}

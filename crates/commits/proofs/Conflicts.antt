@@ -11,7 +11,7 @@ use Rattle.history.specs.Legal.{IsLegal}
 use Rattle.history.specs.Staged.{IsTransaction}
 use Rattle.history.specs.Touch.{generation_of}
 use Rattle.history.proofs.Laws.{generation_by_table, never_itself, no_conflict_of_none, one_key, other_way}
-use Rattle.state_laws.specs.Log.{Log}
+use Rattle.chunk_plans.specs.Log.{Log}
 use Rattle.commits.specs.declared.late.Late.{Late}
 use Rattle.chunk_plans.specs.declared.mark.Mark.{Mark}
 use Rattle.commits.specs.Late.{IsFirstLate, IsGenerationIn, IsLate, IsStill}

@@ -24,9 +24,9 @@ use Rattle.history.specs.Snapshots.{IsSnapshotOf, chunk_box}
 use Rattle.history.specs.Writes.{Put, puts_of}
 use Rattle.history.proofs.Laws.{ArePositive, chunk_array, chunk_index-in_array, good_positive, good_rank, known_good, never_itself, no_word_of_damaged, other_way, same_chunks, some_inj}
 use Rattle.chunk_plans.specs.Laid as laid
-use Rattle.state_laws.specs.Agreement.{Opening, Agrees}
-use Rattle.state_laws.specs.Log.{Log}
-use Rattle.state_laws.specs.Seen.{StoreSeen}
+use Rattle.chunk_plans.specs.Agreement.{Opening, Agrees}
+use Rattle.chunk_plans.specs.Log.{Log}
+use Rattle.chunk_plans.specs.Seen.{StoreSeen}
 use Rattle.chunk_plans.specs.declared.plan.Left.{Left}
 use Rattle.chunk_plans.specs.declared.plan.Left.TheVariants.{Stored, Held}
 use Rattle.chunk_plans.specs.declared.plan.Planned.{Planned}

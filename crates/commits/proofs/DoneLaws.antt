@@ -12,11 +12,11 @@ use Rattle.history.specs.declared.event.Op.{Op}
 use Rattle.history.specs.History.{History}
 use Rattle.history.specs.Commit.{is_write}
 use Rattle.history.specs.Own.{numbered, numbers_of}
-use Rattle.state_laws.specs.declared.deed.ChangeError.{ChangeError}
-use Rattle.state_laws.specs.declared.deed.ChangeError.TheVariants as change
-use Rattle.state_laws.specs.Agreement.{Opening, Agrees}
-use Rattle.state_laws.specs.Log.{Log}
-use Rattle.state_laws.specs.Seen.{StoreSeen}
+use Rattle.chunk_plans.specs.declared.ChangeError.{ChangeError}
+use Rattle.chunk_plans.specs.declared.ChangeError.TheVariants as change
+use Rattle.chunk_plans.specs.Agreement.{Opening, Agrees}
+use Rattle.chunk_plans.specs.Log.{Log}
+use Rattle.chunk_plans.specs.Seen.{StoreSeen}
 use Rattle.chunk_plans.specs.declared.plan.Planned.{Planned}
 use Rattle.commits.specs.Plans.{keys_of}
 use Rattle.commits.specs.declared.refused.CommitRefused.{CommitRefused}

@@ -24,9 +24,9 @@ use Rattle.history.specs.Sessions.{new_transaction}
 use Rattle.history.specs.Touch.{is_key, touches}
 use Rattle.history.specs.Writes.{Put, puts_of, puts_of_op, put}
 use Rattle.history.proofs.Laws.{IsLegal-front, generation_untouched, known_after-more, known_good, legal_step, length-more, local_shape, one_key, some_inj}
-use Rattle.state_laws.specs.Log.{Log}
-use Rattle.state_laws.specs.Outline.{outline}
-use Rattle.state_laws.proofs.Laws.{known-outline}
+use Rattle.chunk_plans.specs.Log.{Log}
+use Rattle.chunk_plans.specs.Outline.{outline}
+use Rattle.chunk_plans.proofs.Laws.{known-outline}
 use Rattle.chunk_plans.specs.declared.plan.Left.{Left}
 use Rattle.chunk_plans.specs.declared.plan.Left.TheVariants.{Stored, Held}
 use Rattle.chunk_plans.specs.declared.plan.Planned.{Planned}

@@ -7,10 +7,10 @@ use Rattle.chunk_forms.specs.Metadata.{shape_of, chunk_shape_of, with_shape}
 use Rattle.history.specs.History.{History}
 use Rattle.history.specs.Arrays.{Known, form_of, is_local, chunk_shape}
 use Rattle.chunk_plans.specs.Laid.{IsChunkOf, IsStagedWithin}
-use Rattle.state_laws.specs.Agreement.{IsState}
-use Rattle.state_laws.specs.Log.{Log}
-use Rattle.state_laws.specs.Seen.{StoreSeen}
-use Rattle.state_laws.proofs.Laws.{good_in}
+use Rattle.chunk_plans.specs.Agreement.{IsState}
+use Rattle.chunk_plans.specs.Log.{Log}
+use Rattle.chunk_plans.specs.Seen.{StoreSeen}
+use Rattle.chunk_plans.proofs.Laws.{good_in}
 use Rattle.chunk_plans.specs.declared.write.ChunkWrite.{ChunkWrite}
 use Rattle.chunk_plans.proofs.Laws.{chunk_told, shape_told, valid_chunks, valid_ranks}
 use Rattle.commits.specs.declared.outside.Outside.{Outside}

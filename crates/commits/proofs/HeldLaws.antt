@@ -16,17 +16,17 @@ use Rattle.history.specs.Arrays.{Known, known_after, is_local, chunk_shape}
 use Rattle.history.specs.Chunks.{Chunk, IsIndexOf, AreStarts, IsWholeIfLocal, chunk_key}
 use Rattle.history.specs.Touch.{touches}
 use Rattle.history.proofs.Laws.{some_inj}
-use Rattle.state_laws.specs.Recorded.{done_event}
-use Rattle.state_laws.specs.declared.deed.Deed.{Deed}
-use Rattle.state_laws.specs.declared.deed.HeldCells.{HeldCells}
-use Rattle.state_laws.specs.Seen.{StoreSeen}
-use Rattle.state_laws.specs.Agreement.{Opening, Agrees}
+use Rattle.chunk_plans.specs.Recorded.{done_event}
+use Rattle.chunk_plans.specs.declared.Deed.{Deed}
+use Rattle.chunk_plans.specs.declared.HeldCells.{HeldCells}
+use Rattle.chunk_plans.specs.Seen.{StoreSeen}
+use Rattle.chunk_plans.specs.Agreement.{Opening, Agrees}
 use Rattle.history.specs.Counting.{is_change}
 use Rattle.history.specs.Legal.{IsLegalDone}
 use Rattle.history.specs.declared.event.Kind.TheVariants.{Done}
-use Rattle.state_laws.specs.Changing.{AreTouched, IsDeed, IsRightBy, IsHeldAnew, IsHeldStill, committed, with_cells}
-use Rattle.state_laws.specs.Kept.{AreCellsOf, IsCurrent}
-use Rattle.state_laws.specs.Log.{Log, cells_held}
+use Rattle.chunk_plans.specs.Changing.{AreTouched, IsDeed, IsRightBy, IsHeldAnew, IsHeldStill, committed, with_cells}
+use Rattle.chunk_plans.specs.Kept.{AreCellsOf, IsCurrent}
+use Rattle.chunk_plans.specs.Log.{Log, cells_held}
 use Rattle.chunk_plans.specs.declared.plan.Left.{Left}
 use Rattle.chunk_plans.specs.declared.plan.Left.TheVariants.{Stored, Held}
 use Rattle.chunk_plans.specs.declared.plan.Planned.{Planned}

@@ -9,13 +9,13 @@ use Rattle.history.specs.declared.event.Kind.TheVariants.{Done}
 use Rattle.history.specs.Commit.{are_together}
 use Rattle.history.specs.Counting.{is_change}
 use Rattle.history.specs.Legal.{IsLegalDone}
-use Rattle.state_laws.specs.declared.commit.Commit.{Commit}
-use Rattle.state_laws.specs.Recorded.{done_event}
-use Rattle.state_laws.specs.Agreement.{Opening, Agrees, IsState}
-use Rattle.state_laws.specs.Changing.{AreMade}
-use Rattle.state_laws.specs.Log.{Log}
-use Rattle.state_laws.specs.Seen.{IsRead, StoreSeen}
-use Rattle.state_laws.proofs.Laws.{together-keys}
+use Rattle.chunk_plans.specs.declared.Commit.{Commit}
+use Rattle.chunk_plans.specs.Recorded.{done_event}
+use Rattle.chunk_plans.specs.Agreement.{Opening, Agrees, IsState}
+use Rattle.chunk_plans.specs.Changing.{AreMade}
+use Rattle.chunk_plans.specs.Log.{Log}
+use Rattle.chunk_plans.specs.Seen.{IsRead, StoreSeen}
+use Rattle.chunk_plans.proofs.Laws.{together-keys}
 use Rattle.chunk_plans.specs.declared.plan.Planned.{Planned}
 use Rattle.commits.specs.Plans.{ArePlans, AreRightBy, changes_of}
 use Rattle.chunk_plans.specs.declared.write.ChunkWrite.{ChunkWrite}

@@ -11,10 +11,10 @@ use Rattle.history.specs.Chunks.{Chunk, IsIndexOf, chunk_key}
 use Rattle.history.specs.Stored.{with_event}
 use Rattle.history.specs.Touch.{generation_of}
 use Rattle.history.proofs.Laws.{some_inj}
-use Rattle.state_laws.specs.Agreement.{Opening}
-use Rattle.state_laws.specs.Fetches.{IsChunkOf, settled}
-use Rattle.state_laws.specs.Kept.{AreCellsOf, IsCurrent}
-use Rattle.state_laws.specs.Log.{Log}
+use Rattle.chunk_plans.specs.Agreement.{Opening}
+use Rattle.chunk_plans.specs.Fetches.{IsChunkOf, settled}
+use Rattle.chunk_plans.specs.Kept.{AreCellsOf, IsCurrent}
+use Rattle.chunk_plans.specs.Log.{Log}
 use Rattle.chunk_plans.specs.declared.plan.Left.{Left}
 use Rattle.chunk_plans.specs.declared.plan.Left.TheVariants.{Stored, Held}
 use Rattle.chunk_plans.specs.declared.plan.Planned.{Planned}

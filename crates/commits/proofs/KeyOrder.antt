@@ -12,7 +12,7 @@ use Rattle.history.specs.Commit.{Key, is_before, with_key, in_order}
 use Rattle.history.specs.Legal.{AreApart, begins}
 use Rattle.history.proofs.Laws.{never_itself, other_way, not_under}
 use Rattle.cells.proofs.Laws.{true_or_false}
-use Rattle.state_laws.specs.Changing.{IsOneOf}
+use Rattle.chunk_plans.specs.Changing.{IsOneOf}
 use Rattle.chunk_plans.specs.Rising.{AreRising}
 use Rattle.chunk_plans.proofs.Laws.{same_byte, same_text}
 

@@ -1,6 +1,6 @@
 -- The first late mark.
 use Rattle.std.proofs.Common.{◌≡◌, ℕ, ◌<◌, List, ◌∷◌, Option, Some, None, inl, inr, refl, sym, subst}
-use Rattle.state_laws.specs.Log.{Log}
+use Rattle.chunk_plans.specs.Log.{Log}
 use Rattle.commits.specs.declared.late.Late.{Late}
 use Rattle.chunk_plans.specs.declared.mark.Mark.{Mark}
 use Rattle.commits.specs.Late.{IsFirstLate, IsGenerationIn, IsStill}

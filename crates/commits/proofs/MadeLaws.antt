@@ -5,14 +5,14 @@ use Rattle.std.proofs.lemmas.List.{append-nil}
 use Rattle.history.specs.declared.event.Event.{Event}
 use Rattle.history.specs.History.{History}
 use Rattle.history.specs.Own.{fault}
-use Rattle.state_laws.specs.declared.deed.ChangeError.{ChangeError}
-use Rattle.state_laws.specs.declared.deed.ChangeError.TheVariants as change
-use Rattle.state_laws.specs.declared.error.FetchError.{FetchError}
-use Rattle.state_laws.specs.declared.error.FetchError.TheVariants as fetch
+use Rattle.chunk_plans.specs.declared.ChangeError.{ChangeError}
+use Rattle.chunk_plans.specs.declared.ChangeError.TheVariants as change
+use Rattle.chunk_plans.specs.declared.FetchError.{FetchError}
+use Rattle.chunk_plans.specs.declared.FetchError.TheVariants as fetch
 use Rattle.chunk_forms.specs.declared.form.Damage.{Damage}
-use Rattle.state_laws.specs.Fetches.{HasFailed}
-use Rattle.state_laws.specs.Log.{Log}
-use Rattle.state_laws.specs.Seen.{StoreSeen}
+use Rattle.chunk_plans.specs.Fetches.{HasFailed}
+use Rattle.chunk_plans.specs.Log.{Log}
+use Rattle.chunk_plans.specs.Seen.{StoreSeen}
 use Rattle.chunk_plans.specs.declared.plan.Planned.{Planned}
 use Rattle.chunk_plans.specs.declared.write.ChunkWrite.{ChunkWrite}
 use Rattle.commits.specs.declared.refused.CommitRefused.{CommitRefused}

@@ -13,12 +13,12 @@ use Rattle.history.specs.declared.event.Op.{Op}
 use Rattle.history.specs.Arrays.{is_local}
 use Rattle.history.specs.Legal.{IsLegal}
 use Rattle.history.specs.ReadRows.{mount_of}
-use Rattle.state_laws.specs.declared.commit.Commit.{Commit}
-use Rattle.state_laws.specs.Agreement.{IsState}
-use Rattle.state_laws.specs.Changing.{AreMade}
-use Rattle.state_laws.specs.Log.{Log}
-use Rattle.state_laws.specs.Seen.{StoreSeen}
-use Rattle.state_laws.proofs.Laws.{takes_chunk}
+use Rattle.chunk_plans.specs.declared.Commit.{Commit}
+use Rattle.chunk_plans.specs.Agreement.{IsState}
+use Rattle.chunk_plans.specs.Changing.{AreMade}
+use Rattle.chunk_plans.specs.Log.{Log}
+use Rattle.chunk_plans.specs.Seen.{StoreSeen}
+use Rattle.chunk_plans.proofs.Laws.{takes_chunk}
 use Rattle.chunk_plans.specs.declared.plan.Left.{Left}
 use Rattle.chunk_plans.specs.declared.plan.Left.TheVariants.{Stored, Held}
 use Rattle.chunk_plans.specs.declared.plan.Planned.{Planned}

@@ -15,10 +15,10 @@ use Rattle.history.specs.Store.{IsChanged, IsChunkKept, shape_when_touched}
 use Rattle.history.specs.Stored.{HasBytes, AreChangesOf}
 use Rattle.history.specs.Touch.{touches}
 use Rattle.history.proofs.Laws.{known_after-more, some_inj, opened_le, length-more, generation_touched}
-use Rattle.state_laws.specs.declared.commit.Commit.{Commit}
-use Rattle.state_laws.specs.Recorded.{done_event}
-use Rattle.state_laws.specs.Changing.{IsOneOf, AreTouched}
-use Rattle.state_laws.specs.Log.{Log}
+use Rattle.chunk_plans.specs.declared.Commit.{Commit}
+use Rattle.chunk_plans.specs.Recorded.{done_event}
+use Rattle.chunk_plans.specs.Changing.{IsOneOf, AreTouched}
+use Rattle.chunk_plans.specs.Log.{Log}
 use Rattle.chunk_plans.specs.declared.plan.Left.{Left}
 use Rattle.chunk_plans.specs.declared.plan.Left.TheVariants.{Stored, Held}
 use Rattle.chunk_plans.specs.declared.plan.Planned.{Planned}

@@ -7,10 +7,10 @@ use Rattle.kv_face.specs.Store.{Contents}
 use Rattle.history.specs.Arrays.{Known, known_after}
 use Rattle.history.specs.Own.{fault}
 use Rattle.history.specs.Store.{resized_after}
-use Rattle.state_laws.specs.Agreement.{KeepsAgreement}
-use Rattle.state_laws.specs.Log.{Log}
-use Rattle.state_laws.specs.Looks.{IsFailedLook}
-use Rattle.state_laws.specs.Seen.{StoreSeen}
+use Rattle.chunk_plans.specs.Agreement.{KeepsAgreement}
+use Rattle.chunk_plans.specs.Log.{Log}
+use Rattle.chunk_plans.specs.Looks.{IsFailedLook}
+use Rattle.chunk_plans.specs.Seen.{StoreSeen}
 use Rattle.chunk_plans.specs.declared.plan.Planned.{Planned}
 use Rattle.chunk_plans.specs.declared.write.ChunkWrite.{ChunkWrite}
 use Rattle.history.specs.Damaged.{IsDamaged}

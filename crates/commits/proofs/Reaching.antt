@@ -15,10 +15,10 @@ use Rattle.history.specs.Reads.{is_put}
 use Rattle.history.specs.Resizes.{reaches_into}
 use Rattle.history.specs.Writes.{Put, puts_of}
 use Rattle.history.proofs.Laws.{chunk_array, same_cell, same_chunks, some_inj}
-use Rattle.state_laws.proofs.Laws.{good_in}
-use Rattle.state_laws.specs.Agreement.{IsState}
-use Rattle.state_laws.specs.Log.{Log}
-use Rattle.state_laws.specs.Seen.{StoreSeen}
+use Rattle.chunk_plans.proofs.Laws.{good_in}
+use Rattle.chunk_plans.specs.Agreement.{IsState}
+use Rattle.chunk_plans.specs.Log.{Log}
+use Rattle.chunk_plans.specs.Seen.{StoreSeen}
 use Rattle.chunk_plans.specs.declared.write.ChunkWrite.{ChunkWrite}
 use Rattle.chunk_plans.specs.Writes.{IsWrite, chunk_of_write}
 use Rattle.commits.specs.Outside.{IsFirstOutside, IsWithin}

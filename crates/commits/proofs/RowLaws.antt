@@ -19,9 +19,9 @@ use Rattle.history.specs.ReadRows.{IsOnMount}
 use Rattle.history.specs.Staged.{AreInShapes}
 use Rattle.history.specs.Writes.{Put, puts_of}
 use Rattle.history.proofs.Laws.{chunk_array, commit_keeps_legal, in_shapes, known_after-more, legal_step, same_chunks}
-use Rattle.state_laws.specs.Agreement.{Opening, Agrees}
-use Rattle.state_laws.specs.Log.{Log}
-use Rattle.state_laws.specs.Seen.{StoreSeen}
+use Rattle.chunk_plans.specs.Agreement.{Opening, Agrees}
+use Rattle.chunk_plans.specs.Log.{Log}
+use Rattle.chunk_plans.specs.Seen.{StoreSeen}
 use Rattle.chunk_plans.specs.declared.write.ChunkWrite.{ChunkWrite}
 use Rattle.commits.specs.declared.late.Late.{Late}
 use Rattle.commits.specs.declared.outside.Outside.{Outside}

@@ -1,8 +1,8 @@
 -- What a commit tells of the events and the store.
 use Rattle.std.proofs.Common.{ℕ, List, Result, Ok, Err, inl, inr, refl}
 use Rattle.history.specs.declared.event.Event.{Event}
-use Rattle.state_laws.specs.Log.{Log}
-use Rattle.state_laws.specs.Seen.{StoreSeen}
+use Rattle.chunk_plans.specs.Log.{Log}
+use Rattle.chunk_plans.specs.Seen.{StoreSeen}
 use Rattle.commits.specs.Answers.{MayAdd, IsTold}
 use Rattle.commits.specs.Made.{IsMade, whole_event}
 use Rattle.commits.specs.Ways.{IsWay}

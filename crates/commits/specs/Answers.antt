@@ -13,9 +13,9 @@ use Rattle.history.specs.Refs.{HasKnownRefs}
 use Rattle.history.specs.Own.{Numbered, numbered, numbers_of}
 use Rattle.history.specs.Staged.{IsStaged, IsTransaction}
 use Rattle.history.specs.Arrays.{Known, known_after}
-use Rattle.state_laws.specs.Agreement.{Opening, Agrees}
-use Rattle.state_laws.specs.Log.{Log}
-use Rattle.state_laws.specs.Seen.{StoreSeen}
+use Rattle.chunk_plans.specs.Agreement.{Opening, Agrees}
+use Rattle.chunk_plans.specs.Log.{Log}
+use Rattle.chunk_plans.specs.Seen.{StoreSeen}
 use Rattle.chunk_plans.specs.declared.write.ChunkWrite.{ChunkWrite}
 use Rattle.chunk_plans.specs.Writes.{IsReadyWrite}
 use Rattle.commits.specs.declared.prepared.Prepared.{Prepared}

@@ -14,9 +14,9 @@ use Rattle.history.specs.Legal.{IsLegal, IsLegalDone}
 use Rattle.history.specs.Own.{numbered, numbers_of}
 use Rattle.history.specs.ReadRows.{mount_of}
 use Rattle.history.specs.Sessions.{new_transaction}
-use Rattle.state_laws.specs.Agreement.{Opening, Agrees}
-use Rattle.state_laws.specs.Log.{Log}
-use Rattle.state_laws.specs.Seen.{StoreSeen}
+use Rattle.chunk_plans.specs.Agreement.{Opening, Agrees}
+use Rattle.chunk_plans.specs.Log.{Log}
+use Rattle.chunk_plans.specs.Seen.{StoreSeen}
 use Rattle.chunk_plans.specs.declared.plan.Planned.{Planned}
 use Rattle.commits.specs.Plans.{IsRightLeft, keys_of}
 use Rattle.chunk_plans.specs.Leaving.{IsLeftOf}

@@ -2,8 +2,8 @@
 use Rattle.std.specs.Prelude.{◌≡◌, ◌⊎◌, ◌<◌, ◌≤◌, ℕ, List, [], ◌∷◌, Option, Some, None}
 use Rattle.history.specs.Chunks.{Chunk}
 use Rattle.history.specs.Generations.{HasKey}
-use Rattle.state_laws.specs.Fetches.{generation_in}
-use Rattle.state_laws.specs.Log.{Log}
+use Rattle.chunk_plans.specs.Fetches.{generation_in}
+use Rattle.chunk_plans.specs.Log.{Log}
 use Rattle.commits.specs.declared.late.Late.{Late}
 use Rattle.chunk_plans.specs.declared.mark.Mark.{Mark}
 

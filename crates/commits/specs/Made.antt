@@ -4,8 +4,8 @@ use Rattle.history.specs.declared.event.Event.{Event}
 use Rattle.history.specs.Commit.{done}
 use Rattle.history.specs.Own.{numbered, numbers_of}
 use Rattle.history.specs.Sessions.{new_transaction}
-use Rattle.state_laws.specs.Log.{Log}
-use Rattle.state_laws.specs.Seen.{StoreSeen}
+use Rattle.chunk_plans.specs.Log.{Log}
+use Rattle.chunk_plans.specs.Seen.{StoreSeen}
 use Rattle.chunk_plans.specs.declared.plan.Planned.{Planned}
 use Rattle.chunk_plans.specs.declared.write.ChunkWrite.{ChunkWrite}
 use Rattle.commits.specs.declared.prepared.Prepared.{Prepared}

@@ -7,10 +7,10 @@ use Rattle.history.specs.Arrays.{Known, known_after, chunk_shape}
 use Rattle.history.specs.Own.{fault}
 use Rattle.history.specs.ReadRows.{mount_of}
 use Rattle.chunk_plans.specs.Laid.{IsCovered}
-use Rattle.state_laws.specs.Agreement.{Opening, Agrees}
-use Rattle.state_laws.specs.Fetches.{IsDamagedThere}
-use Rattle.state_laws.specs.Log.{Log}
-use Rattle.state_laws.specs.Seen.{StoreSeen}
+use Rattle.chunk_plans.specs.Agreement.{Opening, Agrees}
+use Rattle.chunk_plans.specs.Fetches.{IsDamagedThere}
+use Rattle.chunk_plans.specs.Log.{Log}
+use Rattle.chunk_plans.specs.Seen.{StoreSeen}
 use Rattle.chunk_plans.specs.declared.plan.Planned.{Planned}
 use Rattle.chunk_plans.specs.Leaving.{IsLeftOf}
 use Rattle.chunk_plans.specs.declared.write.ChunkWrite.{ChunkWrite}

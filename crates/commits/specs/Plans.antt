@@ -14,21 +14,21 @@ use Rattle.history.specs.Legal.{IsLegalDone}
 use Rattle.history.specs.Store.{IsChunkKept, shape_when_touched}
 use Rattle.history.specs.Stored.{with_event}
 use Rattle.history.specs.Touch.{touches}
-use Rattle.state_laws.specs.declared.commit.Commit.{Commit}
-use Rattle.state_laws.specs.Recorded.{with_numbers, without_all, done_event}
-use Rattle.state_laws.specs.declared.deed.HeldCells.{HeldCells}
-use Rattle.state_laws.specs.Agreement.{Opening, Agrees}
-use Rattle.state_laws.specs.Changing.{with_cells}
-use Rattle.state_laws.specs.Seen.{StoreSeen}
-use Rattle.state_laws.specs.Kept.{IsCurrent}
+use Rattle.chunk_plans.specs.declared.Commit.{Commit}
+use Rattle.chunk_plans.specs.Recorded.{with_numbers, without_all, done_event}
+use Rattle.chunk_plans.specs.declared.HeldCells.{HeldCells}
+use Rattle.chunk_plans.specs.Agreement.{Opening, Agrees}
+use Rattle.chunk_plans.specs.Changing.{with_cells}
+use Rattle.chunk_plans.specs.Seen.{StoreSeen}
+use Rattle.chunk_plans.specs.Kept.{IsCurrent}
 use Rattle.chunk_plans.specs.Leaving.{IsLeftOf}
-use Rattle.state_laws.specs.Log.{Log}
+use Rattle.chunk_plans.specs.Log.{Log}
 use Rattle.chunk_plans.specs.declared.plan.Left.{Left}
 use Rattle.chunk_plans.specs.declared.plan.Left.TheVariants.{Stored, Held}
 use Rattle.chunk_plans.specs.declared.plan.Planned.{Planned}
 use Rattle.commits.specs.Keeping.{left_cells}
 use Rattle.commits.specs.declared.parts.Parts.{Parts}
-use Rattle.state_laws.specs.declared.deed.Deed.{Deed}
+use Rattle.chunk_plans.specs.declared.Deed.{Deed}
 
 -- the plan of a chunk that the event touches
 pub record IsPlanned (log : Log) (e : Event) (p : Planned) : Type 0 where

@@ -1,9 +1,9 @@
 -- Errors of the calls below as refusals of a commit.
 use Rattle.std.specs.Prelude.{ℕ, List, []}
-use Rattle.state_laws.specs.declared.deed.ChangeError.{ChangeError}
-use Rattle.state_laws.specs.declared.deed.ChangeError.TheVariants as change
-use Rattle.state_laws.specs.declared.error.FetchError.{FetchError}
-use Rattle.state_laws.specs.declared.error.FetchError.TheVariants as fetch
+use Rattle.chunk_plans.specs.declared.ChangeError.{ChangeError}
+use Rattle.chunk_plans.specs.declared.ChangeError.TheVariants as change
+use Rattle.chunk_plans.specs.declared.FetchError.{FetchError}
+use Rattle.chunk_plans.specs.declared.FetchError.TheVariants as fetch
 use Rattle.commits.specs.declared.refused.CommitRefused.{CommitRefused}
 use Rattle.commits.specs.declared.refused.CommitRefused.TheVariants as refused
 

@@ -5,9 +5,9 @@ use Rattle.kv_face.specs.Store.{Contents}
 use Rattle.history.specs.declared.event.Op.{Op}
 use Rattle.history.specs.Arrays.{Known, known_after}
 use Rattle.history.specs.Legal.{IsLegalDone}
-use Rattle.state_laws.specs.Agreement.{Opening, Agrees}
-use Rattle.state_laws.specs.Log.{Log}
-use Rattle.state_laws.specs.Seen.{StoreSeen}
+use Rattle.chunk_plans.specs.Agreement.{Opening, Agrees}
+use Rattle.chunk_plans.specs.Log.{Log}
+use Rattle.chunk_plans.specs.Seen.{StoreSeen}
 use Rattle.chunk_plans.specs.declared.write.ChunkWrite.{ChunkWrite}
 use Rattle.chunk_plans.specs.Writes.{IsReadyWrite}
 

@@ -1,7 +1,7 @@
 -- How a commit may be made, or why it may not.
 use Rattle.std.specs.Prelude.{◌≡◌, ℕ, List, length, true, false, Option, Some, None, Result, Ok, Err, IsTrue}
 use Rattle.history.specs.Commit.{are_together}
-use Rattle.state_laws.specs.Log.{Log}
+use Rattle.chunk_plans.specs.Log.{Log}
 use Rattle.commits.specs.declared.late.Late.{Late}
 use Rattle.commits.specs.declared.prepared.Prepared.{Prepared}
 use Rattle.commits.specs.declared.refused.CommitRefused.{CommitRefused}

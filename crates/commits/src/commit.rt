@@ -3,8 +3,8 @@ ghost use Rattle.std.specs.Prelude.{◌≡◌, ◌<◌, ◌∷◌, [], Some, len
 ghost use Rattle.std.specs.List.{AllByRecursion};
 ghost use Rattle.kv_face.specs.Store.{Contents};
 ghost use Rattle.history.specs.Commit.{Transaction, are_together};
-ghost use Rattle.state_laws.specs.Seen.{IsFrame};
-ghost use Rattle.state_laws.specs.Agreement.{Agrees, Opening};
+ghost use Rattle.chunk_plans.specs.Seen.{IsFrame};
+ghost use Rattle.chunk_plans.specs.Agreement.{Agrees, Opening};
 ghost use Rattle.chunk_plans.specs.Writes.{IsWrite};
 ghost use Rattle.commits.specs.Answers.{IsCommitRow, IsCommitted, IsStateByTransaction, IsTold, KeepsByTransaction};
 ghost use Rattle.commits.specs.Keyed.{each_event};
@@ -20,9 +20,8 @@ use crate::refused::CommitRefused;
 use crate::way::{Way, way_of};
 use crate::writes::writes_only;
 use cells::List;
-use chunk_plans::State;
+use chunk_plans::{Commit, State};
 use kv_face::KvStore;
-use state_laws::Commit;
 use std::alloc::Global;
 
 /// As one event.

@@ -3,7 +3,7 @@ ghost use Rattle.std.specs.Prelude.{◌≡◌, ◌∷◌, ◌++◌, ◌+◌, ◌
 ghost use Rattle.std.specs.List.{AllByRecursion};
 ghost use Rattle.history.specs.Arrays.{known_after};
 ghost use Rattle.history.specs.Commit.{is_write};
-ghost use Rattle.state_laws.specs.Seen.{IsFrame};
+ghost use Rattle.chunk_plans.specs.Seen.{IsFrame};
 ghost use Rattle.commits.specs.Plans.{keys_of};
 ghost use Rattle.chunk_plans.specs.Writes.{IsWrite};
 ghost use Rattle.commits.specs.Keyed.{AreKeyPlans, IsKeyPlan, IsMadeEach, IsMountAt, IsStateByKey, IsStateByKeys, KeepsByKey, KeepsByKeys, each_event, key_event, plan_arrays};
@@ -16,10 +16,9 @@ use crate::making::commit_planned;
 use crate::planning::plan_writes;
 use crate::refused::{CommitRefused, unmade, unplanned};
 use cells::{List, Name, copy_name};
-use chunk_plans::{ChangeError, ChunkWrite, Planned, State};
+use chunk_plans::{ChangeError, ChunkWrite, Commit, Planned, State};
 use history::{Mode, Ops};
 use kv_face::KvStore;
-use state_laws::Commit;
 use std::alloc::{AllocError, Global};
 
 /// A transaction of which each key is committed by itself: the operations of the first event, and the writes among them.

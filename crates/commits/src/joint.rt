@@ -2,9 +2,9 @@
 ghost use Rattle.std.specs.Prelude.{◌≡◌, ◌⊎◌, ◌∷◌, [], length, None, true};
 ghost use Rattle.std.specs.List.{AllByRecursion};
 ghost use Rattle.history.specs.Commit.{are_together};
-ghost use Rattle.state_laws.specs.Recorded.{done_event};
-ghost use Rattle.state_laws.specs.Seen.{IsFrame};
-ghost use Rattle.state_laws.specs.Changing.{AreMade};
+ghost use Rattle.chunk_plans.specs.Recorded.{done_event};
+ghost use Rattle.chunk_plans.specs.Seen.{IsFrame};
+ghost use Rattle.chunk_plans.specs.Changing.{AreMade};
 ghost use Rattle.commits.specs.Plans.{ArePlans, IsStateByPlans, KeepsByPlans, changes_of};
 ghost use Rattle.chunk_plans.specs.Writes.{IsWrite};
 ghost use Rattle.commits.specs.Keyed.{IsMadeEach, plan_arrays};
@@ -19,9 +19,8 @@ use crate::mount::mount_of_writes;
 use crate::planning::plan_writes;
 use crate::refused::{CommitRefused, unmade, unplanned};
 use cells::{List, Name};
-use chunk_plans::{ChunkWrite, Planned, State};
+use chunk_plans::{ChunkWrite, Commit, Planned, State};
 use kv_face::KvStore;
-use state_laws::Commit;
 use std::alloc::Global;
 
 /// Makes the commit by its plans. Room for the answer is made before.

@@ -1,7 +1,7 @@
 // What a commit left is kept.
 ghost use Rattle.std.specs.Prelude.{◌≡◌};
 ghost use Rattle.std.specs.List.{AllByRecursion};
-ghost use Rattle.state_laws.specs.Agreement.{Agrees, IsState, Opening};
+ghost use Rattle.chunk_plans.specs.Agreement.{Agrees, IsState, Opening};
 ghost use Rattle.chunk_plans.specs.Writes.{IsSameButCache};
 ghost use Rattle.commits.specs.Keeping.{IsChunkLeft, KeepsLeft, MayKeep};
 

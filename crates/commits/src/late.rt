@@ -1,6 +1,6 @@
 // Chunks that were read and have later generations now.
 ghost use Rattle.std.specs.Prelude.{◌≡◌, ◌<◌, Some, IfOk};
-ghost use Rattle.state_laws.specs.Agreement.{IsState};
+ghost use Rattle.chunk_plans.specs.Agreement.{IsState};
 ghost use Rattle.commits.specs.Late.{IsFirstLate};
 
 use cells::{Name, copy_name};

@@ -3,22 +3,21 @@ ghost use Rattle.std.specs.Prelude.{◌≡◌, ◌<◌, ◌+◌, ℕ, List, leng
 ghost use Rattle.std.specs.List.{AllByRecursion};
 ghost use Rattle.kv_face.specs.Store.{Contents, after};
 ghost use Rattle.history.specs.Arrays.{known_after};
-ghost use Rattle.state_laws.specs.Recorded.{done_event};
-ghost use Rattle.state_laws.specs.Seen.{IsFrame, IsQuiet};
-ghost use Rattle.state_laws.specs.Agreement.{IsState};
-ghost use Rattle.state_laws.specs.Changing.{AreMade, IsDeed, KeepsByDeed, committed};
-ghost use Rattle.state_laws.specs.Fetches.{HasFailed};
+ghost use Rattle.chunk_plans.specs.Recorded.{done_event};
+ghost use Rattle.chunk_plans.specs.Seen.{IsFrame, IsQuiet};
+ghost use Rattle.chunk_plans.specs.Agreement.{IsState};
+ghost use Rattle.chunk_plans.specs.Changing.{AreMade, IsDeed, KeepsByDeed, committed};
+ghost use Rattle.chunk_plans.specs.Fetches.{HasFailed};
 ghost use Rattle.chunk_plans.specs.Writes.{IsSameButCache};
 ghost use Rattle.commits.specs.Plans.{ArePlans, ArePartsOf, IsStateByPlans, KeepsByPlans, changes_of, committed_by, deed_of};
 ghost use Rattle.chunk_plans.specs.declared.plan.Planned.{Planned as PlannedOf};
-ghost use Rattle.state_laws.specs.declared.deed.HeldCells.{HeldCells as HeldCellsOf};
+ghost use Rattle.chunk_plans.specs.declared.HeldCells.{HeldCells as HeldCellsOf};
 
 use crate::keeping::keep_left;
 use crate::parts::{Parts, parted};
 use cells::Name;
-use chunk_plans::{ChangeError, Deed, Planned, State};
+use chunk_plans::{ChangeError, Commit, Deed, Planned, State};
 use kv_face::{Change, KvStore};
-use state_laws::Commit;
 use std::alloc::Global;
 
 /// Makes a commit, or one key of it, by what it leaves of each chunk that it touches: in one call of the store, or in none where no

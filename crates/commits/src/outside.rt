@@ -3,7 +3,7 @@ ghost use Rattle.std.specs.Prelude.{◌≡◌, ◌↔◌, Some, IfOk, IsTrue, fa
 ghost use Rattle.std.specs.List.{AllByRecursion};
 ghost use Rattle.history.specs.Arrays.{Known, known_after, chunk_shape, is_local};
 ghost use Rattle.chunk_plans.specs.Laid.{IsStagedWithin};
-ghost use Rattle.state_laws.specs.Agreement.{IsState};
+ghost use Rattle.chunk_plans.specs.Agreement.{IsState};
 ghost use Rattle.commits.specs.Outside.{IsFirstOutside, IsToldOf, TellsOutside};
 ghost use Rattle.commits.specs.Writes.{IsSizedWrite};
 

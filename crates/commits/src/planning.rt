@@ -2,8 +2,8 @@
 ghost use Rattle.std.specs.Prelude.{◌≡◌, ◌+◌, ◌*◌, ◌<◌, ◌^◌, ℕ, List, Ok, Err, IfOk, OnOk, length};
 ghost use Rattle.std.specs.List.{AllByRecursion};
 ghost use Rattle.chunk_forms.specs.declared.form.Damage.{Damage as DamageOf};
-ghost use Rattle.state_laws.specs.Seen.{IsRead};
-ghost use Rattle.state_laws.specs.Agreement.{IsState, KeepsAgreement};
+ghost use Rattle.chunk_plans.specs.Seen.{IsRead};
+ghost use Rattle.chunk_plans.specs.Agreement.{IsState, KeepsAgreement};
 ghost use Rattle.chunk_plans.specs.Writes.{IsSameButCache, IsWrite};
 ghost use Rattle.commits.specs.Planning.{ArePlannedBy, HasFailedFor, IsFirstDamaged, write_arrays};
 

@@ -2,7 +2,7 @@
 ghost use Rattle.std.specs.Prelude.{IfOk, IsSome};
 ghost use Rattle.std.specs.List.{AllByRecursion};
 ghost use Rattle.history.specs.Arrays.{known_after};
-ghost use Rattle.state_laws.specs.Agreement.{IsState};
+ghost use Rattle.chunk_plans.specs.Agreement.{IsState};
 ghost use Rattle.chunk_plans.specs.declared.write.ChunkWrite.{ChunkWrite as WriteOf};
 ghost use Rattle.commits.specs.Ways.{IsLateOf, IsSplit, IsWay, TellsApart};
 ghost use Rattle.commits.specs.Writes.{IsSizedWrite, stored_write_keys};

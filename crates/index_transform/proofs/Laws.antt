@@ -9,3 +9,5 @@ pub use Rattle.index_transform.proofs.WalkLemmas.{written_back}
 pub use Rattle.index_transform.proofs.ShapeLemmas.{any-cell, some-cell, IsCell-first, IsCell-last, ends_leave-leaves, inside-shape}
 pub use Rattle.index_transform.proofs.ValueLaws.{effective-cell, length-cell, has_value-cell, are_words-in_shape}
 pub use Rattle.index_transform.proofs.IdentityLaws.{length-identity_maps, IsTransform-identity}
+-- laws of crates below, given on to those above
+pub use Rattle.cells.proofs.Laws.{both, both_true, second_true}

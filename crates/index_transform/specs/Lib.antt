@@ -9,3 +9,4 @@ pub mod Walks
 pub use Rattle.index_intervals.specs.Around
 pub use Rattle.index_intervals.specs.Bounds
 pub use Rattle.index_intervals.specs.Members
+pub use Rattle.cells.specs.Places

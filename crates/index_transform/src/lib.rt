@@ -16,6 +16,7 @@ mod transform;
 mod value;
 mod walk;
 
+pub use cells::{Index, List, MOST_ENTRIES, Sizes, count_cells};
 pub use copies::{copied_interval, copied_map, copied_maps};
 pub use domain::{Domain, are_labels, copied_names, look_at_all};
 pub use error::{AtError, CountError, TransformError};

@@ -1,2 +1,3 @@
 mod Factors
 mod Sound
+pub mod Laws

@@ -17,3 +17,4 @@ mod write;
 pub use command::{Command, DownWant, JoinForm};
 pub use line_parts::LineError;
 pub use lines::read_command;
+pub use spec_open::{BuildCause, BuildError, OpenPlan, SpecError, SpecLeaf, Tree};

@@ -5,10 +5,10 @@ use Rattle.serde_json.specs.Data.{Data}
 use Rattle.serde_json.specs.Find.{get}
 use Rattle.json_forms.specs.Bytes.{data_of}
 use Rattle.json_forms.specs.Members.{least_unknown}
-use Rattle.spec_forms.specs.declared.error.SpecError.{SpecError}
-use Rattle.spec_open.specs.Specs.{plan_of_spec}
-use Rattle.spec_open.specs.declared.plan.OpenPlan.{OpenPlan}
-use Rattle.spec_open.proofs.Laws.{plan_sound}
+use Rattle.line_forms.specs.declared.SpecError.{SpecError}
+use Rattle.line_forms.specs.Specs.{plan_of_spec}
+use Rattle.line_forms.specs.declared.OpenPlan.{OpenPlan}
+use Rattle.line_forms.proofs.Laws.{plan_sound}
 use Rattle.history.specs.Alone.{IsLineOn}
 use Rattle.history.specs.Bound.{IsLineWithin}
 use Rattle.line_forms.specs.Form.{Form, opening, viewing, joining, reading, writing, beginning, committing, aborting, resizing, resolving}

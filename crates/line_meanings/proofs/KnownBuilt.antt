@@ -15,15 +15,15 @@ use Rattle.stack_driver.specs.Stacks.{stacked_domain, first_unlike, unless_unlik
 use Rattle.stack_driver.specs.Views.{look_of}
 use Rattle.stack_driver.specs.declared.view.View.{View}
 use Rattle.stack_driver.specs.declared.view.View.TheVariants as view
-use Rattle.spec_open.specs.Built.{composed_at, through, through_if, cast_if, before, all_built, of_dtype, stacked_at, stacked_if, no_array, built}
-use Rattle.spec_open.specs.Conditions.{IsTree}
-use Rattle.spec_open.specs.declared.error.BuildCause.TheVariants.{Layers}
-use Rattle.spec_open.specs.declared.error.BuildError.{BuildError}
-use Rattle.spec_open.specs.declared.error.BuildError.TheVariants.{Refused}
-use Rattle.spec_open.specs.declared.plan.OpenPlan.{OpenPlan}
-use Rattle.spec_open.specs.declared.tree.Tree.{Tree, ind-Tree, roll-Tree, map-Tree}
-use Rattle.spec_open.specs.declared.tree.Tree.TheOpen.{Tree-F}
-use Rattle.spec_open.specs.declared.tree.Tree.TheVariants as tree
+use Rattle.line_forms.specs.Built.{composed_at, through, through_if, cast_if, before, all_built, of_dtype, stacked_at, stacked_if, no_array, built}
+use Rattle.line_forms.specs.Conditions.{IsTree}
+use Rattle.line_forms.specs.declared.BuildCause.TheVariants.{Layers}
+use Rattle.line_forms.specs.declared.BuildError.{BuildError}
+use Rattle.line_forms.specs.declared.BuildError.TheVariants.{Refused}
+use Rattle.line_forms.specs.declared.OpenPlan.{OpenPlan}
+use Rattle.line_forms.specs.declared.Tree.{Tree, ind-Tree, roll-Tree, map-Tree}
+use Rattle.line_forms.specs.declared.Tree.TheOpen.{Tree-F}
+use Rattle.line_forms.specs.declared.Tree.TheVariants as tree
 use Rattle.history.specs.Answers as told
 use Rattle.history.specs.History.{History}
 use Rattle.history.specs.Bound.{IsBuildWithin}

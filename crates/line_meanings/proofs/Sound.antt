@@ -14,11 +14,11 @@ use Rattle.chunk_forms.proofs.MadeLaws.{zarr_rules, n5_rules, zarr3_rules}
 use Rattle.zarr_chunks.specs.Want as zarr
 use Rattle.n5_blocks.specs.Want as n5
 use Rattle.zarr3_chunks.specs.Want as zarr3
-use Rattle.spec_forms.specs.Leaves.{IsSoundLeaf}
-use Rattle.spec_forms.specs.declared.leaf.SpecLeaf.{SpecLeaf}
-use Rattle.spec_forms.specs.declared.leaf.SpecLeaf.TheVariants.{Zarr, N5, Zarr3, Given}
-use Rattle.spec_open.proofs.Laws.{among-keeps}
-use Rattle.spec_open.specs.declared.tree.Tree.{Tree}
+use Rattle.line_forms.specs.Leaves.{IsSoundLeaf}
+use Rattle.line_forms.specs.declared.SpecLeaf.{SpecLeaf}
+use Rattle.line_forms.specs.declared.SpecLeaf.TheVariants.{Zarr, N5, Zarr3, Given}
+use Rattle.line_forms.proofs.Laws.{among-keeps}
+use Rattle.line_forms.specs.declared.Tree.{Tree}
 use Rattle.line_forms.specs.Form.{form_of, IsSound}
 use Rattle.line_forms.specs.Form as forms
 use Rattle.line_forms.specs.declared.command.Command.{Command}

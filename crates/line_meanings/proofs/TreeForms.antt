@@ -7,12 +7,12 @@ use Rattle.index_transform.specs.Transforms.{DomainAndMaps}
 use Rattle.stack_driver.specs.Arrays.{whole_view}
 use Rattle.stack_driver.specs.References.{Reference}
 use Rattle.stack_driver.specs.declared.view.View.{View}
-use Rattle.spec_open.specs.Built.{through, through_if, cast_if, all_built, stacked_if, no_array, built_step, built}
-use Rattle.spec_open.specs.Conditions.{IsNode, IsTree}
-use Rattle.spec_open.specs.declared.error.BuildError.{BuildError}
-use Rattle.spec_open.specs.declared.tree.Tree.{Tree, fold-roll-Tree, map-Tree, every_here-Tree, every_held-Tree}
-use Rattle.spec_open.specs.declared.tree.Tree.TheOpen.{Tree-F}
-use Rattle.spec_open.specs.declared.tree.Tree.TheVariants as tree
+use Rattle.line_forms.specs.Built.{through, through_if, cast_if, all_built, stacked_if, no_array, built_step, built}
+use Rattle.line_forms.specs.Conditions.{IsNode, IsTree}
+use Rattle.line_forms.specs.declared.BuildError.{BuildError}
+use Rattle.line_forms.specs.declared.Tree.{Tree, fold-roll-Tree, map-Tree, every_here-Tree, every_held-Tree}
+use Rattle.line_forms.specs.declared.Tree.TheOpen.{Tree-F}
+use Rattle.line_forms.specs.declared.Tree.TheVariants as tree
 
 -- a leaf's view is that of its array through its transform
 pub built-Leaf : (arrays : List Reference) (leaf : ℕ) (u : Option DomainAndMaps) (at : List ℕ) → built arrays (tree.Leaf leaf u at) ≡ through at u (whole_view (slice_index_or arrays leaf no_array))

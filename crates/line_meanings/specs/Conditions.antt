@@ -3,8 +3,8 @@ use Rattle.std.specs.List.{AllByRecursion}
 use Rattle.zarr_chunks.specs.Want as zarr
 use Rattle.n5_blocks.specs.Want as n5
 use Rattle.zarr3_chunks.specs.Want as zarr3
-use Rattle.spec_forms.specs.declared.leaf.SpecLeaf.{SpecLeaf}
-use Rattle.spec_forms.specs.declared.leaf.SpecLeaf.TheVariants.{Zarr, N5, Zarr3, Given}
+use Rattle.line_forms.specs.declared.SpecLeaf.{SpecLeaf}
+use Rattle.line_forms.specs.declared.SpecLeaf.TheVariants.{Zarr, N5, Zarr3, Given}
 use Rattle.line_forms.specs.declared.command.Command.{Command}
 use Rattle.line_forms.specs.declared.command.Command.TheVariants.{Open, View, Join, Read, Write, Begin, Commit, Abort, Resize, Resolve}
 

@@ -2,16 +2,16 @@
 use Rattle.std.specs.Prelude.{ℕ, suc, List, [], ◌∷◌, nat_le, nat_eq, length, Option, Some, None, unwrap_or, Result, Ok, Err, if◌then◌else◌}
 use Rattle.chunk_forms.specs.declared.form.Want.TheVariants as want
 use Rattle.stack_driver.specs.declared.view.View.{View}
-use Rattle.spec_forms.specs.declared.leaf.SpecLeaf as spec_leaf
-use Rattle.spec_forms.specs.declared.leaf.SpecLeaf.TheVariants as spec
-use Rattle.spec_open.specs.Built.{built}
-use Rattle.spec_open.specs.declared.error.BuildCause as build_causes
-use Rattle.spec_open.specs.declared.error.BuildCause.TheVariants as build
-use Rattle.spec_open.specs.declared.error.BuildError.{BuildError}
-use Rattle.spec_open.specs.declared.error.BuildError.TheVariants as error
-use Rattle.spec_open.specs.declared.plan.OpenPlan.{OpenPlan}
-use Rattle.spec_open.specs.declared.tree.Tree.{Tree, fold-Tree}
-use Rattle.spec_open.specs.declared.tree.Tree.TheOpen.{Tree-F}
+use Rattle.line_forms.specs.declared.SpecLeaf as spec_leaf
+use Rattle.line_forms.specs.declared.SpecLeaf.TheVariants as spec
+use Rattle.line_forms.specs.Built.{built}
+use Rattle.line_forms.specs.declared.BuildCause as build_causes
+use Rattle.line_forms.specs.declared.BuildCause.TheVariants as build
+use Rattle.line_forms.specs.declared.BuildError.{BuildError}
+use Rattle.line_forms.specs.declared.BuildError.TheVariants as error
+use Rattle.line_forms.specs.declared.OpenPlan.{OpenPlan}
+use Rattle.line_forms.specs.declared.Tree.{Tree, fold-Tree}
+use Rattle.line_forms.specs.declared.Tree.TheOpen.{Tree-F}
 use Rattle.history.specs.Answers.{Text, BuildCause, by_transform, layers}
 use Rattle.history.specs.Lines.{SpecLeaf, given, stored, Build}
 

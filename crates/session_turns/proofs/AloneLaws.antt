@@ -9,7 +9,7 @@ use Rattle.history.specs.Sessions.{Names, SessionState}
 use Rattle.session_turns.specs.Told.{IsTold, IsToldAlone, IsAnswerTo, IsToldBy}
 use Rattle.session_turns.proofs.OwnLaws.{none_added}
 use Rattle.session_turns.proofs.ToldLaws.{told_refused}
-use Rattle.state_laws.specs.Agreement.{Opening}
+use Rattle.state_resizes.specs.Agreement.{Opening}
 use Rattle.state_resizes.specs.Answers.{fixed_by}
 use Rattle.turn_book.specs.Passes.{BookView, PassView}
 

@@ -22,10 +22,10 @@ use Rattle.history.specs.Refs.{IsKnownRef}
 use Rattle.history.proofs.Laws.{known_after-more, array_at-known, ref_later, IsLegal-front}
 use Rattle.kv_face.specs.Store.{Contents}
 use Rattle.stack_driver.specs.References.{Reference}
-use Rattle.state_laws.specs.Openings.{IsOutcomeOf, IsNewOf}
-use Rattle.state_laws.specs.Openings as openings
-use Rattle.state_laws.specs.Outline.{outline, outlined_event}
-use Rattle.state_laws.proofs.Outline.{known-outline, array_at-outline}
+use Rattle.state_resizes.specs.Openings.{IsOutcomeOf, IsNewOf}
+use Rattle.state_resizes.specs.Openings as openings
+use Rattle.state_resizes.specs.Outline.{outline, outlined_event}
+use Rattle.state_resizes.proofs.Laws.{known-outline, array_at-outline}
 
 -- the outcome of a leaf where the store told its contents at the start
 pub outcome_told : (told : Option Contents) (start : Contents) (events : History) (leaf : Leaf) (outcome : Outcome) → told ≡ Some start → IsOutcomeOf told events leaf outcome → IsOutcome start events leaf outcome

@@ -17,7 +17,7 @@ use Rattle.session_turns.proofs.RefLaws.{ref_there}
 use Rattle.stack_driver.specs.References.{Reference}
 use Rattle.stack_driver.specs.Renewed.{array_of, renewed}
 use Rattle.stack_driver.specs.declared.view.View.{View}
-use Rattle.state_laws.specs.Outline.{outline}
+use Rattle.state_resizes.specs.Outline.{outline}
 
 -- a view of known arrays is one as events follow
 pub view_then : (early late : History) (v : View) → IsPrefix early late → HasKnownRefs early v → HasKnownRefs late v

@@ -21,10 +21,10 @@ use Rattle.session_turns.specs.Turns.{IsRested, IsTurn, added_by}
 use Rattle.session_turns.proofs.FoundLaws.{outcome_told, new_told, there_known, ref_found, ref_new, later_refs}
 use Rattle.session_turns.proofs.OpenedLaws.{opened_longer, opened_then, numbers-append, known_one, new_one, given_one}
 use Rattle.session_turns.proofs.OwnLaws.{own_of_turn, passed_of_turn, passed_then, added_then, same_rest}
-use Rattle.state_laws.specs.Agreement.{Opening}
-use Rattle.state_laws.specs.Openings.{IsOpenedBy, IsAdded, IsThere}
-use Rattle.state_laws.specs.Outline.{outline}
-use Rattle.state_laws.specs.declared.opening.Opened.{Opened}
+use Rattle.state_resizes.specs.Agreement.{Opening}
+use Rattle.state_resizes.specs.Openings.{IsOpenedBy, IsAdded, IsThere}
+use Rattle.state_resizes.specs.Outline.{outline}
+use Rattle.state_resizes.specs.declared.Opened.{Opened}
 use Rattle.stack_driver.specs.References.{Reference}
 use Rattle.turn_book.specs.Passes.{BookView, PassView}
 

@@ -6,7 +6,7 @@ use Rattle.history.specs.declared.event.Event.{Event}
 use Rattle.history.specs.History.{History}
 use Rattle.history.specs.Own.{numbered, own_events}
 use Rattle.session_turns.specs.Turns.{IsRested, IsTurn, HasPassed, added_by}
-use Rattle.state_laws.specs.Agreement.{Opening}
+use Rattle.state_resizes.specs.Agreement.{Opening}
 use Rattle.transactions.specs.Turns.{owner_of, HasTurned}
 use Rattle.turn_book.specs.History.{entries_of}
 use Rattle.turn_book.specs.Passes.{BookView, PassView}

@@ -11,8 +11,8 @@ use Rattle.history.specs.History.{History}
 use Rattle.history.specs.Legal.{IsLegal}
 use Rattle.history.specs.Refs.{IsKnownRef}
 use Rattle.history.proofs.Laws.{known_good, known_still, legal_take, local_shape, known_sizes}
-use Rattle.state_laws.specs.Outline.{outline, outlined_event}
-use Rattle.state_laws.proofs.Laws.{known-outline, good_in}
+use Rattle.state_resizes.specs.Outline.{outline, outlined_event}
+use Rattle.state_resizes.proofs.Laws.{known-outline, good_in}
 use Rattle.stack_driver.specs.References.{Reference, IsReference}
 use Rattle.stack_driver.specs.Renewed.{IsNewShape, reshaped}
 use Rattle.state_resizes.specs.Conditions.{IsAsked}

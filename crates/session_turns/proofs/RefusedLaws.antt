@@ -1,7 +1,7 @@
 -- A leaf of a line that isn't opened.
 use Rattle.std.proofs.Common.{◌≡◌, ◌∙◌, ℕ, ◌+◌, ◌≤◌, List, [], ◌∷◌, ◌++◌, length, Option, Some, Err, refl, sym, ap, subst, arith, append-nil}
 use Rattle.std.specs.FinMap as finmap
-use Rattle.state_laws.specs.Opening.{cause_of}
+use Rattle.state_resizes.specs.Opening.{cause_of}
 use Rattle.chunk_forms.specs.declared.form.Want.{Want}
 use Rattle.chunk_forms.specs.declared.form.Want.TheVariants as want
 use Rattle.chunk_forms.specs.Members.{member_name}
@@ -26,10 +26,10 @@ use Rattle.session_turns.proofs.OpenedLaws.{opened_longer, refused_one, failed_o
 use Rattle.session_turns.proofs.OpenLaws.{seen_before}
 use Rattle.session_turns.proofs.OwnLaws.{own_of_turn, added_then, same_rest}
 use Rattle.session_turns.proofs.StoredLaws.{stored_there}
-use Rattle.state_laws.specs.Agreement.{Opening}
-use Rattle.state_laws.specs.Openings.{IsOpening}
-use Rattle.state_laws.specs.declared.opening.OpenError.{OpenError}
-use Rattle.state_laws.specs.declared.opening.OpenError.TheVariants as error
+use Rattle.state_resizes.specs.Agreement.{Opening}
+use Rattle.state_resizes.specs.Openings.{IsOpening}
+use Rattle.state_resizes.specs.declared.OpenError.{OpenError}
+use Rattle.state_resizes.specs.declared.OpenError.TheVariants as error
 use Rattle.stack_driver.specs.References.{Reference}
 use Rattle.turn_book.specs.Passes.{BookView, PassView}
 use Rattle.history.specs.declared.event.Event.{Event}

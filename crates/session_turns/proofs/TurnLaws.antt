@@ -14,11 +14,11 @@ use Rattle.history.specs.Own.{fault, opened_event, resized_event}
 use Rattle.kv_face.specs.Store.{Contents}
 use Rattle.session_turns.specs.Opening.{IsGivenTurn}
 use Rattle.session_turns.specs.Turns.{IsTurn}
-use Rattle.state_laws.specs.Agreement.{Opening}
-use Rattle.state_laws.specs.Openings.{IsOpening, IsOpenedBy}
-use Rattle.state_laws.specs.declared.opening.OpenError.{OpenError}
-use Rattle.state_laws.specs.declared.opening.OpenError.TheVariants as open_error
-use Rattle.state_laws.specs.declared.opening.Opened.{Opened}
+use Rattle.state_resizes.specs.Agreement.{Opening}
+use Rattle.state_resizes.specs.Openings.{IsOpening, IsOpenedBy}
+use Rattle.state_resizes.specs.declared.OpenError.{OpenError}
+use Rattle.state_resizes.specs.declared.OpenError.TheVariants as open_error
+use Rattle.state_resizes.specs.declared.Opened.{Opened}
 use Rattle.state_resizes.specs.Answers.{IsAnswer}
 use Rattle.state_resizes.specs.declared.error.ResizeError.{ResizeError}
 use Rattle.state_resizes.specs.declared.error.ResizeError.TheVariants as error

@@ -18,7 +18,7 @@ pub use Rattle.line_answers.specs.Causes
 pub use Rattle.state_resizes.specs.Conditions as ResizeConditions
 pub use Rattle.line_answers.specs.Refusals
 pub use Rattle.line_answers.specs.Status
-pub use Rattle.state_laws.specs.Agreement
-pub use Rattle.state_laws.specs.Outline
-pub use Rattle.state_laws.specs.Fetches
-pub use Rattle.state_laws.specs.Openings
+pub use Rattle.state_resizes.specs.Agreement
+pub use Rattle.state_resizes.specs.Outline
+pub use Rattle.state_resizes.specs.Fetches
+pub use Rattle.state_resizes.specs.Openings

@@ -1,7 +1,7 @@
 -- How a line's leaves are opened, each in a turn of its own.
 use Rattle.std.specs.Prelude.{◌≡◌, ◌≤◌, ℕ, ◌+◌, List, [], ◌∷◌, length, Some, Result}
 use Rattle.std.specs.List.{AllByRecursion}
-use Rattle.state_laws.specs.declared.MetaCause.TheVariants as cause
+use Rattle.state_resizes.specs.declared.MetaCause.TheVariants as cause
 use Rattle.cells.specs.Dense.{DenseCells}
 use Rattle.chunk_forms.specs.Members.{member_name}
 use Rattle.history.specs.declared.event.Event.{Event}
@@ -16,11 +16,11 @@ use Rattle.history.specs.Refs.{IsKnownRef}
 use Rattle.kv_face.specs.Store.{Contents}
 use Rattle.session_turns.specs.Turns.{IsTurn, HasPassed, added_by}
 use Rattle.stack_driver.specs.References.{Reference}
-use Rattle.state_laws.specs.Agreement.{Opening}
-use Rattle.state_laws.specs.Openings.{IsOpening}
-use Rattle.state_laws.specs.declared.opening.Opened.{Opened}
-use Rattle.state_laws.specs.declared.opening.OpenError.{OpenError}
-use Rattle.state_laws.specs.declared.opening.OpenError.TheVariants as error
+use Rattle.state_resizes.specs.Agreement.{Opening}
+use Rattle.state_resizes.specs.Openings.{IsOpening}
+use Rattle.state_resizes.specs.declared.Opened.{Opened}
+use Rattle.state_resizes.specs.declared.OpenError.{OpenError}
+use Rattle.state_resizes.specs.declared.OpenError.TheVariants as error
 use Rattle.turn_book.specs.Passes.{BookView, PassView}
 
 -- a stored array is opened in a turn, or refused

@@ -15,7 +15,7 @@ use Rattle.kv_face.specs.Store.{Contents}
 use Rattle.line_answers.specs.Bodies.{body_of}
 use Rattle.session_turns.specs.Turns.{added_by}
 use Rattle.stack_driver.specs.declared.view.View.{View}
-use Rattle.state_laws.specs.Agreement.{Opening}
+use Rattle.state_resizes.specs.Agreement.{Opening}
 use Rattle.state_resizes.specs.Answers.{fixed_by}
 use Rattle.turn_book.specs.Passes.{BookView, PassView}
 use Rattle.history.specs.declared.event.Event.{Event}

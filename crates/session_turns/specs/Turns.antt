@@ -5,7 +5,7 @@ use Rattle.history.specs.declared.event.Event.{Event}
 use Rattle.history.specs.History.{History}
 use Rattle.history.specs.Own.{Numbered, own_events}
 use Rattle.kv_face.specs.Store.{Contents}
-use Rattle.state_laws.specs.Agreement.{Opening}
+use Rattle.state_resizes.specs.Agreement.{Opening}
 use Rattle.state_resizes.specs.Answers.{IsAnswer, fixed_by}
 use Rattle.state_resizes.specs.declared.error.ResizeError.{ResizeError}
 use Rattle.transactions.specs.Turns.{owner_of, IsPast, HasTurned}

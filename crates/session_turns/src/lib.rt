@@ -17,7 +17,6 @@ pub use binding::{bound, bound_with};
 pub use cell_faults::{counted, fault_body};
 pub use line_answers::{Answer, Body, bad_metadata, damaged, refusal};
 pub use names::{Names, named, unknown};
-pub use state_laws::{Bounds, OpenError, Opened};
-pub use state_resizes::ResizeError;
+pub use state_resizes::{Bounds, OpenError, Opened, ResizeError};
 pub use transactions::{CommitError, CommitRefused, Gate, Kept, ReadError, State, Txn, WriteError};
 pub use turns::{bounds_in_turn, open_given_in_turn, open_in_turn, resize_in_turn};

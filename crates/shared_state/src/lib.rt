@@ -23,6 +23,6 @@ mod state;
 pub use history::{ArrayInfo, Event, Home, Kind, Mode, Op, Ops};
 pub use state::{State, StateRefused};
 pub use state_laws::{
-    AtStart, Bounds, ChangeError, Deed, FetchError, Fetched, HeldCells, Left, Look, NewShape,
-    OpenError, Opened, Planned, decode,
+    AtStart, Bounds, ChangeError, Commit, Deed, FetchError, Fetched, HeldCells, Left, Look,
+    MetaCause, NewShape, OpenError, Opened, Planned, decode, metadata_change,
 };

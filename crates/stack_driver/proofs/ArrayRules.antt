@@ -2,10 +2,10 @@
 use Rattle.std.proofs.Common.{◌≡◌, ◌≤◌, ◌∙◌, ℕ, ◌+◌, true, List, [], ◌∷◌, length, map, refl, sym, subst, arith}
 use Rattle.std.proofs.lemmas.List.{length-map}
 use Rattle.cells.specs.Shapes.{IsShape}
-use Rattle.index_transform.specs.Bounds.{Bounds}
-use Rattle.index_transform.specs.Transforms.{DomainAndMaps, IsDomain}
-use Rattle.index_transform.specs.Identity.{identity_maps, identity_over}
-use Rattle.index_transform.specs.Maps.{are_labels}
+use Rattle.transform_composition.specs.Bounds.{Bounds}
+use Rattle.transform_composition.specs.Transforms.{DomainAndMaps, IsDomain}
+use Rattle.transform_composition.specs.Identity.{identity_maps, identity_over}
+use Rattle.transform_composition.specs.Maps.{are_labels}
 use Rattle.stack_driver.specs.References.{Reference}
 use Rattle.stack_driver.specs.Conditions.{IsNode, IsView}
 use Rattle.stack_driver.specs.Arrays.{array_dim, array_domain, whole_view}

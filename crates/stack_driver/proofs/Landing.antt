@@ -3,9 +3,9 @@ use Rattle.std.proofs.Common.{◌≡◌, ◌<◌, ◌∙◌, ℕ, ℤ, false, Li
 use Rattle.std.specs.Prelude.{slice_index_or}
 use Rattle.cells.specs.declared.dtype.Dtype.{Dtype}
 use Rattle.cells.proofs.Laws.{else_from}
-use Rattle.index_transform.specs.Bounds.{Bounds}
-use Rattle.index_transform.specs.Transforms.{DomainAndMaps}
-use Rattle.index_transform.specs.Values.{value_at}
+use Rattle.transform_composition.specs.Bounds.{Bounds}
+use Rattle.transform_composition.specs.Transforms.{DomainAndMaps}
+use Rattle.transform_composition.specs.Values.{value_at}
 use Rattle.stack_driver.specs.References.{Reference}
 use Rattle.stack_driver.specs.Targets.{Target, in_shape, has_index}
 use Rattle.stack_driver.specs.Views.{Look, look_of, target_of, leaf_target, last_target}

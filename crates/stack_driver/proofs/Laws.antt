@@ -10,4 +10,4 @@ pub use Rattle.stack_driver.proofs.StackRules.{layers_alike, length-stacked_dims
 pub use Rattle.stack_driver.proofs.StackTargets.{last_targets}
 -- laws of crates below, given on to those above
 pub use Rattle.cast_driver.proofs.Laws.{IsWord-word_back}
-pub use Rattle.index_transform.proofs.Laws.{length-cells_of}
+pub use Rattle.transform_composition.proofs.Laws.{length-cells_of}

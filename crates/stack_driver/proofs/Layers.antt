@@ -2,7 +2,7 @@
 use Rattle.std.proofs.Common.{◌≡◌, ◌<◌, ℕ, List, [], ◌∷◌, length, map, get_or, ap, subst, ◌∙◌, arith, zero, suc}
 use Rattle.std.specs.List.{AllByRecursion}
 use Rattle.cells.specs.declared.dtype.Dtype.{Dtype}
-use Rattle.index_transform.specs.Transforms.{DomainAndMaps}
+use Rattle.transform_composition.specs.Transforms.{DomainAndMaps}
 use Rattle.stack_driver.specs.References.{Reference}
 use denote.Param.Weighed.{at_most}
 use Rattle.stack_driver.specs.declared.view.View.{View, size_is-View, size-View, map-View, every-View, every_here-View, every_held-View}

@@ -2,8 +2,8 @@
 use Rattle.std.proofs.Common.{◌≡◌, ◌∙◌, ℕ, List, [], ◌∷◌, ◌++◌, map, Option, Some, None, Result, Ok, Err, refl, sym, ap, subst}
 use Rattle.cast_driver.specs.declared.cast.Cast.{Cast}
 use Rattle.cells.specs.declared.dtype.Dtype.{Dtype}
-use Rattle.index_transform.specs.Transforms.{DomainAndMaps}
-use Rattle.index_transform.specs.Values.{value_at}
+use Rattle.transform_composition.specs.Transforms.{DomainAndMaps}
+use Rattle.transform_composition.specs.Values.{value_at}
 use Rattle.stack_driver.specs.Counts.{Shown, casts_of}
 use Rattle.stack_driver.specs.Leaves.{behind, IsLeafOf}
 use Rattle.stack_driver.specs.References.{Reference}

@@ -3,10 +3,10 @@ use Rattle.std.proofs.Common.{◌≡◌, ◌≢◌, ◌<◌, ◌∙◌, ◌+◌,
 use Rattle.std.proofs.lemmas.List.{map_more, get_or-take, get_or_default, length-take-le}
 use Rattle.std.specs.List.{position_from, zip, list_all}
 use Rattle.std.specs.Prelude.{int_le}
-use Rattle.index_transform.specs.Bounds.{Bounds, is_index}
-use Rattle.index_transform.specs.Transforms.{DomainAndMaps}
-use Rattle.index_transform.specs.Values.{is_effective, value_at, first_overflow, unless_overflow, unless_outside, numbers_of, at_answer}
-use Rattle.index_transform.specs.declared.error.AtError.TheVariants.{OutOfRange, Overflow}
+use Rattle.transform_composition.specs.Bounds.{Bounds, is_index}
+use Rattle.transform_composition.specs.Transforms.{DomainAndMaps}
+use Rattle.transform_composition.specs.Values.{is_effective, value_at, first_overflow, unless_overflow, unless_outside, numbers_of, at_answer}
+use Rattle.transform_composition.specs.declared.AtError.TheVariants.{OutOfRange, Overflow}
 use Rattle.cells.proofs.Laws.{both, then_from, else_from}
 use Rattle.stack_driver.specs.Targets.{Target, is_member, has_index}
 use Rattle.stack_driver.specs.Views.{Look, look_of, last_target}

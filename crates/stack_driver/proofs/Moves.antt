@@ -1,9 +1,9 @@
 -- The targets of a view under another own transform.
 use Rattle.std.proofs.Common.{◌≡◌, ◌∙◌, ℤ, List, length, map, Err, sym, ap, subst}
 use Rattle.cells.specs.declared.dtype.Dtype.{Dtype}
-use Rattle.index_transform.specs.Bounds.{Bounds}
-use Rattle.index_transform.specs.Transforms.{DomainAndMaps}
-use Rattle.index_transform.specs.Values.{value_at}
+use Rattle.transform_composition.specs.Bounds.{Bounds}
+use Rattle.transform_composition.specs.Transforms.{DomainAndMaps}
+use Rattle.transform_composition.specs.Values.{value_at}
 use Rattle.transform_composition.specs.Agreeing.{Agrees, IsCovered}
 use Rattle.stack_driver.specs.References.{Reference}
 use Rattle.stack_driver.specs.Targets.{in_shape}

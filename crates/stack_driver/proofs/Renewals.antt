@@ -4,12 +4,12 @@ use Rattle.std.proofs.lemmas.List.{take_more, length-take-le}
 use Rattle.std.specs.List.{list_all, list_any, zip}
 use Rattle.cells.specs.declared.dtype.Dtype.{Dtype}
 use Rattle.cells.proofs.Laws.{both, both_true}
-use Rattle.index_transform.specs.Bounds.{Bounds, is_index}
-use Rattle.index_transform.specs.Members.{effective_bounds}
-use Rattle.index_transform.specs.Maps.{is_map, is_fixed, fits_dim, fits, are_entries, size_of}
-use Rattle.index_transform.specs.Transforms.{DomainAndMaps}
-use Rattle.index_transform.specs.declared.map.OutMap.{OutMap}
-use Rattle.index_transform.specs.declared.map.OutMap.TheVariants.{Constant, Strided, Indexed}
+use Rattle.transform_composition.specs.Bounds.{Bounds, is_index}
+use Rattle.transform_composition.specs.Members.{effective_bounds}
+use Rattle.transform_composition.specs.Maps.{is_map, is_fixed, fits_dim, fits, are_entries, size_of}
+use Rattle.transform_composition.specs.Transforms.{DomainAndMaps}
+use Rattle.transform_composition.specs.declared.OutMap.{OutMap}
+use Rattle.transform_composition.specs.declared.OutMap.TheVariants.{Constant, Strided, Indexed}
 use Rattle.stack_driver.specs.References.{Reference}
 use Rattle.transform_composition.specs.Tightening.{tightened, tighten_answer, on_result, on_dims}
 use Rattle.transform_composition.specs.declared.error.ComposeError.{ComposeError}

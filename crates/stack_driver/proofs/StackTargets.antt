@@ -2,10 +2,10 @@
 use Rattle.std.proofs.Common.{◌≡◌, ◌∙◌, ℕ, ◌+◌, ◌<◌, suc, ℤ, pos, ◌+ℤ◌, ◌*ℤ◌, List, [], ◌∷◌, length, map, get_or, Err, refl, ap, arith}
 use Rattle.std.proofs.Math.IntN.{*ℤ_comm, *ℤ-one, one}
 use Rattle.std.proofs.lemmas.Int.{ints}
-use Rattle.index_transform.specs.Bounds.{Bounds}
-use Rattle.index_transform.specs.declared.domain.Domain.{Domain}
-use Rattle.index_transform.specs.Identity.{identity_maps, identity_over}
-use Rattle.index_transform.specs.Values.{map_value, value_at}
+use Rattle.transform_composition.specs.Bounds.{Bounds}
+use Rattle.transform_composition.specs.declared.Domain.{Domain}
+use Rattle.transform_composition.specs.Identity.{identity_maps, identity_over}
+use Rattle.transform_composition.specs.Values.{map_value, value_at}
 use Rattle.stack_driver.specs.Stacks.{HasLastTargets}
 use Rattle.stack_driver.specs.Views.{Look, look_of, last_target}
 use Rattle.stack_driver.specs.declared.error.TargetError.TheVariants.{Uncovered}

@@ -1,7 +1,7 @@
 -- The same view under another own transform, by its form.
 use Rattle.std.proofs.Common.{◌≡◌, ◌∙◌, List, [], ◌∷◌, map, refl, sym, ap, subst}
 use Rattle.cells.specs.declared.dtype.Dtype.{Dtype}
-use Rattle.index_transform.specs.Transforms.{DomainAndMaps}
+use Rattle.transform_composition.specs.Transforms.{DomainAndMaps}
 use Rattle.stack_driver.specs.References.{Reference}
 use Rattle.stack_driver.specs.Changes.{under_step, under}
 use Rattle.stack_driver.specs.declared.view.View.{View, ind-View, roll-View, map-View, fold-View, fold-roll-View}

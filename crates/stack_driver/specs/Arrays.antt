@@ -1,8 +1,8 @@
 -- The view of a whole array.
 use Rattle.std.specs.Prelude.{ℕ, pos, ◌-ℤ◌, [], map, Bool, false, not}
-use Rattle.index_transform.specs.Bounds.{Bounds}
-use Rattle.index_transform.specs.Identity.{identity_over}
-use Rattle.index_transform.specs.declared.domain.Domain.{Domain}
+use Rattle.transform_composition.specs.Bounds.{Bounds}
+use Rattle.transform_composition.specs.Identity.{identity_over}
+use Rattle.transform_composition.specs.declared.Domain.{Domain}
 use Rattle.stack_driver.specs.References.{Reference}
 use Rattle.stack_driver.specs.declared.view.View.{View}
 use Rattle.stack_driver.specs.declared.view.View.TheVariants as view

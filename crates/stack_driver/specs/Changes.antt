@@ -1,7 +1,7 @@
 -- The same view under another transform.
 use Rattle.std.specs.Prelude.{◌≡◌, ℤ, List, length, map, Result, Ok, Err}
-use Rattle.index_transform.specs.Transforms.{DomainAndMaps}
-use Rattle.index_transform.specs.Values.{value_at}
+use Rattle.transform_composition.specs.Transforms.{DomainAndMaps}
+use Rattle.transform_composition.specs.Values.{value_at}
 use Rattle.transform_composition.specs.Agreeing.{IsCovered}
 use Rattle.transform_composition.specs.Composing.{composed}
 use Rattle.transform_composition.specs.declared.error.ComposeError.{ComposeError}

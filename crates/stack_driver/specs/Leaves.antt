@@ -1,7 +1,7 @@
 -- An array under casts: its targets, by the one transform and the casts.
 use Rattle.std.specs.Prelude.{◌≡◌, ℤ, List, Result, Ok, Err}
 use Rattle.cast_driver.specs.declared.cast.Cast.{Cast}
-use Rattle.index_transform.specs.Values.{value_at}
+use Rattle.transform_composition.specs.Values.{value_at}
 use Rattle.stack_driver.specs.Counts.{casts_of}
 use Rattle.stack_driver.specs.References.{Reference}
 use Rattle.stack_driver.specs.Targets.{Target, in_shape}

@@ -11,9 +11,9 @@ pub mod Leaves
 -- names of crates below, given on to those above
 pub use Rattle.transform_composition.specs.Tightening
 pub use Rattle.cast_driver.specs.Chain
-pub use Rattle.index_transform.specs.Cells
-pub use Rattle.index_transform.specs.Transforms
-pub use Rattle.index_transform.specs.Values
-pub use Rattle.index_transform.specs.Bounds
-pub use Rattle.index_transform.specs.Members
+pub use Rattle.transform_composition.specs.Cells
+pub use Rattle.transform_composition.specs.Transforms
+pub use Rattle.transform_composition.specs.Values
+pub use Rattle.transform_composition.specs.Bounds
+pub use Rattle.transform_composition.specs.Members
 pub use Rattle.transform_composition.specs.Reading

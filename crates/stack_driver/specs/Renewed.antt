@@ -3,11 +3,11 @@ use Rattle.std.specs.Prelude.{◌≡◌, ℕ, ◌+◌, ◌==◌, Bool, false, if
 use Rattle.std.specs.List.{list_any}
 use Rattle.cells.specs.Shapes.{IsShape}
 use Rattle.cells.specs.declared.dtype.Dtype.{Dtype}
-use Rattle.index_transform.specs.Bounds.{Bounds}
-use Rattle.index_transform.specs.Members.{effective_bounds}
-use Rattle.index_transform.specs.Transforms.{DomainAndMaps, on_dims}
-use Rattle.index_transform.specs.declared.map.OutMap.{OutMap}
-use Rattle.index_transform.specs.declared.map.OutMap.TheVariants.{Constant, Strided, Indexed}
+use Rattle.transform_composition.specs.Bounds.{Bounds}
+use Rattle.transform_composition.specs.Members.{effective_bounds}
+use Rattle.transform_composition.specs.Transforms.{DomainAndMaps, on_dims}
+use Rattle.transform_composition.specs.declared.OutMap.{OutMap}
+use Rattle.transform_composition.specs.declared.OutMap.TheVariants.{Constant, Strided, Indexed}
 use Rattle.transform_composition.specs.Tightening.{tighten_answer}
 use Rattle.transform_composition.specs.declared.error.ComposeError.{ComposeError}
 use Rattle.stack_driver.specs.Arrays.{array_domain}

@@ -3,10 +3,10 @@ use Rattle.std.specs.Prelude.{ℕ, ◌+◌, ◌==◌, not, ◌&&◌, Bool, List,
 use Rattle.std.specs.List.{list_all, position_from}
 use Rattle.std.specs.Str.{bytes_eq}
 use Rattle.cells.specs.DtypeNames.{dtype_name}
-use Rattle.index_transform.specs.Bounds.{Bounds}
-use Rattle.index_transform.specs.Around.{around_all}
-use Rattle.index_transform.specs.Identity.{identity_over}
-use Rattle.index_transform.specs.declared.domain.Domain.{Domain}
+use Rattle.transform_composition.specs.Bounds.{Bounds}
+use Rattle.transform_composition.specs.Around.{around_all}
+use Rattle.transform_composition.specs.Identity.{identity_over}
+use Rattle.transform_composition.specs.declared.Domain.{Domain}
 use Rattle.stack_driver.specs.Views.{look_of, own_transform, target_of, last_target}
 use Rattle.stack_driver.specs.declared.error.TargetError.TheVariants.{Uncovered}
 use Rattle.stack_driver.specs.declared.error.StackError.{StackError}

@@ -3,10 +3,10 @@ use Rattle.std.specs.Prelude.{ℕ, ℤ, List, [], ◌∷◌, ◌++◌, map, Resu
 use Rattle.cells.specs.declared.dtype.Dtype.{Dtype}
 use Rattle.cells.specs.declared.dtype.Dtype.TheVariants.{I32}
 use Rattle.cast_driver.specs.declared.cast.Cast.{Cast}
-use Rattle.index_transform.specs.Bounds.{Bounds}
-use Rattle.index_transform.specs.Transforms.{DomainAndMaps}
-use Rattle.index_transform.specs.Values.{value_at}
-use Rattle.index_transform.specs.Cells.{cells_of}
+use Rattle.transform_composition.specs.Bounds.{Bounds}
+use Rattle.transform_composition.specs.Transforms.{DomainAndMaps}
+use Rattle.transform_composition.specs.Values.{value_at}
+use Rattle.transform_composition.specs.Cells.{cells_of}
 use Rattle.stack_driver.specs.References.{Reference}
 use Rattle.stack_driver.specs.Targets.{Target, in_shape, has_index}
 use Rattle.stack_driver.specs.declared.error.TargetError.{TargetError}

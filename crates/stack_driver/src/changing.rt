@@ -7,9 +7,8 @@ ghost use Rattle.transform_composition.specs.declared.error.ComposeError.{Compos
 
 use crate::look::transform_of;
 use crate::view::View;
-use index_transform::Transform;
 use std::alloc::Global;
-use transform_composition::{ComposeError, compose};
+use transform_composition::{ComposeError, Transform, compose};
 
 /// Gives a view another own transform: a leaf or a stack this one, a cast's base likewise. Nothing is composed, so a bound
 /// that was marked implicit stays so.

@@ -4,8 +4,8 @@ ghost use Rattle.stack_driver.specs.declared.view.View.TheVariants as view;
 use crate::reference::ArrayRef;
 use crate::view::View;
 use cells::{Boxed, Dtype, List, Sizes};
-use index_transform::Transform;
 use std::alloc::{AllocError, Global};
+use transform_composition::Transform;
 
 /// A view equal to this one.
 ///

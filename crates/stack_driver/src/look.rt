@@ -6,7 +6,7 @@ ghost use Rattle.stack_driver.specs.Views.{look_of, own_transform};
 use crate::reference::ArrayRef;
 use crate::view::View;
 use cells::Dtype;
-use index_transform::Transform;
+use transform_composition::Transform;
 
 /// The dtype that a view shows; that of a stack is its first layer's.
 pub fn dtype(v: &View) -> Dtype

@@ -1,7 +1,7 @@
 // A view with the bounds that its array has now.
 ghost use Rattle.std.specs.Prelude.{◌≡◌, ◌≢◌, ◌+◌, ℕ, length, OnOk, IfOk, IfErr, Ok, Err, if◌then◌else◌};
 ghost use Rattle.std.specs.List.{list_any};
-ghost use Rattle.index_transform.specs.Members.{effective_bounds};
+ghost use Rattle.transform_composition.specs.Members.{effective_bounds};
 ghost use Rattle.stack_driver.specs.Conditions.{IsView};
 ghost use Rattle.stack_driver.specs.Renewed.{IsNewShape, MayRenew, reshaped, goes_from, opened_dims, opened, leaf_of, leaf_renewed, renewed};
 ghost use Rattle.stack_driver.specs.Arrays.{array_domain};
@@ -16,9 +16,8 @@ use crate::reference::ArrayRef;
 use crate::view::View;
 use crate::wholes::array_domain;
 use cells::Sizes;
-use index_transform::{Interval, OutMap, Transform, look_at_all};
 use std::alloc::{AllocError, Global};
-use transform_composition::{ComposeError, tighten};
+use transform_composition::{ComposeError, Interval, OutMap, Transform, look_at_all, tighten};
 
 /// The view with the bounds that its array has under a shape: implicit bounds of dimensions from which a strided map goes are
 /// taken anew from the array's domain.

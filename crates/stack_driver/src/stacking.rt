@@ -1,8 +1,8 @@
 // Stacks of views.
 ghost use Rattle.std.specs.Prelude.{◌≡◌, ◌≢◌, ◌<◌, ◌≤◌, ◌==◌, ℕ, List, length, map, slice_index_or, not, IsTrue, if◌then◌else◌, [], IfOk, IfErr, IfSome, Ok, Err, Some, None};
 ghost use Rattle.std.specs.List.{AllByRecursion, list_all, position_from};
-ghost use Rattle.index_transform.specs.Bounds.{Bounds};
-ghost use Rattle.index_transform.specs.Transforms.{IsDomain};
+ghost use Rattle.transform_composition.specs.Bounds.{Bounds};
+ghost use Rattle.transform_composition.specs.Transforms.{IsDomain};
 ghost use Rattle.stack_driver.specs.Conditions.{IsView};
 ghost use Rattle.stack_driver.specs.Stacks.{column, stacked_dims, has_label, stacked_labels, stacked_domain, is_like, first_unlike, stack_answer, HasLastTargets};
 ghost use Rattle.stack_driver.specs.Views.{look_of, own_transform};
@@ -12,8 +12,8 @@ use crate::error::StackError;
 use crate::look::{dtype, transform_of};
 use crate::view::View;
 use cells::{List, Name};
-use index_transform::{Domain, Interval, Transform, around_all};
 use std::alloc::{AllocError, Global};
+use transform_composition::{Domain, Interval, Transform, around_all};
 
 impl View {
     /// The stack of some views: a cell belongs to the last of them whose domain has it.

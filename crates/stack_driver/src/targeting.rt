@@ -2,8 +2,8 @@
 ghost use Rattle.std.specs.Prelude.{◌≡◌, ◌≢◌, ◌≤ℤ◌, ◌++◌, ◌∷◌, [], pos, false, None, Some, List, map, length, unsigned_abs, IsTrue, IfOk, IfErr, IfSome, IfNone, Ok, Err};
 ghost use Rattle.std.specs.List.{All, list_all, zip};
 ghost use Rattle.cells.specs.Shapes.{IsShape};
-ghost use Rattle.index_transform.specs.Bounds.{Bounds};
-ghost use Rattle.index_transform.specs.Values.{value_at};
+ghost use Rattle.transform_composition.specs.Bounds.{Bounds};
+ghost use Rattle.transform_composition.specs.Values.{value_at};
 ghost use Rattle.stack_driver.specs.Targets.{LeadTo, in_shape, IsOutside, is_member, has_index};
 ghost use Rattle.stack_driver.specs.Views.{look_of, target_of, leaf_target};
 ghost use Rattle.stack_driver.specs.Conditions.{IsView, IsLast};
@@ -15,8 +15,8 @@ use crate::reference::ArrayRef;
 use crate::view::View;
 use cast_driver::{Cast, Chain};
 use cells::{Dtype, Index};
-use index_transform::{AtError, Interval, Transform, is_index};
 use std::alloc::{AllocError, Global};
+use transform_composition::{AtError, Interval, Transform, is_index};
 
 /// Where the cell of a view at an index vector lies.
 ///

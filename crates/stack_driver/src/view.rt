@@ -1,6 +1,6 @@
 use crate::reference::ArrayRef;
 use cells::{Boxed, Dtype, List};
-use index_transform::Transform;
+use transform_composition::Transform;
 
 /// An array seen through a transform, a cast of a view, or a stack of views under a transform.
 ///

@@ -1,15 +1,15 @@
 // The view of a whole array.
 ghost use Rattle.std.specs.Prelude.{◌≡◌, ◌≤◌, ◌-◌, ◌^◌, map, IfOk, [], length};
 ghost use Rattle.cells.specs.Shapes.{IsShape};
-ghost use Rattle.index_transform.specs.Transforms.{IsDomain};
+ghost use Rattle.transform_composition.specs.Transforms.{IsDomain};
 ghost use Rattle.stack_driver.specs.Conditions.{IsView};
 ghost use Rattle.stack_driver.specs.Arrays.{array_dim, array_domain, whole_view};
 
 use crate::reference::ArrayRef;
 use crate::view::View;
 use cells::{List, Name};
-use index_transform::{Domain, Interval, Transform};
 use std::alloc::{AllocError, Global};
+use transform_composition::{Domain, Interval, Transform};
 
 /// The view of a whole array. Its domain begins at 0 along each dimension; its upper bounds are implicit where a store holds
 /// the array, and explicit where the run does.

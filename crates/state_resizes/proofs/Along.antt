@@ -14,12 +14,12 @@ use Rattle.history.specs.Refusals.{IsDamagedResize}
 use Rattle.history.specs.Resizes.{cut_chunks, is_cut}
 use Rattle.history.proofs.Laws.{kept_among, some_inj}
 use Rattle.chunk_plans.specs.Writes.{IsSameButCache}
-use Rattle.state_laws.specs.Agreement.{KeepsAgreement}
-use Rattle.state_laws.specs.Log.{Log}
-use Rattle.state_laws.specs.Seen.{StoreSeen, IsFrame}
-use Rattle.state_laws.specs.declared.deed.NewShape.{NewShape}
-use Rattle.state_laws.specs.declared.error.FetchError.{FetchError}
-use Rattle.state_laws.specs.declared.error.FetchError.TheVariants as fetch
+use Rattle.chunk_plans.specs.Agreement.{KeepsAgreement}
+use Rattle.chunk_plans.specs.Log.{Log}
+use Rattle.chunk_plans.specs.Seen.{StoreSeen, IsFrame}
+use Rattle.chunk_plans.specs.declared.NewShape.{NewShape}
+use Rattle.chunk_plans.specs.declared.FetchError.{FetchError}
+use Rattle.chunk_plans.specs.declared.FetchError.TheVariants as fetch
 use Rattle.state_resizes.specs.Answers.{fixed_by}
 use Rattle.state_resizes.specs.Cuts.{AreCut, AreFilled, IsLeftBy, IsLeftOfCut, bytes_at}
 use Rattle.state_resizes.specs.Refusals.{IsUnfilled}

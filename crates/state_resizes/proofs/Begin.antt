@@ -17,15 +17,15 @@ use Rattle.history.specs.Legal.{MayTake}
 use Rattle.history.specs.Refusals.{HasTooManyCut}
 use Rattle.history.specs.Resizes.{cut_chunks}
 use Rattle.history.proofs.Laws.{IsGood}
-use Rattle.state_laws.specs.Homes.{MayHaveShape}
-use Rattle.state_laws.proofs.Laws.{taken_shape, good_in}
+use Rattle.chunk_plans.specs.Homes.{MayHaveShape}
+use Rattle.chunk_plans.proofs.Laws.{taken_shape, good_in}
 use Rattle.chunk_plans.specs.Resized.{cut_indices}
 use Rattle.chunk_plans.proofs.Laws.{shape_told, chunk_told, valid_chunks, valid_ranks}
-use Rattle.state_laws.specs.Agreement.{IsState}
-use Rattle.state_laws.specs.Fetches.{IsChunkOf}
-use Rattle.state_laws.specs.Log.{Log}
-use Rattle.state_laws.specs.Seen.{StoreSeen}
-use Rattle.state_laws.specs.declared.deed.NewShape.{NewShape}
+use Rattle.chunk_plans.specs.Agreement.{IsState}
+use Rattle.chunk_plans.specs.Fetches.{IsChunkOf}
+use Rattle.chunk_plans.specs.Log.{Log}
+use Rattle.chunk_plans.specs.Seen.{StoreSeen}
+use Rattle.chunk_plans.specs.declared.NewShape.{NewShape}
 use Rattle.state_resizes.specs.Conditions.{IsAsked}
 use Rattle.state_resizes.specs.Cuts.{AreAsked, AreCut, IsBegun, bytes_at, unfilled}
 use Rattle.state_resizes.specs.declared.keys.Asked.{Asked}

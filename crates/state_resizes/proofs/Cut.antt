@@ -19,9 +19,9 @@ use Rattle.history.specs.Resizes.{cut_chunks, is_cut, is_cut_in, reaches_into, i
 use Rattle.history.specs.Touch.{touches}
 use Rattle.history.proofs.Laws.{ArePositive, IsGood, among_kept, and_left, and_right, first_cell, first_index, first_inside, good_positive, in_grid, inside-from, kept_among, known_after-more, no_metadata, one_chunk, opened_le, some_inj, valid_of_cut}
 use Rattle.chunk_plans.proofs.Laws.{valid_ranks}
-use Rattle.state_laws.proofs.Laws.{good_in, known-outline}
-use Rattle.state_laws.specs.Changing.{AreTouched, IsOneOf}
-use Rattle.state_laws.specs.Outline.{outline}
+use Rattle.chunk_plans.proofs.Laws.{good_in, known-outline}
+use Rattle.chunk_plans.specs.Changing.{AreTouched, IsOneOf}
+use Rattle.chunk_plans.specs.Outline.{outline}
 use Rattle.state_resizes.proofs.Lists.{told_apart, filtered_apart, distinct_by, one_mapped, mapped_one, each_by}
 
 -- keys of chunks, as the history lists them

@@ -13,7 +13,7 @@ use Rattle.cells.proofs.IndexVectors.{slice_index_or-index_vectors}
 use Rattle.kv_face.specs.Store.{keys_of}
 use Rattle.kv_face.specs.declared.change.Change.{Change}
 use Rattle.history.specs.Stored.{HasBytes}
-use Rattle.state_laws.specs.Changing.{IsOneOf}
+use Rattle.chunk_plans.specs.Changing.{IsOneOf}
 use Rattle.state_resizes.specs.Cuts.{bytes_at}
 
 -- texts that differ are told apart

@@ -17,12 +17,12 @@ use Rattle.history.specs.Own.{resized_event}
 use Rattle.history.specs.ReadRows.{mount_of}
 use Rattle.history.specs.Resizes.{cut_chunks}
 use Rattle.history.proofs.Laws.{none_is_none, some_inj}
-use Rattle.state_laws.specs.Agreement.{IsState, TakesMount}
-use Rattle.state_laws.specs.Changing.{AreMade, AreTouched, IsNewShape}
-use Rattle.state_laws.specs.Log.{Log}
-use Rattle.state_laws.specs.Seen.{StoreSeen, IsFrame}
-use Rattle.state_laws.specs.declared.deed.NewShape.{NewShape}
-use Rattle.state_laws.proofs.Laws.{takes_chunk, together-keys}
+use Rattle.chunk_plans.specs.Agreement.{IsState, TakesMount}
+use Rattle.chunk_plans.specs.Changing.{AreMade, AreTouched, IsNewShape}
+use Rattle.chunk_plans.specs.Log.{Log}
+use Rattle.chunk_plans.specs.Seen.{StoreSeen, IsFrame}
+use Rattle.chunk_plans.specs.declared.NewShape.{NewShape}
+use Rattle.chunk_plans.proofs.Laws.{takes_chunk, together-keys}
 use Rattle.state_resizes.specs.Cuts.{AreAsked, AreCut}
 use Rattle.state_resizes.specs.declared.keys.Asked.{Asked}
 use Rattle.state_resizes.proofs.Cut.{keys_distinct, keys_touched}

@@ -17,20 +17,20 @@ use Rattle.history.specs.ResizeRows.{MayResize, HasNoDamagedPart}
 use Rattle.history.specs.Resizes.{cut_chunks}
 use Rattle.history.specs.Stored.{AreChangesOf}
 use Rattle.history.proofs.Laws.{some_inj}
-use Rattle.state_laws.specs.Recorded.{with_numbers}
+use Rattle.chunk_plans.specs.Recorded.{with_numbers}
 use Rattle.chunk_plans.specs.Writes.{IsSameButCache}
 use Rattle.chunk_plans.proofs.Laws.{valid_ranks}
-use Rattle.state_laws.specs.Agreement.{Opening, Agrees, IsState, KeepsAgreement}
-use Rattle.state_laws.specs.Changing.{IsRightShape, KeepsByShape, resized}
-use Rattle.state_laws.specs.Fetches.{HasFailed}
-use Rattle.state_laws.specs.Log.{Log}
-use Rattle.state_laws.specs.Seen.{StoreSeen, IsFrame, IsQuiet, IsRead}
-use Rattle.state_laws.specs.declared.deed.ChangeError.{ChangeError}
-use Rattle.state_laws.specs.declared.deed.ChangeError.TheVariants as change
-use Rattle.state_laws.specs.declared.deed.NewShape.{NewShape}
-use Rattle.state_laws.specs.declared.error.FetchError.{FetchError}
-use Rattle.state_laws.specs.declared.error.FetchError.TheVariants as fetch
-use Rattle.state_laws.proofs.Laws.{frame_same, frame_then, good_in}
+use Rattle.chunk_plans.specs.Agreement.{Opening, Agrees, IsState, KeepsAgreement}
+use Rattle.chunk_plans.specs.Changing.{IsRightShape, KeepsByShape, resized}
+use Rattle.chunk_plans.specs.Fetches.{HasFailed}
+use Rattle.chunk_plans.specs.Log.{Log}
+use Rattle.chunk_plans.specs.Seen.{StoreSeen, IsFrame, IsQuiet, IsRead}
+use Rattle.chunk_plans.specs.declared.ChangeError.{ChangeError}
+use Rattle.chunk_plans.specs.declared.ChangeError.TheVariants as change
+use Rattle.chunk_plans.specs.declared.NewShape.{NewShape}
+use Rattle.chunk_plans.specs.declared.FetchError.{FetchError}
+use Rattle.chunk_plans.specs.declared.FetchError.TheVariants as fetch
+use Rattle.chunk_plans.proofs.Laws.{frame_same, frame_then, good_in}
 use Rattle.state_resizes.specs.declared.error.ResizeError.TheVariants as error
 use Rattle.state_resizes.specs.declared.keys.Asked.{Asked}
 use Rattle.state_resizes.specs.Answers.{IsResize, fixed_by}

@@ -23,16 +23,16 @@ use Rattle.chunk_plans.specs.Laid.{IsChunkOf, cut_word, word_within}
 use Rattle.chunk_plans.specs.Resized.{is_gone}
 use Rattle.chunk_plans.specs.Left.{IsLeft}
 use Rattle.chunk_plans.proofs.Laws.{IsLaidBy, shape_told, chunk_told, dtype_told, valid_chunks, valid_ranks, same_by}
-use Rattle.state_laws.specs.Agreement.{IsState}
-use Rattle.state_laws.specs.Fetches.{HasFailed, IsAnswered, IsDamagedThere}
-use Rattle.state_laws.specs.Fetches as fetches
-use Rattle.state_laws.specs.Log.{Log}
-use Rattle.state_laws.specs.Looks.{IsFailedLook}
-use Rattle.state_laws.specs.Seen.{StoreSeen}
-use Rattle.state_laws.specs.declared.deed.NewShape.{NewShape}
-use Rattle.state_laws.specs.declared.error.FetchError.{FetchError}
-use Rattle.state_laws.specs.declared.error.FetchError.TheVariants as fetch
-use Rattle.state_laws.proofs.Laws.{form_fill, good_in}
+use Rattle.chunk_plans.specs.Agreement.{IsState}
+use Rattle.chunk_plans.specs.Fetches.{HasFailed, IsAnswered, IsDamagedThere}
+use Rattle.chunk_plans.specs.Fetches as fetches
+use Rattle.chunk_plans.specs.Log.{Log}
+use Rattle.chunk_plans.specs.Looks.{IsFailedLook}
+use Rattle.chunk_plans.specs.Seen.{StoreSeen}
+use Rattle.chunk_plans.specs.declared.NewShape.{NewShape}
+use Rattle.chunk_plans.specs.declared.FetchError.{FetchError}
+use Rattle.chunk_plans.specs.declared.FetchError.TheVariants as fetch
+use Rattle.chunk_plans.proofs.Laws.{form_fill, good_in}
 use Rattle.state_resizes.specs.Answers.{fixed_by}
 use Rattle.state_resizes.specs.Cuts.{IsBegun, IsLeftBy, IsLeftOfCut}
 use Rattle.state_resizes.specs.Refusals.{IsFailedCall, IsUnfilled}

@@ -37,8 +37,8 @@ use Rattle.history.specs.Touch.{touches}
 use Rattle.history.proofs.Laws.{cell_of_is_cut, chunk_index-in_array, content_of_resize, cut_of_cell, first_cell, first_index, first_inside, generation_touched, inside_zeros, no_word_of_damaged, opened_le, reaches_own, resized_after-more, shape_now, some_inj, zeros}
 use Rattle.chunk_plans.specs.Laid.{cut_word, laid_word, word_within}
 use Rattle.chunk_plans.proofs.Laws.{snapshot_of_cut, kept_of_bytes, shape_told, chunk_told, fill_told}
-use Rattle.state_laws.specs.Changing.{IsOneOf}
-use Rattle.state_laws.specs.Outline.{outline}
+use Rattle.chunk_plans.specs.Changing.{IsOneOf}
+use Rattle.chunk_plans.specs.Outline.{outline}
 use Rattle.state_resizes.specs.Cuts.{bytes_at, IsCutNow, IsLeftOfCut}
 use Rattle.state_resizes.proofs.Cut.{positive, ranks, cut_valid, cut_reached, cut_listed, listed_cut, keys_distinct, known_later, touched_array, touched_cut, cut_touched, known_of}
 use Rattle.state_resizes.proofs.Lists.{any_at, one_mapped, change_at, key_changed}

@@ -9,10 +9,10 @@ use Rattle.history.specs.Own.{fault, resized_event}
 use Rattle.history.specs.ReadRows.{IsOnMount}
 use Rattle.history.specs.Refusals.{HasTooManyCut, IsNotAtomicResize, IsDamagedResize, resized_keys}
 use Rattle.history.specs.ResizeRows.{MayResize, HasNoDamagedPart}
-use Rattle.state_laws.specs.Recorded.{with_numbers}
-use Rattle.state_laws.specs.Agreement.{Opening, Agrees, KeepsAgreement}
-use Rattle.state_laws.specs.Log.{Log}
-use Rattle.state_laws.specs.Seen.{StoreSeen, IsFrame, IsQuiet}
+use Rattle.chunk_plans.specs.Recorded.{with_numbers}
+use Rattle.chunk_plans.specs.Agreement.{Opening, Agrees, KeepsAgreement}
+use Rattle.chunk_plans.specs.Log.{Log}
+use Rattle.chunk_plans.specs.Seen.{StoreSeen, IsFrame, IsQuiet}
 use Rattle.state_resizes.specs.declared.error.ResizeError.{ResizeError}
 use Rattle.state_resizes.specs.declared.error.ResizeError.TheVariants as error
 

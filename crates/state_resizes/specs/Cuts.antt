@@ -12,10 +12,10 @@ use Rattle.history.specs.Legal.{MayTake}
 use Rattle.history.specs.ReadRows.{mount_of}
 use Rattle.history.specs.Resizes.{cut_chunks, reaches_into}
 use Rattle.history.specs.Snapshots.{IsSnapshotOf}
-use Rattle.state_laws.specs.Agreement.{Opening, Agrees}
-use Rattle.state_laws.specs.Log.{Log}
-use Rattle.state_laws.specs.Seen.{StoreSeen}
-use Rattle.state_laws.specs.declared.deed.NewShape.{NewShape}
+use Rattle.chunk_plans.specs.Agreement.{Opening, Agrees}
+use Rattle.chunk_plans.specs.Log.{Log}
+use Rattle.chunk_plans.specs.Seen.{StoreSeen}
+use Rattle.chunk_plans.specs.declared.NewShape.{NewShape}
 use Rattle.chunk_plans.specs.Left.{IsLeft}
 use Rattle.state_resizes.specs.declared.keys.Asked.{Asked}
 

@@ -6,14 +6,14 @@ use Rattle.history.specs.Commit.{Key}
 use Rattle.history.specs.Own.{fault}
 use Rattle.history.specs.Refusals.{IsDamagedResize}
 use Rattle.chunk_plans.specs.Writes.{IsSameButCache}
-use Rattle.state_laws.specs.Agreement.{Opening, Agrees}
-use Rattle.state_laws.specs.Log.{Log}
-use Rattle.state_laws.specs.Seen.{StoreSeen}
-use Rattle.state_laws.specs.declared.deed.ChangeError.{ChangeError}
-use Rattle.state_laws.specs.declared.deed.ChangeError.TheVariants as change
-use Rattle.state_laws.specs.declared.deed.NewShape.{NewShape}
-use Rattle.state_laws.specs.declared.error.FetchError.{FetchError}
-use Rattle.state_laws.specs.declared.error.FetchError.TheVariants as fetch
+use Rattle.chunk_plans.specs.Agreement.{Opening, Agrees}
+use Rattle.chunk_plans.specs.Log.{Log}
+use Rattle.chunk_plans.specs.Seen.{StoreSeen}
+use Rattle.chunk_plans.specs.declared.ChangeError.{ChangeError}
+use Rattle.chunk_plans.specs.declared.ChangeError.TheVariants as change
+use Rattle.chunk_plans.specs.declared.NewShape.{NewShape}
+use Rattle.chunk_plans.specs.declared.FetchError.{FetchError}
+use Rattle.chunk_plans.specs.declared.FetchError.TheVariants as fetch
 use Rattle.state_resizes.specs.declared.error.ResizeError.{ResizeError}
 use Rattle.state_resizes.specs.declared.error.ResizeError.TheVariants as error
 use Rattle.state_resizes.specs.Answers.{fixed_by}

@@ -7,8 +7,8 @@ ghost use Rattle.history.specs.Resizes.{is_cut, reaches_into};
 ghost use Rattle.chunk_plans.specs.Laid.{IsChunkOf};
 ghost use Rattle.chunk_plans.specs.Left.{IsLeft};
 ghost use Rattle.chunk_plans.specs.Writes.{IsSameButCache};
-ghost use Rattle.state_laws.specs.Agreement.{IsState, KeepsAgreement};
-ghost use Rattle.state_laws.specs.Seen.{IsRead};
+ghost use Rattle.chunk_plans.specs.Agreement.{IsState, KeepsAgreement};
+ghost use Rattle.chunk_plans.specs.Seen.{IsRead};
 ghost use Rattle.state_resizes.specs.Cuts.{IsBegun, IsLeftBy};
 ghost use Rattle.state_resizes.specs.Refusals.{IsUnfilled};
 

@@ -3,8 +3,8 @@ ghost use Rattle.std.specs.Prelude.{◌≡◌, ◌≢◌, ◌<◌, ◌+◌, ℕ,
 ghost use Rattle.kv_face.specs.Store.{keys_of};
 ghost use Rattle.history.specs.Arrays.{Known, known_after, chunk_shape};
 ghost use Rattle.chunk_plans.specs.Writes.{IsSameButCache};
-ghost use Rattle.state_laws.specs.Agreement.{IsState, KeepsAgreement};
-ghost use Rattle.state_laws.specs.Seen.{IsRead};
+ghost use Rattle.chunk_plans.specs.Agreement.{IsState, KeepsAgreement};
+ghost use Rattle.chunk_plans.specs.Seen.{IsRead};
 ghost use Rattle.state_resizes.specs.Cuts.{AreAsked, AreCut, AreFilled, bytes_at};
 ghost use Rattle.state_resizes.specs.Refusals.{IsUnfilled};
 

@@ -3,16 +3,15 @@ ghost use Rattle.std.specs.Prelude.{◌≡◌, ◌++◌, ◌∷◌, [], ℕ, Lis
 ghost use Rattle.chunk_forms.specs.Metadata.{with_shape, metadata_text};
 ghost use Rattle.history.specs.Arrays.{Known, known_after, form_of};
 ghost use Rattle.history.specs.Chunks.{chunk_key, metadata_key};
-ghost use Rattle.state_laws.specs.Agreement.{IsState};
-ghost use Rattle.state_laws.specs.Fetches.{IsChunkOf};
+ghost use Rattle.chunk_plans.specs.Agreement.{IsState};
+ghost use Rattle.chunk_plans.specs.Fetches.{IsChunkOf};
 ghost use Rattle.state_resizes.specs.Cuts.{AreAsked, AreCut, IsBegun};
 
 use crate::reshaped::reshaped;
 use cells::{Name, Sizes, copy_name, copy_sizes};
 use chunk_forms::Form;
-use chunk_plans::{NewShape, State};
+use chunk_plans::{NewShape, State, metadata_change};
 use kv_face::{Change, KvStore};
-use state_laws::metadata_change;
 use std::alloc::{AllocError, Global};
 
 /// A new shape with the keys of the chunks that it cuts, and the changes of the store: first that of the metadata.

@@ -11,5 +11,6 @@ mod making;
 mod reshaped;
 mod resizing;
 
+pub use chunk_plans::{Bounds, MetaCause, OpenError, Opened};
 pub use error::ResizeError;
 pub use resizing::resize;

@@ -1,10 +1,10 @@
 // Making a new shape.
 ghost use Rattle.std.specs.Prelude.{◌≡◌, ◌+◌, ℕ, length, Some, Err, IfOk, OnOk, OnErr};
 ghost use Rattle.kv_face.specs.Store.{Contents, after};
-ghost use Rattle.state_laws.specs.Agreement.{IsState};
-ghost use Rattle.state_laws.specs.Changing.{AreMade, IsNewShape, KeepsByShape, resized};
-ghost use Rattle.state_laws.specs.Fetches.{HasFailed};
-ghost use Rattle.state_laws.specs.Seen.{IsFrame, IsQuiet};
+ghost use Rattle.chunk_plans.specs.Agreement.{IsState};
+ghost use Rattle.chunk_plans.specs.Changing.{AreMade, IsNewShape, KeepsByShape, resized};
+ghost use Rattle.chunk_plans.specs.Fetches.{HasFailed};
+ghost use Rattle.chunk_plans.specs.Seen.{IsFrame, IsQuiet};
 
 use crate::keys::Asked;
 use chunk_plans::{ChangeError, State};

@@ -4,7 +4,7 @@ ghost use Rattle.chunk_forms.specs.Metadata.{with_shape};
 ghost use Rattle.kv_face.specs.Store.{keys_of};
 ghost use Rattle.history.specs.Arrays.{Known, known_after, form_of};
 ghost use Rattle.history.specs.Commit.{are_together};
-ghost use Rattle.state_laws.specs.Agreement.{IsState};
+ghost use Rattle.chunk_plans.specs.Agreement.{IsState};
 ghost use Rattle.state_resizes.specs.Answers.{IsResize};
 ghost use Rattle.state_resizes.specs.Conditions.{IsAsked};
 ghost use Rattle.state_resizes.specs.Cuts.{AreAsked, AreCut};

@@ -29,7 +29,7 @@ use Rattle.chunk_fetches.specs.Agreement.{Opening, Agrees}
 use Rattle.chunk_fetches.specs.Log.{Log}
 use Rattle.chunk_fetches.specs.Outline.{outline}
 use Rattle.chunk_fetches.specs.Seen.{StoreSeen}
-use Rattle.transaction_cells.specs.Staging.{StagedChunk}
+use Rattle.chunk_fetches.specs.Staging.{StagedChunk}
 use Rattle.transactions.specs.Committing.{IsPreparedOf, MayCommitLater}
 use Rattle.transactions.specs.Conditions.{IsTxnIn}
 use Rattle.transactions.specs.Marking.{mark_of_kept}

@@ -10,10 +10,10 @@ use Rattle.history.specs.History.{History}
 use Rattle.history.specs.Reads.{Marks, has_mark, mark_of}
 use Rattle.history.proofs.Laws.{same_chunks}
 use Rattle.chunk_fetches.specs.Agreement.{Opening}
-use Rattle.transaction_cells.specs.Needs.{needs}
-use Rattle.transaction_cells.specs.Sites.{id_of}
-use Rattle.transaction_cells.specs.Staging.{StagedChunk}
-use Rattle.transaction_cells.specs.declared.view_cells.Piece.{Piece}
+use Rattle.chunk_fetches.specs.Needs.{needs}
+use Rattle.chunk_fetches.specs.Sites.{id_of}
+use Rattle.chunk_fetches.specs.Staging.{StagedChunk}
+use Rattle.chunk_fetches.specs.declared.Piece.{Piece}
 use Rattle.chunk_fetches.specs.Kept.{IsKeptIn, chunk_at, place_from}
 use Rattle.chunk_fetches.specs.Fetched.{AreFetchedAt, IsFetchedFor}
 use Rattle.transactions.specs.Had.{AreHad, IsHad, IsHadFor, had_from, had_of}

@@ -19,12 +19,12 @@ use Rattle.stack_driver.specs.declared.view.View.{View}
 use Rattle.chunk_fetches.specs.Fetches.{IsChunkOf}
 use Rattle.chunk_fetches.specs.Outline.{outline, outlined_event}
 use Rattle.chunk_fetches.proofs.Laws.{known-outline, grows_in}
-use Rattle.transaction_cells.specs.Operations.{HasSites}
-use Rattle.transaction_cells.specs.Pieces.{AreCells, IsPiece}
-use Rattle.transaction_cells.specs.Sites.{Site, pairs_at, sites_of}
-use Rattle.transaction_cells.specs.declared.view_cells.Piece.{Piece}
-use Rattle.transaction_cells.specs.declared.view_cells.ViewCells.{ViewCells}
-use Rattle.transaction_cells.proofs.Laws.{IsSiteIn, known_sites}
+use Rattle.chunk_fetches.specs.Operations.{HasSites}
+use Rattle.chunk_fetches.specs.Pieces.{AreCells, IsPiece}
+use Rattle.chunk_fetches.specs.Sites.{Site, pairs_at, sites_of}
+use Rattle.chunk_fetches.specs.declared.Piece.{Piece}
+use Rattle.chunk_fetches.specs.declared.ViewCells.{ViewCells}
+use Rattle.chunk_fetches.proofs.Laws.{IsSiteIn, known_sites}
 use Rattle.chunk_fetches.specs.Looking.{AreChunks}
 use Rattle.chunk_fetches.specs.Sources.{is_new, new_pieces}
 use Rattle.chunk_fetches.specs.Kept.{chunk_at}

@@ -37,14 +37,14 @@ use Rattle.stack_driver.specs.declared.view.View.{View}
 use Rattle.stack_targets.specs.Landings.{leaves_of}
 use Rattle.chunk_fetches.specs.Agreement.{Opening}
 use Rattle.chunk_fetches.specs.Outline.{outline, outlined_event}
-use Rattle.transaction_cells.specs.Gathered.{AreChunksOf, AreTypedChunks, IsTold}
-use Rattle.transaction_cells.specs.Operations.{AreStaged, HasSites, IsInArray, IsLeafIn, no_content}
-use Rattle.transaction_cells.specs.Pieces.{AreCells, IsPiece, ids_of}
-use Rattle.transaction_cells.specs.Sites.{Site, id_of, sites_of}
-use Rattle.transaction_cells.specs.Staging.{CanStage, StagedChunk}
-use Rattle.transaction_cells.specs.declared.view_cells.Piece.{Piece}
-use Rattle.transaction_cells.specs.declared.view_cells.ViewCells.{ViewCells}
-use Rattle.transaction_cells.proofs.Laws.{can_stage, count_of, known_sites}
+use Rattle.chunk_fetches.specs.Gathered.{AreChunksOf, AreTypedChunks, IsTold}
+use Rattle.chunk_fetches.specs.Operations.{AreStaged, HasSites, IsInArray, IsLeafIn, no_content}
+use Rattle.chunk_fetches.specs.Pieces.{AreCells, IsPiece, ids_of}
+use Rattle.chunk_fetches.specs.Sites.{Site, id_of, sites_of}
+use Rattle.chunk_fetches.specs.Staging.{CanStage, StagedChunk}
+use Rattle.chunk_fetches.specs.declared.Piece.{Piece}
+use Rattle.chunk_fetches.specs.declared.ViewCells.{ViewCells}
+use Rattle.chunk_fetches.proofs.Laws.{can_stage, count_of, known_sites}
 use Rattle.chunk_fetches.specs.Kept.{IsChunkThen, IsKeptIn, chunk_at, place_from}
 use Rattle.transactions.specs.Conditions.{IsKnownOp, IsTxnIn}
 use Rattle.chunk_fetches.specs.Decoding.{HasDamagedAmong}

@@ -22,13 +22,13 @@ use Rattle.stack_driver.specs.Targets.{Cell}
 use Rattle.stack_driver.specs.declared.view.View.{View}
 use Rattle.stack_targets.specs.Landings.{leaves_of}
 use Rattle.chunk_fetches.specs.Agreement.{Opening}
-use Rattle.transaction_cells.specs.Needs.{needs}
-use Rattle.transaction_cells.specs.Operations.{AreStaged, HasSites, IsLeafIn}
-use Rattle.transaction_cells.specs.Pieces.{IsPiece, ids_of}
-use Rattle.transaction_cells.specs.Sites.{id_of, sites_of}
-use Rattle.transaction_cells.specs.Staging.{StagedChunk}
-use Rattle.transaction_cells.specs.declared.view_cells.Piece.{Piece}
-use Rattle.transaction_cells.proofs.Laws.{needs_unwritten}
+use Rattle.chunk_fetches.specs.Needs.{needs}
+use Rattle.chunk_fetches.specs.Operations.{AreStaged, HasSites, IsLeafIn}
+use Rattle.chunk_fetches.specs.Pieces.{IsPiece, ids_of}
+use Rattle.chunk_fetches.specs.Sites.{id_of, sites_of}
+use Rattle.chunk_fetches.specs.Staging.{StagedChunk}
+use Rattle.chunk_fetches.specs.declared.Piece.{Piece}
+use Rattle.chunk_fetches.proofs.Laws.{needs_unwritten}
 use Rattle.chunk_fetches.specs.Kept.{IsKeptIn, chunk_at, place_from}
 use Rattle.chunk_fetches.specs.Fetched.{AreFetchedAt}
 use Rattle.transactions.specs.Had.{AreHad}

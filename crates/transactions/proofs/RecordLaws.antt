@@ -26,7 +26,7 @@ use Rattle.stack_driver.specs.declared.error.TargetError.{TargetError}
 use Rattle.stack_driver.specs.declared.view.View.{View}
 use Rattle.chunk_fetches.specs.Agreement.{Opening}
 use Rattle.chunk_fetches.specs.Outline.{outline, outlined_event}
-use Rattle.transaction_cells.proofs.Laws.{same_chunk}
+use Rattle.chunk_fetches.proofs.Laws.{same_chunk}
 use Rattle.transactions.specs.Conditions.{IsKnownOp}
 use Rattle.transactions.specs.Recording.{AreOfFootprint, IsOfView, IsRecorded}
 use Rattle.transactions.proofs.TxnLaws.{all_with}

@@ -9,11 +9,11 @@ use Rattle.history.specs.declared.event.Op.TheVariants.{Write, Read}
 use Rattle.index_transform.specs.Cells.{count_answer, is_finite}
 use Rattle.stack_driver.specs.Views.{look_of, targets_of}
 use Rattle.stack_driver.specs.declared.view.View.{View}
-use Rattle.transaction_cells.specs.Operations.{HasSites}
-use Rattle.transaction_cells.specs.Pieces.{AreCells}
-use Rattle.transaction_cells.specs.Sites.{Site, sites_of}
-use Rattle.transaction_cells.specs.declared.view_cells.ViewCells.{ViewCells}
-use Rattle.transaction_cells.proofs.Laws.{count_of}
+use Rattle.chunk_fetches.specs.Operations.{HasSites}
+use Rattle.chunk_fetches.specs.Pieces.{AreCells}
+use Rattle.chunk_fetches.specs.Sites.{Site, sites_of}
+use Rattle.chunk_fetches.specs.declared.ViewCells.{ViewCells}
+use Rattle.chunk_fetches.proofs.Laws.{count_of}
 use Rattle.transactions.specs.Reading.{IsFoundUnless, as_read_fault}
 use Rattle.chunk_fetches.specs.declared.error.ReadError.{ReadError}
 use Rattle.chunk_fetches.specs.declared.error.ReadError.TheVariants as read

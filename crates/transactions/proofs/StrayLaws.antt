@@ -27,13 +27,13 @@ use Rattle.stack_targets.specs.Landings.{leaves_of}
 use Rattle.chunk_fetches.specs.Agreement.{Opening}
 use Rattle.chunk_fetches.specs.Outline.{outline}
 use Rattle.chunk_fetches.specs.declared.Bounds.{Bounds}
-use Rattle.transaction_cells.specs.Operations.{AreStaged, HasSites, IsLeafIn}
-use Rattle.transaction_cells.specs.Outside.{is_cell_outside, needs_outside}
-use Rattle.transaction_cells.specs.Pieces.{IsPiece}
-use Rattle.transaction_cells.specs.Sites.{id_of, sites_of}
-use Rattle.transaction_cells.specs.Staging.{StagedChunk, staged_of}
-use Rattle.transaction_cells.specs.declared.view_cells.Piece.{Piece}
-use Rattle.transaction_cells.proofs.Laws.{outside_of_view}
+use Rattle.chunk_fetches.specs.Operations.{AreStaged, HasSites, IsLeafIn}
+use Rattle.chunk_fetches.specs.Outside.{is_cell_outside, needs_outside}
+use Rattle.chunk_fetches.specs.Pieces.{IsPiece}
+use Rattle.chunk_fetches.specs.Sites.{id_of, sites_of}
+use Rattle.chunk_fetches.specs.Staging.{StagedChunk, staged_of}
+use Rattle.chunk_fetches.specs.declared.Piece.{Piece}
+use Rattle.chunk_fetches.proofs.Laws.{outside_of_view}
 use Rattle.transactions.specs.Had.{AreHad, IsHadFor, had_from, had_of}
 use Rattle.chunk_fetches.specs.Sources.{count_new}
 use Rattle.chunk_fetches.specs.declared.source.Source.{Source}

@@ -30,13 +30,13 @@ use Rattle.chunk_fetches.specs.Fetches.{IsChunkOf}
 use Rattle.chunk_fetches.specs.Outline.{outline, outlined_event}
 use Rattle.chunk_fetches.specs.declared.Bounds.{Bounds}
 use Rattle.chunk_fetches.proofs.Laws.{known-outline, IsNamed, grows_in}
-use Rattle.transaction_cells.specs.Gathered.{AreChunksOf, AreTypedChunks, IsTold, chunk_word, place_in}
-use Rattle.transaction_cells.specs.Outside.{AreRanked, IsInGrid, index_in}
-use Rattle.transaction_cells.specs.Pieces.{IsPiece}
-use Rattle.transaction_cells.specs.Sites.{Site, id_of, pairs_at}
-use Rattle.transaction_cells.specs.Staging.{StagedChunk}
-use Rattle.transaction_cells.specs.declared.view_cells.Piece.{Piece}
-use Rattle.transaction_cells.proofs.Laws.{IsSiteIn, inside_in_chunk}
+use Rattle.chunk_fetches.specs.Gathered.{AreChunksOf, AreTypedChunks, IsTold, chunk_word, place_in}
+use Rattle.chunk_fetches.specs.Outside.{AreRanked, IsInGrid, index_in}
+use Rattle.chunk_fetches.specs.Pieces.{IsPiece}
+use Rattle.chunk_fetches.specs.Sites.{Site, id_of, pairs_at}
+use Rattle.chunk_fetches.specs.Staging.{StagedChunk}
+use Rattle.chunk_fetches.specs.declared.Piece.{Piece}
+use Rattle.chunk_fetches.proofs.Laws.{IsSiteIn, inside_in_chunk}
 use Rattle.chunk_fetches.specs.Kept.{IsChunkThen, IsKeptIn, chunk_at}
 use Rattle.transactions.specs.Had.{AreHad, IsDenseOrNone, IsHad, IsHadFor, snapshots_of}
 use Rattle.chunk_fetches.specs.Looking.{AreChunks}

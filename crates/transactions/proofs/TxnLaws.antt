@@ -16,8 +16,8 @@ use Rattle.stack_driver.specs.declared.view.View.{View}
 use Rattle.stack_targets.specs.Landings.{leaves_of}
 use Rattle.chunk_fetches.specs.Agreement.{Opening}
 use Rattle.chunk_fetches.specs.Outline.{outline}
-use Rattle.transaction_cells.specs.Operations.{AreStaged, IsLeafIn}
-use Rattle.transaction_cells.proofs.Laws.{staged_later}
+use Rattle.chunk_fetches.specs.Operations.{AreStaged, IsLeafIn}
+use Rattle.chunk_fetches.proofs.Laws.{staged_later}
 use Rattle.chunk_fetches.specs.Kept.{IsChunkThen, IsKeptIn, chunk_at}
 use Rattle.transactions.specs.Conditions.{IsKnownOp, IsTxnIn}
 use Rattle.transactions.specs.Txn.{TxnSeen}

@@ -35,16 +35,16 @@ use Rattle.stack_targets.specs.Landings.{leaves_of}
 use Rattle.chunk_fetches.specs.Agreement.{Opening}
 use Rattle.chunk_fetches.specs.Outline.{outline, outlined_event}
 use Rattle.chunk_fetches.proofs.Laws.{known-outline, IsNamed, grows_in}
-use Rattle.transaction_cells.specs.Gathered.{AreChunksOf, IsTold, chunk_word, place_in, word_of}
-use Rattle.transaction_cells.specs.Needs.{needs}
-use Rattle.transaction_cells.specs.Outside.{needs_outside}
-use Rattle.transaction_cells.specs.Operations.{AreStaged, HasSites, IsLeafIn}
-use Rattle.transaction_cells.specs.Pieces.{AreCells, IsPiece, ids_of}
-use Rattle.transaction_cells.specs.Sites.{Site, id_of, sites_of}
-use Rattle.transaction_cells.specs.Staging.{StagedChunk}
-use Rattle.transaction_cells.specs.declared.view_cells.Piece.{Piece}
-use Rattle.transaction_cells.specs.declared.view_cells.ViewCells.{ViewCells}
-use Rattle.transaction_cells.proofs.Laws.{IsSiteIn, inside_in_chunk, known_sites, named_cells, needs_unwritten}
+use Rattle.chunk_fetches.specs.Gathered.{AreChunksOf, IsTold, chunk_word, place_in, word_of}
+use Rattle.chunk_fetches.specs.Needs.{needs}
+use Rattle.chunk_fetches.specs.Outside.{needs_outside}
+use Rattle.chunk_fetches.specs.Operations.{AreStaged, HasSites, IsLeafIn}
+use Rattle.chunk_fetches.specs.Pieces.{AreCells, IsPiece, ids_of}
+use Rattle.chunk_fetches.specs.Sites.{Site, id_of, sites_of}
+use Rattle.chunk_fetches.specs.Staging.{StagedChunk}
+use Rattle.chunk_fetches.specs.declared.Piece.{Piece}
+use Rattle.chunk_fetches.specs.declared.ViewCells.{ViewCells}
+use Rattle.chunk_fetches.proofs.Laws.{IsSiteIn, inside_in_chunk, known_sites, named_cells, needs_unwritten}
 use Rattle.chunk_fetches.specs.Kept.{IsChunkThen, IsKeptIn, chunk_at}
 use Rattle.transactions.specs.Had.{AreHad, IsHad, IsHadFor, snapshot_of, snapshots_of}
 use Rattle.transactions.specs.Strays.{stray_at, stray_of, strays_of, with_stray}

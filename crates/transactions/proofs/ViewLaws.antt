@@ -18,12 +18,12 @@ use Rattle.stack_driver.specs.declared.view.View.{View}
 use Rattle.stack_targets.specs.Landings.{leaves_of}
 use Rattle.chunk_fetches.specs.Outline.{outline}
 use Rattle.chunk_fetches.proofs.Laws.{grows_in}
-use Rattle.transaction_cells.specs.Lanes.{AreAlike}
-use Rattle.transaction_cells.specs.Operations.{HasSites, IsLeafIn}
-use Rattle.transaction_cells.specs.Pieces.{AreCells}
-use Rattle.transaction_cells.specs.Sites.{Site, sites_of}
-use Rattle.transaction_cells.specs.declared.view_cells.ViewCells.{ViewCells}
-use Rattle.transaction_cells.proofs.Laws.{alike_in, leaves_among, count_of}
+use Rattle.chunk_fetches.specs.Lanes.{AreAlike}
+use Rattle.chunk_fetches.specs.Operations.{HasSites, IsLeafIn}
+use Rattle.chunk_fetches.specs.Pieces.{AreCells}
+use Rattle.chunk_fetches.specs.Sites.{Site, sites_of}
+use Rattle.chunk_fetches.specs.declared.ViewCells.{ViewCells}
+use Rattle.chunk_fetches.proofs.Laws.{alike_in, leaves_among, count_of}
 
 -- a product that is told is small
 counted_small : (product dim n : ℕ) (sizes : List ℕ) → product ≤ 4194304 → counted_from product dim sizes ≡ Ok n → n ≤ 4194304

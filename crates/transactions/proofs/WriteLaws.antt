@@ -42,10 +42,10 @@ use Rattle.stack_driver.specs.declared.error.TargetError.{TargetError}
 use Rattle.chunk_fetches.specs.Agreement.{Opening}
 use Rattle.chunk_fetches.specs.Outline.{outline, outlined_event}
 use Rattle.chunk_fetches.proofs.Laws.{good_in, known-outline, grows_in}
-use Rattle.transaction_cells.specs.Operations.{AreStaged, IsInArray}
-use Rattle.transaction_cells.specs.Sites.{id_of}
-use Rattle.transaction_cells.specs.Staging.{StagedChunk, staged_of}
-use Rattle.transaction_cells.proofs.Laws.{staged_cell}
+use Rattle.chunk_fetches.specs.Operations.{AreStaged, IsInArray}
+use Rattle.chunk_fetches.specs.Sites.{id_of}
+use Rattle.chunk_fetches.specs.Staging.{StagedChunk, staged_of}
+use Rattle.chunk_fetches.proofs.Laws.{staged_cell}
 use Rattle.transactions.specs.Conditions.{IsKnownOp}
 use Rattle.transactions.specs.Preparing.{AreWritesFor, seen_chunk, seen_part}
 use Rattle.chunk_fetches.specs.Kept.{chunk_at}

@@ -8,7 +8,7 @@ use Rattle.history.specs.declared.event.Op.{Op}
 use Rattle.stack_driver.specs.declared.view.View.{View}
 use Rattle.chunk_fetches.specs.Agreement.{Opening}
 use Rattle.chunk_fetches.specs.Outline.{outline}
-use Rattle.transaction_cells.specs.Operations.{AreStaged}
+use Rattle.chunk_fetches.specs.Operations.{AreStaged}
 use Rattle.transactions.specs.Txn.{TxnSeen}
 use Rattle.chunk_fetches.specs.Kept.{IsKeptIn}
 

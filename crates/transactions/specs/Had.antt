@@ -7,9 +7,9 @@ use Rattle.chunk_cache.specs.Snapshot.{SnapshotCells}
 use Rattle.history.specs.History.{History}
 use Rattle.history.specs.Reads.{Marks, has_mark, mark_of}
 use Rattle.chunk_fetches.specs.Agreement.{Opening}
-use Rattle.transaction_cells.specs.Needs.{needs}
-use Rattle.transaction_cells.specs.Staging.{StagedChunk}
-use Rattle.transaction_cells.specs.declared.view_cells.Piece.{Piece}
+use Rattle.chunk_fetches.specs.Needs.{needs}
+use Rattle.chunk_fetches.specs.Staging.{StagedChunk}
+use Rattle.chunk_fetches.specs.declared.Piece.{Piece}
 use Rattle.chunk_fetches.specs.Kept.{IsKeptIn, chunk_at}
 use Rattle.chunk_fetches.specs.Sources.{count_new}
 use Rattle.chunk_fetches.specs.declared.kept.Kept.{Kept}

@@ -9,7 +9,7 @@ use Rattle.commits.specs.Laying.{MayReady}
 use Rattle.commits.specs.Readying.{IsWriteFor}
 use Rattle.commits.specs.declared.Asked.{Asked}
 use Rattle.commits.specs.declared.Part.{Part}
-use Rattle.transaction_cells.specs.Staging.{StagedChunk}
+use Rattle.chunk_fetches.specs.Staging.{StagedChunk}
 use Rattle.transactions.specs.Txn.{TxnSeen}
 use Rattle.chunk_fetches.specs.Kept.{chunk_at}
 use Rattle.chunk_fetches.specs.declared.kept.Kept.{Kept}

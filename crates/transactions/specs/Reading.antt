@@ -5,10 +5,10 @@ use Rattle.cells.specs.Numbers.{IsWord}
 use Rattle.history.specs.Arrays.{Known, known_after, is_local}
 use Rattle.history.specs.Refs.{HasKnownRefs}
 use Rattle.stack_driver.specs.Conditions.{IsView}
-use Rattle.transaction_cells.specs.Operations.{HasSites}
-use Rattle.transaction_cells.specs.Pieces.{AreCells}
-use Rattle.transaction_cells.specs.Sites.{sites_of}
-use Rattle.transaction_cells.specs.declared.view_cells.ViewCells.{ViewCells}
+use Rattle.chunk_fetches.specs.Operations.{HasSites}
+use Rattle.chunk_fetches.specs.Pieces.{AreCells}
+use Rattle.chunk_fetches.specs.Sites.{sites_of}
+use Rattle.chunk_fetches.specs.declared.ViewCells.{ViewCells}
 use Rattle.transactions.specs.Conditions.{IsTxnIn}
 use Rattle.chunk_fetches.specs.Fetched.{AreFetched}
 use Rattle.transactions.specs.Had.{had_from}

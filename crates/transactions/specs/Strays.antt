@@ -4,9 +4,9 @@ use Rattle.history.specs.Arrays.{Known, known_after}
 use Rattle.history.specs.Chunks.{metadata_key}
 use Rattle.history.specs.Commit.{Key, is_before}
 use Rattle.history.specs.History.{History}
-use Rattle.transaction_cells.specs.Outside.{IsInGrid, needs_outside}
-use Rattle.transaction_cells.specs.Staging.{StagedChunk}
-use Rattle.transaction_cells.specs.declared.view_cells.Piece.{Piece}
+use Rattle.chunk_fetches.specs.Outside.{IsInGrid, needs_outside}
+use Rattle.chunk_fetches.specs.Staging.{StagedChunk}
+use Rattle.chunk_fetches.specs.declared.Piece.{Piece}
 use Rattle.chunk_fetches.specs.Kept.{chunk_at}
 use Rattle.chunk_fetches.specs.declared.kept.Kept.{Kept}
 use Rattle.transactions.specs.declared.stray.Stray.{Stray}

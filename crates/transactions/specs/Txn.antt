@@ -6,8 +6,8 @@ use Rattle.history.specs.Commit.{Transaction}
 use Rattle.history.specs.Reads.{Marks}
 use Rattle.history.specs.declared.event.Mode.{Mode}
 use Rattle.history.specs.declared.event.Op.{Op}
-use Rattle.transaction_cells.specs.Found.{Id, found}
-use Rattle.transaction_cells.specs.Staging.{StagedChunk}
+use Rattle.chunk_fetches.specs.Found.{Id, found}
+use Rattle.chunk_fetches.specs.Staging.{StagedChunk}
 use Rattle.chunk_fetches.specs.Kept.{chunk_at, place_from}
 use Rattle.chunk_fetches.specs.declared.kept.Kept.{Kept}
 

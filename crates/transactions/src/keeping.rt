@@ -4,7 +4,7 @@ ghost use Rattle.std.specs.List.{AllByRecursion};
 ghost use Rattle.std.specs.Str.{bytes_eq};
 ghost use Rattle.history.specs.declared.event.Op.TheVariants as op;
 ghost use Rattle.stack_driver.specs.Conditions.{IsView};
-ghost use Rattle.transaction_cells.specs.Found.{found};
+ghost use Rattle.chunk_fetches.specs.Found.{found};
 ghost use Rattle.transactions.specs.Keeping.{AreNewTo, IsUnkept, IsUnspoilt, placed, with_read};
 ghost use Rattle.chunk_fetches.specs.declared.kept.Kept.{Kept as KeptOf};
 

@@ -8,19 +8,18 @@ ghost use Rattle.stack_targets.specs.declared.error.TargetsError.TheVariants as 
 ghost use Rattle.stack_driver.specs.Conditions.{IsView};
 ghost use Rattle.stack_driver.specs.Views.{look_of};
 ghost use Rattle.stack_targets.specs.Landings.{leaves_of};
-ghost use Rattle.transaction_cells.specs.Lanes.{AreAlike};
-ghost use Rattle.transaction_cells.specs.Operations.{HasSites};
-ghost use Rattle.transaction_cells.specs.Pieces.{AreCells};
-ghost use Rattle.transaction_cells.specs.Sites.{sites_of};
+ghost use Rattle.chunk_fetches.specs.Lanes.{AreAlike};
+ghost use Rattle.chunk_fetches.specs.Operations.{HasSites};
+ghost use Rattle.chunk_fetches.specs.Pieces.{AreCells};
+ghost use Rattle.chunk_fetches.specs.Sites.{sites_of};
 ghost use Rattle.transactions.specs.Faults.{IsFaultOf, IsLocateFault};
 
 use crate::error::WriteError;
-use chunk_fetches::ViewFault;
+use chunk_fetches::{ViewCells, ViewFault, locate};
 use index_transform::CountError;
 use stack_driver::{View, transform_of};
 use stack_targets::TargetsError;
 use std::alloc::Global;
-use transaction_cells::{ViewCells, locate};
 
 /// Where the cells of a view lie.
 ///

@@ -3,8 +3,8 @@ ghost use Rattle.std.specs.Prelude.{◌≡◌, ◌<◌, ℕ, List, Some, IfOk, l
 ghost use Rattle.std.specs.List.{AllByRecursion};
 ghost use Rattle.std.specs.Option.{option_copied};
 ghost use Rattle.cells.specs.Dense.{IsDense};
-ghost use Rattle.transaction_cells.specs.Staging.{CanStage};
-ghost use Rattle.transaction_cells.specs.declared.view_cells.Piece.{Piece as PieceOf};
+ghost use Rattle.chunk_fetches.specs.Staging.{CanStage};
+ghost use Rattle.chunk_fetches.specs.declared.Piece.{Piece as PieceOf};
 ghost use Rattle.transactions.specs.Had.{IsDenseOrNone, had_from, had_of, snapshot_of, snapshots_of};
 ghost use Rattle.chunk_fetches.specs.Sources.{source_of, sources_of, count_new};
 ghost use Rattle.transactions.specs.Txn.{counting};
@@ -12,9 +12,8 @@ ghost use Rattle.chunk_fetches.specs.Kept.{place_from};
 
 use crate::txn::Txn;
 use chunk_cache::Snapshot;
-use chunk_fetches::{Kept, Source};
+use chunk_fetches::{Kept, Source, ViewCells};
 use std::alloc::{AllocError, Global};
-use transaction_cells::ViewCells;
 
 impl Txn {
     /// For each piece of a view, where its chunk is from.

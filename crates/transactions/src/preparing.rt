@@ -6,7 +6,7 @@ ghost use Rattle.std.specs.List.Sorted.{IsPermutation, IsSortedByKey};
 ghost use Rattle.std.specs.Ordering.{nat_cmp};
 ghost use Rattle.std.specs.Str.{bytes_eq};
 ghost use Rattle.commits.specs.Sorting.{key_of_mark, key_of_write};
-ghost use Rattle.transaction_cells.specs.Staging.{StagedChunk};
+ghost use Rattle.chunk_fetches.specs.Staging.{StagedChunk};
 ghost use Rattle.turn_book.specs.Passes.{IsIdle};
 ghost use Rattle.transactions.specs.Committing.{HasCommitted};
 ghost use Rattle.transactions.specs.Conditions.{IsTxnIn};
@@ -17,7 +17,7 @@ ghost use Rattle.transactions.specs.Txn.{transaction_of};
 
 use crate::commit_turns::{ask_in_turn, commit_in_turn};
 use cells::{List, copy_name};
-use chunk_fetches::{Gate, Kept, State, array_in, index_in};
+use chunk_fetches::{Gate, Kept, Staging, State, array_in, index_in};
 use commits::{
     Asked, ChunkWrite, CommitRefused, Mark, Part, Prepared, sort_marks, sort_writes, write_of,
 };
@@ -25,7 +25,6 @@ use history::{Mode, Ops};
 use kv_face::KvStore;
 use std::alloc::{AllocError, Global};
 use std::sync::Wait;
-use transaction_cells::Staging;
 use turn_book::{Pass, TurnBook};
 
 /// Commits a transaction's parts: asks in a turn, encodes outside of one, and commits in another.

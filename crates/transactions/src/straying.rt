@@ -2,8 +2,8 @@
 ghost use Rattle.std.specs.Prelude.{◌≡◌, ◌<◌, ℕ, List, IfOk, length, slice_index_or, Contains};
 ghost use Rattle.std.specs.List.{AllByRecursion};
 ghost use Rattle.std.specs.Option.{option_copied};
-ghost use Rattle.transaction_cells.specs.Staging.{CanStage};
-ghost use Rattle.transaction_cells.specs.declared.view_cells.Piece.{Piece as PieceOf};
+ghost use Rattle.chunk_fetches.specs.Staging.{CanStage};
+ghost use Rattle.chunk_fetches.specs.declared.Piece.{Piece as PieceOf};
 ghost use Rattle.transactions.specs.Had.{had_from};
 ghost use Rattle.transactions.specs.Strays.{AreFitting, IsFitting, HasLastNumber, stray_at, stray_of, strays_of};
 ghost use Rattle.chunk_fetches.specs.Kept.{chunk_at};
@@ -12,9 +12,8 @@ ghost use Rattle.transactions.specs.declared.stray.Stray.{Stray as StrayOf};
 use crate::planning::{count_new, had_of};
 use crate::stray::Stray;
 use crate::txn::Txn;
-use chunk_fetches::{Kept, Source, array_in};
+use chunk_fetches::{Kept, Source, ViewCells, array_in};
 use std::alloc::{AllocError, Global};
-use transaction_cells::ViewCells;
 
 impl Txn {
     /// For each piece of whose chunk the read needs a cell outside its array's bounds then, the array with the mark and the bounds.

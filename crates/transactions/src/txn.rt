@@ -10,10 +10,10 @@ ghost use Rattle.stack_driver.specs.Conditions.{IsView};
 ghost use Rattle.stack_driver.specs.Views.{look_of};
 ghost use Rattle.stack_targets.specs.Landings.{leaves_of};
 ghost use Rattle.chunk_fetches.specs.Agreement.{Opening};
-ghost use Rattle.transaction_cells.specs.Operations.{AreStaged, HasSites, IsLeafIn};
-ghost use Rattle.transaction_cells.specs.Pieces.{AreCells};
-ghost use Rattle.transaction_cells.specs.Sites.{sites_of};
-ghost use Rattle.transaction_cells.specs.Staging.{CanStage};
+ghost use Rattle.chunk_fetches.specs.Operations.{AreStaged, HasSites, IsLeafIn};
+ghost use Rattle.chunk_fetches.specs.Pieces.{AreCells};
+ghost use Rattle.chunk_fetches.specs.Sites.{sites_of};
+ghost use Rattle.chunk_fetches.specs.Staging.{CanStage};
 ghost use Rattle.transactions.specs.Conditions.{IsTxnIn, MayUse};
 ghost use Rattle.transactions.specs.Faults.{IsLocateFault};
 ghost use Rattle.transactions.specs.declared.error.WriteError.TheVariants as write;
@@ -21,13 +21,12 @@ ghost use Rattle.transactions.specs.declared.error.WriteError.TheVariants as wri
 use crate::error::WriteError;
 use crate::located::located;
 use cells::Words;
-use chunk_fetches::Kept;
+use chunk_fetches::{Kept, Staging, ViewCells};
 use history::{Mode, Op, Ops};
 use stack_driver::{View, copy};
 use std::alloc::{AllocError, Global};
 use std::collections::BTreeMap;
 use std::marker::Model;
-use transaction_cells::{Staging, ViewCells};
 
 /// A transaction between its lines. Contracts see where it was begun, its flags and operations, what is staged, and the chunks that it
 /// keeps.

@@ -20,7 +20,7 @@ use Rattle.transform_composition.proofs.FiniteLemmas.{IsIn, value-inside, all-in
 use Rattle.transform_composition.proofs.FitLemmas.{maps-tight}
 use Rattle.transform_composition.proofs.JoinLemmas.{length-closed_dims, closed_dims-at}
 use Rattle.transform_composition.proofs.ValueLemmas.{values-closed, values-tight, values-composed}
-use Rattle.cells.proofs.Laws.{both, both_true}
+use Rattle.index_transform.proofs.Laws.{both, both_true}
 
 -- what it says that tightening answers
 pub record IsTightened (is os : List Bounds) (gs : List OutMap) (ds : List Bounds) : Type 0 where

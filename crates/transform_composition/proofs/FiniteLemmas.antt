@@ -4,7 +4,7 @@ use Rattle.std.proofs.lemmas.Int.{ints}
 use Rattle.std.proofs.lemmas.Bool.Decides.{nat_tests}
 use Rattle.std.specs.List.{list_all, zip}
 use Rattle.std.specs.Int.RustNames.{int_lt}
-use Rattle.cells.specs.Places.{cell_count}
+use Rattle.index_transform.specs.Places.{cell_count}
 use Rattle.index_intervals.specs.Bounds.{Bounds, is_index}
 use Rattle.index_intervals.specs.Members.{effective_lo, effective_hi}
 use Rattle.index_transform.specs.declared.map.OutMap.{OutMap}
@@ -18,7 +18,7 @@ use Rattle.index_transform.specs.Walks.{IsCell}
 use Rattle.transform_composition.specs.Reading.{depends_on, is_read_along, read_along, read_dims, point, can_read}
 use Rattle.index_transform.proofs.Laws.{get_or-inside, entry_place-below, reaches_between, reaches_dim-fits, all-at, list_all-position_from, between_up, between_down}
 use Rattle.transform_composition.proofs.ReadLemmas.{read_cell-length, read_cell-between}
-use Rattle.cells.proofs.Laws.{both, both_true}
+use Rattle.index_transform.proofs.Laws.{both, both_true}
 
 -- an index between finite bounds
 pub record IsIn (d : Bounds) (x : ℤ) : Type 0 where

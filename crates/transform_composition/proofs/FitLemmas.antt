@@ -8,7 +8,7 @@ use Rattle.index_transform.specs.declared.map.OutMap.{OutMap}
 use Rattle.index_transform.specs.declared.map.OutMap.TheVariants.{Constant, Strided, Indexed}
 use Rattle.index_transform.specs.Maps.{is_fixed, fits_dim, fits, are_entries, is_map}
 use Rattle.transform_composition.specs.Tightening.{tight_lower, tight_upper, interval_of, tight_dims, is_ordered}
-use Rattle.cells.proofs.Laws.{both, both_true}
+use Rattle.index_transform.proofs.Laws.{both, both_true}
 
 pub length-tight_dims : (k : ℕ) (inners outers : List Bounds) (maps : List OutMap) → length (tight_dims k inners outers maps) ≡ length inners
 length-tight_dims k [] outers maps = refl

@@ -14,7 +14,7 @@ use Rattle.transform_composition.specs.Tightening.{tightened, on_dims}
 use Rattle.transform_composition.specs.Reading.{has_array_along, point}
 use Rattle.transform_composition.specs.Composing.{nowhere, strided_over, composed_map, passes_word, is_too_large, closed, closed_dims, joined, unless_passed, unless_large, composed}
 use Rattle.transform_composition.specs.Agreeing.{identity_maps, identity_over}
-use Rattle.cells.proofs.Laws.{both}
+use Rattle.index_transform.proofs.Laws.{both}
 
 one_times : (q : ℤ) → pos 1 *ℤ q ≡ q
 unfolding one

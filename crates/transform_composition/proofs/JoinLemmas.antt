@@ -7,7 +7,7 @@ use Rattle.std.proofs.lemmas.Bool.Decides.{nat_tests}
 use Rattle.std.proofs.lemmas.Bool.Decides.{Decides-int_eq}
 use Rattle.std.specs.List.{list_all, list_any, zip, position_from}
 use Rattle.std.specs.Ordering.{int_eq}
-use Rattle.cells.specs.Places.{cell_count}
+use Rattle.index_transform.specs.Places.{cell_count}
 use Rattle.index_intervals.specs.Bounds.{Bounds, is_index}
 use Rattle.index_transform.specs.declared.map.OutMap.{OutMap}
 use Rattle.index_transform.specs.declared.map.OutMap.TheVariants.{Constant, Strided, Indexed}
@@ -21,7 +21,7 @@ use Rattle.transform_composition.specs.Composing.{nowhere, strided_over, compose
 use Rattle.transform_composition.specs.declared.error.ComposeError.TheVariants.{Overflow, TooLarge}
 use Rattle.index_transform.proofs.Laws.{length-cells_of, get_or-inside, set-more, fails, all-at, product_nonzero}
 use Rattle.transform_composition.proofs.FiniteLemmas.{finite-read-at}
-use Rattle.cells.proofs.Laws.{both, both_true}
+use Rattle.index_transform.proofs.Laws.{both, both_true}
 
 pub length-closed_dims : (k : ℕ) (ds : List Bounds) (ms : List OutMap) → length (closed_dims k ds ms) ≡ length ds
 length-closed_dims k [] ms = refl

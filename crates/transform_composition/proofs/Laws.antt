@@ -17,3 +17,5 @@ pub use Rattle.transform_composition.proofs.FiniteLemmas.{value-inside, all-insi
 -- maps fit tightened dimensions, explicit finite bounds stay, and values stay between bounds
 pub use Rattle.transform_composition.proofs.FitLemmas.{maps-tight, tight-fixed}
 pub use Rattle.transform_composition.proofs.ValueLemmas.{values-tight}
+-- laws of crates below, given on to those above
+pub use Rattle.index_transform.proofs.Laws.{length-cells_of, list_all-position_from}

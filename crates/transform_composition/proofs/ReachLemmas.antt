@@ -7,7 +7,7 @@ use Rattle.std.specs.Ordering.{int_eq}
 use Rattle.std.specs.Int.{int_max, int_min, is_negative}
 use Rattle.std.specs.Int.RustNames.{int_lt}
 use Rattle.std.specs.List.{AllByRecursion, list_all, list_any, zip, position_from}
-use Rattle.cells.proofs.Laws.{both, both_true, second_true}
+use Rattle.index_transform.proofs.Laws.{both, both_true, second_true}
 use Rattle.index_intervals.specs.Bounds.{Bounds, is_index, minus_infinity, plus_infinity}
 use Rattle.index_intervals.specs.Edges.{lower_edge, upper_edge, is_open, interval_of, preimage}
 use Rattle.index_intervals.specs.Meet.{greater_at, greater_edge, lesser_at, lesser_edge, cross_at, below, uncrossed, bounds_met, met_all}

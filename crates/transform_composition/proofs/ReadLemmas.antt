@@ -11,7 +11,7 @@ use Rattle.index_transform.specs.Walks.{IsCell}
 use Rattle.index_transform.specs.Values.{entry_index, reaches_dim, reaches, has_value, map_value}
 use Rattle.transform_composition.specs.Reading.{is_read_along, read_dims, point, can_read}
 use Rattle.index_transform.proofs.Laws.{IsAlong, reaches-lengths}
-use Rattle.cells.proofs.Laws.{both}
+use Rattle.index_transform.proofs.Laws.{both}
 
 -- the value of the map at a place
 pub get_or-mapped : (f : OutMap → ℤ) (maps : List OutMap) (k : ℕ) (m : OutMap) → k < length maps → m ≡ get_or maps k m

@@ -15,7 +15,7 @@ use Rattle.index_transform.specs.declared.map.OutMap.{OutMap}
 use Rattle.index_transform.specs.declared.map.OutMap.TheVariants.{Constant, Strided, Indexed}
 use Rattle.index_intervals.specs.Edges.{finite_part, lower_edge, upper_edge, preimage}
 use Rattle.transform_composition.specs.Tightening.{greater_at, greater_edge, lesser_at, lesser_edge, preimages, is_open, met, takes, tight_lower, tight_upper, gathered_from, passes_at, passes_below, upper_passes, overflows_at, overflows_by, first_overflow_by}
-use Rattle.cells.proofs.Laws.{both, both_true}
+use Rattle.index_transform.proofs.Laws.{both, both_true}
 
 -- each of two edges is met by one of them
 greater-one : (a b : Edge) → ((greater_edge a b).at ≡ a.at) ⊎ ((greater_edge a b).at ≡ b.at)

@@ -6,7 +6,7 @@ use Rattle.std.proofs.lemmas.Bool.Decides.{nat_tests}
 use Rattle.std.proofs.lemmas.List.{get_or-map, get_or-append_right, length-map}
 use Rattle.std.proofs.lemmas.Nat.{mul-le}
 use Rattle.std.specs.List.{list_all, list_any, zip, flat_map}
-use Rattle.cells.specs.Places.{cell_count}
+use Rattle.index_transform.specs.Places.{cell_count}
 use Rattle.index_intervals.specs.Bounds.{Bounds}
 use Rattle.index_transform.specs.declared.map.OutMap.{OutMap}
 use Rattle.index_transform.specs.declared.map.OutMap.TheVariants.{Constant, Strided, Indexed}
@@ -20,7 +20,7 @@ use Rattle.transform_composition.specs.Agreeing.{reads_along}
 use Rattle.index_transform.proofs.Laws.{length-cells_of, length-flat_map, length-counting, multiplied_out}
 use Rattle.transform_composition.proofs.FiniteLemmas.{read_head, read_tail}
 use Rattle.transform_composition.proofs.FitLemmas.{tight-fixed}
-use Rattle.cells.proofs.Laws.{both}
+use Rattle.index_transform.proofs.Laws.{both}
 
 -- explicit bounds change no value
 entry_index-closed : (k : ℕ) (ms : List OutMap) (d : Bounds) (n : ℕ) (x : ℤ) → entry_index (closed_along k ms d) n x ≡ entry_index d n x

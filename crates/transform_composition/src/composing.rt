@@ -13,9 +13,10 @@ ghost use Rattle.transform_composition.specs.Composing.{strided_over, composed_m
 use crate::error::ComposeError;
 use crate::reading::{has_array_along, read_dims, read_entries, sizes_of};
 use crate::tightening::tightened;
-use cells::{Index, List, MOST_ENTRIES, Sizes, count_cells};
 use index_intervals::Interval;
-use index_transform::{Domain, OutMap, Transform, copied_names, scaled};
+use index_transform::{
+    Domain, Index, List, MOST_ENTRIES, OutMap, Sizes, Transform, copied_names, count_cells, scaled,
+};
 use std::alloc::{AllocError, Global};
 
 /// The transform that gives at an index vector the outer one's value at the inner one's value.

@@ -12,4 +12,7 @@ mod tightening;
 
 pub use composing::compose;
 pub use error::ComposeError;
+pub use index_transform::{
+    AtError, Domain, Interval, OutMap, Transform, around_all, is_index, look_at_all,
+};
 pub use tightening::tighten;

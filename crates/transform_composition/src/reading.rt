@@ -1,6 +1,6 @@
 ghost use Rattle.std.specs.Prelude.{◌≡◌, ◌≤◌, ◌<◌, ◌==◌, ◌||◌, not, ℤ, List, length, map, IsTrue, IfOk, slice_index_or};
 ghost use Rattle.std.specs.List.{list_all};
-ghost use Rattle.cells.specs.Places.{cell_count};
+ghost use Rattle.index_transform.specs.Places.{cell_count};
 ghost use Rattle.index_transform.specs.Maps.{size_of, are_entries};
 ghost use Rattle.index_transform.specs.Values.{reaches_dim, entry_index, entry_place, has_value, map_value};
 ghost use Rattle.index_transform.specs.Cells.{is_finite, cells_of};

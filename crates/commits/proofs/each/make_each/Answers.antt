@@ -1,7 +1,7 @@
 use Rattle.std.proofs.Common.{◌≡◌, Err, List, [], length, inl, inr, refl, sym, ap, subst, ◌∙◌, arith}
 use Rattle.std.specs.Prelude.{filter}
 use Rattle.history.specs.Commit.{is_write}
-use Rattle.state_laws.proofs.Laws.{frame_same, frame_then}
+use Rattle.chunk_plans.proofs.Laws.{frame_same, frame_then}
 use Rattle.chunk_plans.specs.declared.plan.Planned.{Planned}
 use Rattle.commits.specs.Plans.{keys_of}
 use Rattle.commits.specs.Keyed.{AreKeyPlans, AreRightKeys, IsMadeEach, each_event, key_event, plan_arrays}

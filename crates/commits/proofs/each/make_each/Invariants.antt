@@ -2,7 +2,7 @@ use Rattle.std.proofs.Common.{◌≡◌, ◌≤◌, ◌+◌, ℕ, List, length}
 use Rattle.std.specs.Prelude.{filter, vec_len, vec_capacity}
 use Rattle.history.specs.Commit.{is_write}
 use Rattle.history.specs.History.{History}
-use Rattle.state_laws.specs.Seen.{IsFrame}
+use Rattle.chunk_plans.specs.Seen.{IsFrame}
 use Rattle.commits.specs.Plans.{keys_of}
 use Rattle.commits.specs.Keyed.{AreKeyPlans, each_event, plan_arrays}
 use Rattle.commits.specs.Planning.{IsAmongOn}

@@ -1,7 +1,7 @@
 use Rattle.std.proofs.Common.{List, sym, subst}
-use Rattle.state_laws.specs.declared.commit.Commit.{Commit}
-use Rattle.state_laws.specs.Recorded.{done_event}
-use Rattle.state_laws.specs.Changing.{AreMade}
+use Rattle.chunk_plans.specs.declared.Commit.{Commit}
+use Rattle.chunk_plans.specs.Recorded.{done_event}
+use Rattle.chunk_plans.specs.Changing.{AreMade}
 use Rattle.chunk_plans.specs.declared.plan.Planned.{Planned}
 use Rattle.commits.specs.Plans.{ArePlans, AreRightBy, changes_of}
 use Rattle.commits.specs.Keyed.{key_event}

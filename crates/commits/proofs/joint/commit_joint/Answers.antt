@@ -1,5 +1,5 @@
 use Rattle.std.proofs.Common.{Err, List, [], ◌∷◌, ◌+◌, length, sym, ap, subst, ◌∙◌, arith}
-use Rattle.state_laws.specs.Recorded.{done_event}
+use Rattle.chunk_plans.specs.Recorded.{done_event}
 use Rattle.chunk_plans.specs.declared.write.ChunkWrite.{ChunkWrite}
 use Rattle.commits.specs.Made.{IsMade}
 use Rattle.commits.specs.Planning.{ArePlannedBy, IsFirstDamaged, IsMountFor}

@@ -1,6 +1,6 @@
 use Rattle.std.proofs.Common.{Err, [], ◌∷◌, sym, ap, subst, ◌∙◌}
 use Rattle.std.specs.Prelude.{length}
-use Rattle.state_laws.specs.Recorded.{done_event}
+use Rattle.chunk_plans.specs.Recorded.{done_event}
 use Rattle.commits.specs.Plans.{changes_of}
 use Rattle.commits.specs.Keyed.{IsMadeEach, plan_arrays}
 use Rattle.commits.specs.Refused.{unmade}

@@ -1,7 +1,7 @@
 use Rattle.std.proofs.Common.{sym, subst}
 use Rattle.chunk_cache.specs.Snapshot.{SnapshotCells}
 use Rattle.history.specs.Chunks.{Chunk}
-use Rattle.state_laws.specs.Fetches.{IsChunkOf, MaySettle}
+use Rattle.chunk_plans.specs.Fetches.{IsChunkOf, MaySettle}
 use Rattle.commits.specs.Keeping.{LeftChunk}
 use Rattle.commits.proofs.KeepLaws.{kept_same}
 use Rattle.commits.proofs.PlanningLaws.{same_log}

@@ -1,6 +1,6 @@
 use Rattle.std.proofs.Common.{◌≡◌}
 use Rattle.std.specs.List.{AllByRecursion}
-use Rattle.state_laws.specs.Agreement.{Opening, Agrees}
+use Rattle.chunk_plans.specs.Agreement.{Opening, Agrees}
 use Rattle.chunk_plans.specs.Writes.{IsSameButCache}
 use Rattle.commits.specs.Keeping.{IsChunkLeft, MayKeep}
 use Rattle.commits.proofs.keeping.keep_left.Given as goal

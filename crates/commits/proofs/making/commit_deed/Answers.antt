@@ -2,9 +2,9 @@ use Rattle.std.proofs.Common.{sym, ap, subst}
 use Rattle.std.specs.Prelude.{IsSome}
 use Rattle.std.specs.List.{AllByRecursion}
 use Rattle.history.specs.Arrays.{known_after}
-use Rattle.state_laws.specs.declared.deed.HeldCells.{HeldCells}
-use Rattle.state_laws.specs.Changing.{IsDeed, KeepsByDeed}
-use Rattle.state_laws.specs.Log.{Log, StateOf}
+use Rattle.chunk_plans.specs.declared.HeldCells.{HeldCells}
+use Rattle.chunk_plans.specs.Changing.{IsDeed, KeepsByDeed}
+use Rattle.chunk_plans.specs.Log.{Log, StateOf}
 use Rattle.commits.proofs.making.commit_deed.Goals as goal
 
 pub commit-requires-clause-deed : goal.commit-requires-clause-deed

@@ -3,10 +3,10 @@ use Rattle.std.specs.Prelude.{IsSome}
 use Rattle.std.specs.List.{AllByRecursion}
 use Rattle.history.specs.Arrays.{known_after}
 use Rattle.history.proofs.Laws.{known_after-more}
-use Rattle.state_laws.specs.Changing.{IsRightBy}
-use Rattle.state_laws.specs.Log.{Log}
-use Rattle.state_laws.specs.Recorded.{done_event}
-use Rattle.state_laws.specs.declared.deed.HeldCells.{HeldCells}
+use Rattle.chunk_plans.specs.Changing.{IsRightBy}
+use Rattle.chunk_plans.specs.Log.{Log}
+use Rattle.chunk_plans.specs.Recorded.{done_event}
+use Rattle.chunk_plans.specs.declared.HeldCells.{HeldCells}
 use Rattle.chunk_plans.specs.Writes.{IsSameButCache}
 use Rattle.commits.specs.Keeping.{IsChunkLeft, MayKeep}
 use Rattle.commits.specs.Plans.{deed_of}

@@ -3,8 +3,8 @@ use Rattle.history.specs.Arrays.{chunk_shape}
 use Rattle.chunk_plans.specs.Laid.{IsCovered}
 use Rattle.std.specs.List.{AllByRecursion}
 use Rattle.std.proofs.lemmas.List.{append_assoc, append-nil}
-use Rattle.state_laws.specs.declared.error.FetchError.TheVariants as fetch
-use Rattle.state_laws.proofs.Laws.{read_then}
+use Rattle.chunk_plans.specs.declared.FetchError.TheVariants as fetch
+use Rattle.chunk_plans.proofs.Laws.{read_then}
 use Rattle.chunk_plans.specs.declared.write.ChunkWrite.{ChunkWrite}
 use Rattle.chunk_plans.specs.Writes.{IsWrite, may_use}
 use Rattle.commits.specs.Planning.{ArePlannedBy, IsAmongOn, IsDamagedWrite, IsFirstDamaged, write_arrays}

@@ -2,8 +2,8 @@ use Rattle.std.proofs.Common.{◌≡◌, ◌≤◌, ◌+◌, ◌*◌, ◌++◌, 
 use Rattle.std.specs.Prelude.{vec_len, vec_capacity}
 use Rattle.std.specs.List.{AllByRecursion}
 use Rattle.chunk_forms.specs.declared.form.Damage.{Damage}
-use Rattle.state_laws.specs.Seen.{IsRead}
-use Rattle.state_laws.specs.Agreement.{KeepsAgreement}
+use Rattle.chunk_plans.specs.Seen.{IsRead}
+use Rattle.chunk_plans.specs.Agreement.{KeepsAgreement}
 use Rattle.chunk_plans.specs.declared.plan.Planned.{Planned}
 use Rattle.chunk_plans.specs.Writes.{IsSameButCache, IsWrite}
 use Rattle.commits.specs.Planning.{ArePlannedBy, IsAmongOn, IsFirstDamaged, write_arrays}

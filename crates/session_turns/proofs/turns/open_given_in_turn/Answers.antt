@@ -3,8 +3,8 @@ use Rattle.std.specs.Prelude.{OnOk}
 use Rattle.history.specs.declared.event.Event.{Event}
 use Rattle.history.specs.OpenRows.{next_array, given_info}
 use Rattle.history.specs.Own.{opened_event}
-use Rattle.state_laws.specs.Agreement.{Opening}
-use Rattle.state_laws.specs.Log.{Log}
+use Rattle.state_resizes.specs.Agreement.{Opening}
+use Rattle.state_resizes.specs.Log.{Log}
 use Rattle.transactions.specs.Turns.{owner_of}
 use Rattle.turn_book.specs.History.{Continues}
 use Rattle.turn_book.specs.Passes.{PassView}

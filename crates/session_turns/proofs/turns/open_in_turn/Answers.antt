@@ -1,5 +1,5 @@
 use Rattle.std.proofs.Common.{ℕ, sym, subst}
-use Rattle.state_laws.specs.Openings.{IsOpening}
+use Rattle.state_resizes.specs.Openings.{IsOpening}
 use Rattle.transactions.specs.Turns.{owner_of}
 use Rattle.turn_book.specs.History.{Continues}
 use Rattle.session_turns.specs.Asked.{asked_leaf}

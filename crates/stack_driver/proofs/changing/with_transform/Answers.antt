@@ -1,5 +1,5 @@
 use Rattle.std.proofs.Common.{◌∙◌, length, sym, ap, subst}
-use Rattle.index_transform.specs.Transforms.{DomainAndMaps}
+use Rattle.transform_composition.specs.Transforms.{DomainAndMaps}
 use Rattle.transform_composition.specs.Agreeing.{Agrees}
 use Rattle.stack_driver.specs.Changes.{HasTargetsOf}
 use Rattle.stack_driver.specs.declared.view.View.{View}

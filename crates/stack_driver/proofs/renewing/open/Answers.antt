@@ -1,7 +1,7 @@
 use Rattle.std.proofs.Common.{rules, ◌≡◌, ◌∙◌, true, List, length, ap, sym, subst}
 use Rattle.std.specs.List.{list_all}
-use Rattle.index_transform.specs.Bounds.{Bounds}
-use Rattle.index_transform.specs.Maps.{is_map}
+use Rattle.transform_composition.specs.Bounds.{Bounds}
+use Rattle.transform_composition.specs.Maps.{is_map}
 use Rattle.stack_driver.specs.Renewed.{opened_dims}
 use Rattle.stack_driver.proofs.Renewals.{length-opened_dims, maps_still}
 use Rattle.stack_driver.proofs.renewing.open.Goals as goal

@@ -1,7 +1,7 @@
 use Rattle.std.proofs.Common.{◌∙◌, ◌++◌, ◌∷◌, [], List, cond, sym, ap}
 use Rattle.std.specs.List.{list_any}
-use Rattle.index_transform.specs.Bounds.{Bounds}
-use Rattle.index_transform.specs.Members.{effective_bounds}
+use Rattle.transform_composition.specs.Bounds.{Bounds}
+use Rattle.transform_composition.specs.Members.{effective_bounds}
 use Rattle.stack_driver.specs.Renewed.{goes_from}
 use Rattle.stack_driver.proofs.Renewals.{opened_dims-step}
 use Rattle.stack_driver.proofs.renewing.opened_dims.Goals as goal

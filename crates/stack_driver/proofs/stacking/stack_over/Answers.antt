@@ -1,6 +1,6 @@
 use Rattle.std.proofs.Common.{◌≡◌, ◌∙◌, List, length, ap, sym, subst}
-use Rattle.index_transform.specs.Transforms.{DomainAndMaps}
-use Rattle.index_transform.specs.Identity.{identity_over}
+use Rattle.transform_composition.specs.Transforms.{DomainAndMaps}
+use Rattle.transform_composition.specs.Identity.{identity_over}
 use Rattle.stack_driver.specs.Conditions.{IsView}
 use Rattle.stack_driver.specs.Stacks.{stacked_domain, HasLastTargets}
 use Rattle.stack_driver.specs.declared.view.View.{View}

@@ -1,6 +1,6 @@
 use Rattle.std.proofs.Common.{◌∙◌, ◌++◌, ◌∷◌, [], List, sym, ap}
-use Rattle.index_transform.specs.Bounds.{Bounds}
-use Rattle.index_transform.specs.Around.{around_all}
+use Rattle.transform_composition.specs.Bounds.{Bounds}
+use Rattle.transform_composition.specs.Around.{around_all}
 use Rattle.stack_driver.specs.Stacks.{column}
 use Rattle.stack_driver.proofs.StackRules.{stacked_dims-step}
 use Rattle.stack_driver.proofs.stacking.stacked_dims.Goals as goal

@@ -1,5 +1,5 @@
 use Rattle.std.proofs.Common.{rules, ◌≡◌, sym, subst}
-use Rattle.index_transform.specs.Transforms.{IsDomain}
+use Rattle.transform_composition.specs.Transforms.{IsDomain}
 use Rattle.stack_driver.specs.Stacks.{stacked_dims, stacked_labels}
 use Rattle.stack_driver.proofs.StackRules.{stacked_rules}
 use Rattle.stack_driver.proofs.stacking.stacked_domain.Goals as goal

@@ -1,10 +1,10 @@
 use Rattle.std.proofs.Common.{arith, ◌≡◌, ◌≢◌, ◌<◌, ◌∙◌, ℕ, ℤ, true, List, Result, Ok, Err, Some, None, length, get_or, sym, ap, subst}
 use Rattle.std.specs.Prelude.{IsTrue, IfOk, IfErr}
 use Rattle.cells.specs.declared.dtype.Dtype.{Dtype}
-use Rattle.index_transform.specs.Bounds.{Bounds}
+use Rattle.transform_composition.specs.Bounds.{Bounds}
 use Rattle.stack_driver.specs.Targets.{Target, LeadTo, has_index}
-use Rattle.index_transform.specs.Transforms.{DomainAndMaps}
-use Rattle.index_transform.specs.Values.{value_at}
+use Rattle.transform_composition.specs.Transforms.{DomainAndMaps}
+use Rattle.transform_composition.specs.Values.{value_at}
 use Rattle.stack_driver.specs.Views.{look_of, target_of}
 use Rattle.stack_driver.specs.Conditions.{IsView, IsLast}
 use Rattle.stack_driver.specs.declared.view.View.{View, size-View}

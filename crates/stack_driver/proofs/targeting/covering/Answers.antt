@@ -1,7 +1,7 @@
 use Rattle.std.proofs.Common.{◌≡◌, ℤ, List, Vec, Global, false, refl, subst, Option}
 use Rattle.std.specs.Prelude.{IfNone, map}
-use Rattle.index_transform.specs.Bounds.{Bounds}
-use Rattle.index_transform.specs.Values.{value_at}
+use Rattle.transform_composition.specs.Bounds.{Bounds}
+use Rattle.transform_composition.specs.Values.{value_at}
 use Rattle.stack_driver.specs.Targets.{has_index}
 use Rattle.stack_driver.specs.Views.{look_of}
 use Rattle.stack_driver.proofs.Landing.{none_covers}

@@ -1,6 +1,6 @@
 use Rattle.std.proofs.Common.{◌≡◌, ◌≢◌, ◌∙◌, ap, Err}
-use Rattle.index_transform.specs.declared.error.AtError.{AtError}
-use Rattle.index_transform.specs.declared.error.AtError.TheVariants.{Memory, OutOfRange, Overflow}
+use Rattle.transform_composition.specs.declared.AtError.{AtError}
+use Rattle.transform_composition.specs.declared.AtError.TheVariants.{Memory, OutOfRange, Overflow}
 use Rattle.stack_driver.proofs.Members.{length-has_index, overflow-has_index, never_outside}
 use Rattle.stack_driver.proofs.targeting.finite_values.Goals as goal
 

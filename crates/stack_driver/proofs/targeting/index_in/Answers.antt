@@ -4,7 +4,7 @@ use Rattle.std.specs.List.{All}
 use Rattle.std.proofs.lemmas.List.{length-map}
 use Rattle.std.proofs.lemmas.List.Elements.{All-append}
 use Rattle.std.proofs.lemmas.Int.{ints}
-use Rattle.index_transform.specs.Values.{value_at}
+use Rattle.transform_composition.specs.Values.{value_at}
 use Rattle.stack_driver.specs.Targets.{in_shape}
 use Rattle.stack_driver.proofs.Members.{length-has_index, inside-has_index}
 use Rattle.stack_driver.proofs.Shapes.{behind, behind-none, next, one}

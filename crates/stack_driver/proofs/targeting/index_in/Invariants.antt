@@ -1,6 +1,6 @@
 use Rattle.std.specs.Prelude.{◌≡◌, ◌≤ℤ◌, pos, drop, map, unsigned_abs}
 use Rattle.std.specs.List.{All}
-use Rattle.index_transform.specs.Values.{value_at}
+use Rattle.transform_composition.specs.Values.{value_at}
 use Rattle.stack_driver.specs.Targets.{in_shape}
 use Rattle.stack_driver.proofs.Shapes.{behind}
 use Rattle.stack_driver.proofs.targeting.index_in.Given as goal

@@ -1,6 +1,6 @@
 use Rattle.std.proofs.Common.{◌≡◌, ◌∙◌, ◌+◌, List, take, refl, sym, ap, subst}
 use Rattle.std.proofs.lemmas.List.{take_all}
-use Rattle.index_transform.specs.Bounds.{Bounds}
+use Rattle.transform_composition.specs.Bounds.{Bounds}
 use Rattle.stack_driver.specs.Targets.{has_index}
 use Rattle.stack_driver.specs.Views.{look_of}
 use Rattle.stack_driver.specs.Conditions.{IsLast}

@@ -1,6 +1,6 @@
 use Rattle.std.proofs.Common.{rules, ◌≡◌, sym, subst}
 use Rattle.cells.specs.Shapes.{IsShape}
-use Rattle.index_transform.specs.Transforms.{IsDomain}
+use Rattle.transform_composition.specs.Transforms.{IsDomain}
 use Rattle.stack_driver.specs.References.{Reference}
 use Rattle.stack_driver.specs.Arrays.{array_domain}
 use Rattle.stack_driver.proofs.ArrayRules.{array_rules}

@@ -1,7 +1,7 @@
 use Rattle.std.proofs.Common.{◌≡◌, ◌∙◌, length, sym, ap}
 use Rattle.std.proofs.lemmas.List.{length-map}
-use Rattle.index_transform.specs.Transforms.{DomainAndMaps}
-use Rattle.index_transform.specs.Identity.{identity_over}
+use Rattle.transform_composition.specs.Transforms.{DomainAndMaps}
+use Rattle.transform_composition.specs.Identity.{identity_over}
 use Rattle.stack_driver.specs.References.{Reference}
 use Rattle.stack_driver.specs.Arrays.{array_dim, array_domain}
 use Rattle.stack_driver.proofs.ArrayRules.{leaf_view, length-identity}

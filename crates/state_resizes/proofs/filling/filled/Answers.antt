@@ -2,8 +2,8 @@ use Rattle.std.proofs.Common.{[], sym, ap, subst, ◌∙◌, arith}
 use Rattle.std.specs.Prelude.{slice_index_or}
 use Rattle.history.specs.Arrays.{known_after, chunk_shape}
 use Rattle.history.specs.Resizes.{is_cut}
-use Rattle.state_laws.specs.declared.deed.NewShape.{NewShape}
-use Rattle.state_laws.proofs.Laws.{read_then}
+use Rattle.chunk_plans.specs.declared.NewShape.{NewShape}
+use Rattle.chunk_plans.proofs.Laws.{read_then}
 use Rattle.state_resizes.specs.Cuts.{IsLeftBy}
 use Rattle.state_resizes.specs.Refusals.{IsUnfilled}
 use Rattle.state_resizes.proofs.Along.{cut_at, filled_more, left_before, same_then, unfilled_before}

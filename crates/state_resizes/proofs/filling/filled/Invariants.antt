@@ -1,8 +1,8 @@
 use Rattle.std.proofs.Common.{◌≡◌}
 use Rattle.kv_face.specs.Store.{keys_of}
 use Rattle.chunk_plans.specs.Writes.{IsSameButCache}
-use Rattle.state_laws.specs.Agreement.{KeepsAgreement}
-use Rattle.state_laws.specs.Seen.{IsRead}
+use Rattle.chunk_plans.specs.Agreement.{KeepsAgreement}
+use Rattle.chunk_plans.specs.Seen.{IsRead}
 use Rattle.state_resizes.specs.Cuts.{AreFilled, bytes_at}
 use Rattle.state_resizes.proofs.filling.filled.Given as goal
 

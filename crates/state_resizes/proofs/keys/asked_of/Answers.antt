@@ -3,8 +3,8 @@ use Rattle.chunk_forms.specs.Metadata.{metadata_text}
 use Rattle.kv_face.specs.declared.change.Change.{Change}
 use Rattle.history.specs.Arrays.{known_after}
 use Rattle.history.specs.Chunks.{chunk_key}
-use Rattle.state_laws.specs.Fetches.{IsChunkOf}
-use Rattle.state_laws.specs.declared.deed.NewShape.{NewShape}
+use Rattle.chunk_plans.specs.Fetches.{IsChunkOf}
+use Rattle.chunk_plans.specs.declared.NewShape.{NewShape}
 use Rattle.state_resizes.specs.Cuts.{unfilled}
 use Rattle.state_resizes.proofs.Begin.{are_asked, listed_chunk, map_more}
 use Rattle.state_resizes.proofs.keys.asked_of.Goals as goal

@@ -1,7 +1,7 @@
 use Rattle.std.proofs.Common.{sym, ap, subst, List}
 use Rattle.kv_face.specs.declared.change.Change.{Change}
-use Rattle.state_laws.specs.Changing.{IsNewShape, KeepsByShape}
-use Rattle.state_laws.specs.Log.{Log, StateOf}
+use Rattle.chunk_plans.specs.Changing.{IsNewShape, KeepsByShape}
+use Rattle.chunk_plans.specs.Log.{Log, StateOf}
 use Rattle.state_resizes.proofs.making.make.Goals as goal
 
 pub reshape-requires-clause-shape : goal.reshape-requires-clause-shape

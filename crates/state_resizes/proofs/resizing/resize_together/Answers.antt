@@ -1,5 +1,5 @@
 use Rattle.std.proofs.Common.{Err, sym, ap, subst, ◌∙◌}
-use Rattle.state_laws.specs.Changing.{IsNewShape}
+use Rattle.chunk_plans.specs.Changing.{IsNewShape}
 use Rattle.state_resizes.specs.Answers.{IsResize}
 use Rattle.history.specs.Commit.{are_together}
 use Rattle.state_resizes.proofs.Made.{made_later, made_together, new_shape, shape_later}

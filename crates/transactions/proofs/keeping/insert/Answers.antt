@@ -1,7 +1,7 @@
 use Rattle.std.proofs.Common.{◌∙◌, cond, Some, ap}
 use Rattle.std.specs.Str.{bytes_eq}
-use Rattle.transaction_cells.specs.Found.{found}
-use Rattle.transaction_cells.proofs.Laws.{found-insert}
+use Rattle.chunk_fetches.specs.Found.{found}
+use Rattle.chunk_fetches.proofs.Laws.{found-insert}
 use Rattle.transactions.proofs.keeping.insert.Goals as goal
 use Rattle.transactions.proofs.keeping.insert.Goals.{in-Ok, in-Err}
 

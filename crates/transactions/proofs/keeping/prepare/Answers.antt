@@ -1,7 +1,7 @@
 use Rattle.std.proofs.Common.{◌≡◌, ◌∙◌, ◌+◌, ℕ, List, Some, sym, ap, subst, arith, drop, get_or, cond}
 use Rattle.std.specs.Str.{bytes_eq}
 use Rattle.std.proofs.lemmas.List.{at_drop_more}
-use Rattle.transaction_cells.specs.Found.{found}
+use Rattle.chunk_fetches.specs.Found.{found}
 use Rattle.transactions.specs.Keeping.{IsUnkept, IsUnspoilt, placed}
 use Rattle.chunk_fetches.specs.declared.kept.Kept.{Kept}
 use Rattle.transactions.proofs.KeepLaws.{kept_at, unspoilt_more}

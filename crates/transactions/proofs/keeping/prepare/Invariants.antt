@@ -1,6 +1,6 @@
 use Rattle.std.proofs.Common.{◌≡◌, ◌+◌, ℕ, List, drop, length}
 use Rattle.std.specs.List.{AllByRecursion}
-use Rattle.transaction_cells.specs.Found.{found}
+use Rattle.chunk_fetches.specs.Found.{found}
 use Rattle.transactions.specs.Keeping.{IsUnkept, IsUnspoilt, placed}
 use Rattle.chunk_fetches.specs.declared.kept.Kept.{Kept}
 use Rattle.transactions.proofs.keeping.prepare.Given as goal

@@ -1,5 +1,5 @@
 use Rattle.std.proofs.Common.{◌≡◌, ◌++◌, map}
-use Rattle.transaction_cells.specs.Staging.{chunks_of}
+use Rattle.chunk_fetches.specs.Staging.{chunks_of}
 use Rattle.transactions.specs.Preparing.{seen_chunk, seen_part}
 use Rattle.transactions.proofs.preparing.parts_of.Given as goal
 

@@ -1,6 +1,6 @@
 use Rattle.std.proofs.Common.{◌≡◌, ◌∙◌, ◌++◌, List, sym, ap, subst, arith, length, take}
 use Rattle.std.proofs.Math.Seq.{take-append_seam}
-use Rattle.transaction_cells.specs.Found.{found}
+use Rattle.chunk_fetches.specs.Found.{found}
 use Rattle.transactions.specs.Keeping.{AreNewTo, placed}
 use Rattle.transactions.specs.Txn.{TxnSeen, counting}
 use Rattle.chunk_fetches.specs.Kept.{place_from}

@@ -1,6 +1,6 @@
 use Rattle.std.proofs.Common.{List, length, sym, subst}
 use Rattle.std.specs.List.{AllByRecursion}
-use Rattle.transaction_cells.specs.declared.view_cells.Piece.{Piece}
+use Rattle.chunk_fetches.specs.declared.Piece.{Piece}
 use Rattle.chunk_fetches.specs.Fetching.{IsFetchError}
 use Rattle.chunk_fetches.specs.Looking.{AreChunks}
 use Rattle.chunk_fetches.specs.Sources.{new_pieces}

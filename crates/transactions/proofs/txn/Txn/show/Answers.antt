@@ -3,7 +3,7 @@ use Rattle.std.specs.List.{AllByRecursion}
 use Rattle.cells.specs.Numbers.{IsWord}
 use Rattle.history.specs.Reads.{unwritten}
 use Rattle.stack_driver.specs.Views.{look_of}
-use Rattle.transaction_cells.specs.Gathered.{AreTypedChunks, IsTold}
+use Rattle.chunk_fetches.specs.Gathered.{AreTypedChunks, IsTold}
 use Rattle.transactions.specs.Had.{IsDenseOrNone, snapshots_of}
 use Rattle.transactions.specs.Reading.{had_by}
 use Rattle.transactions.proofs.txn.Txn.show.Goals as goal

@@ -1,6 +1,6 @@
 use Rattle.std.proofs.Common.{◌∙◌, ◌∷◌, ◌++◌, ◌+◌, [], List, sym, ap, drop, append_assoc, arith, length}
 use Rattle.std.proofs.lemmas.List.{at_drop_more}
-use Rattle.transaction_cells.specs.declared.view_cells.Piece.{Piece}
+use Rattle.chunk_fetches.specs.declared.Piece.{Piece}
 use Rattle.chunk_fetches.specs.Sources.{sources_of}
 use Rattle.chunk_fetches.proofs.Laws.{no_piece}
 use Rattle.transactions.proofs.txn.Txn.sources.Goals as goal

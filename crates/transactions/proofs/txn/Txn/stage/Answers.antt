@@ -1,6 +1,6 @@
 use Rattle.std.proofs.Common.{◌≡◌, ◌∙◌, ◌∷◌, ◌++◌, [], sym, ap, append_assoc, subst, rules}
 use Rattle.history.specs.declared.event.Op.TheVariants.{Write}
-use Rattle.transaction_cells.specs.Operations.{AreStaged}
+use Rattle.chunk_fetches.specs.Operations.{AreStaged}
 use Rattle.transactions.specs.Txn.{TxnSeen, shared_ops}
 use Rattle.transactions.proofs.txn.Txn.stage.Goals as goal
 

@@ -2,8 +2,8 @@ use Rattle.std.proofs.Common.{◌≡◌, ◌∙◌, List, Option, sym, ap, subst
 use Rattle.std.specs.List.{AllByRecursion}
 use Rattle.chunk_cache.specs.Snapshot.{SnapshotCells}
 use Rattle.history.specs.Reads.{unwritten}
-use Rattle.transaction_cells.specs.Gathered.{AreTypedChunks, IsTold}
-use Rattle.transaction_cells.specs.Operations.{AreStaged}
+use Rattle.chunk_fetches.specs.Gathered.{AreTypedChunks, IsTold}
+use Rattle.chunk_fetches.specs.Operations.{AreStaged}
 use Rattle.transactions.specs.Had.{IsDenseOrNone, had_from, snapshots_of}
 use Rattle.transactions.specs.Reading.{had_by}
 use Rattle.transactions.specs.Txn.{TxnSeen}

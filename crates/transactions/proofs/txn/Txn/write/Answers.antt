@@ -1,7 +1,7 @@
 use Rattle.std.proofs.Common.{◌≡◌, ◌∙◌, sym, ap, subst, length}
-use Rattle.transaction_cells.specs.Sites.{sites_of}
-use Rattle.transaction_cells.specs.Staging.{CanStage}
-use Rattle.transaction_cells.proofs.Laws.{can_stage, count_of}
+use Rattle.chunk_fetches.specs.Sites.{sites_of}
+use Rattle.chunk_fetches.specs.Staging.{CanStage}
+use Rattle.chunk_fetches.proofs.Laws.{can_stage, count_of}
 use Rattle.transactions.proofs.ViewLaws.{alike_known, leaves_of_known}
 use Rattle.transactions.specs.Txn.{TxnSeen}
 use Rattle.transactions.proofs.StagedLaws.{on_ok_any, write_staged}
