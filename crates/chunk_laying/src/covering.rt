@@ -19,20 +19,7 @@ pub fn covers(shape: &[u64], chunk_shape: &[u64], chunk: &[u64], staged: &Staged
     for row in 0..rows.count {
         let from = row * rows.len;
         let inside = inside_of_row(shape, chunk_shape, chunk, rows, row);
-        if !covers_run(staged, from, from + inside) {
-            return false;
-        }
-    }
-    true
-}
-
-// Whether each place of a run has a staged word.
-fn covers_run(staged: &Staged, from: usize, to: usize) -> bool
-    requires { to ≤ length staged.now }
-    ensures { IsTrue result ↔ ((place : ℕ) → from ≤ place → place < to → IsSome (staged_at staged.now place)) }
-{
-    for place in from..to {
-        if !staged.covers(place) {
+        if !staged.covers_range(from, from + inside) {
             return false;
         }
     }

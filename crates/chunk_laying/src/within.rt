@@ -17,20 +17,7 @@ pub fn stays_within(shape: &[u64], chunk_shape: &[u64], chunk: &[u64], staged: &
     for row in 0..rows.count {
         let from = row * rows.len;
         let inside = inside_of_row(shape, chunk_shape, chunk, rows, row);
-        if !is_bare(staged, from + inside, from + rows.len) {
-            return false;
-        }
-    }
-    true
-}
-
-// Whether no place of a run has a staged word.
-fn is_bare(staged: &Staged, from: usize, to: usize) -> bool
-    requires { to ≤ length staged.now }
-    ensures { IsTrue result ↔ ((place : ℕ) → from ≤ place → place < to → staged_at staged.now place ≡ None) }
-{
-    for place in from..to {
-        if staged.covers(place) {
+        if !staged.spares_range(from + inside, from + rows.len) {
             return false;
         }
     }

@@ -1,2 +1,5 @@
 pub mod RunLaws
+pub mod RisingLaws
+pub mod PutLaws
+pub mod KeptLaws
 pub mod StagedLaws

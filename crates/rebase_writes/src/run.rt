@@ -1,4 +1,4 @@
-ghost use Rattle.std.specs.Prelude.{◌≡◌, ℕ, ◌+◌, ◌*◌, ◌<◌, ◌^◌, pos, ◌≤ℤ◌, ◌<ℤ◌, length};
+ghost use Rattle.std.specs.Prelude.{◌≡◌, ℕ, ◌+◌, ◌*◌, ◌<◌, ◌^◌, pos, ◌≤ℤ◌, ◌<ℤ◌, Some, length, slice_set};
 ghost use Rattle.rebase_writes.specs.Staged.{staged_cells};
 ghost use Rattle.cells.specs.Runs.{view_place, chunk_number, chunk_place, IsRunInside, pairs_of};
 ghost use Rattle.rebase_writes.specs.Runs.{pairs_written, pairs_read, pairs_shown};
@@ -11,6 +11,16 @@ pub fn read_run(dense: &Dense, run: &Run, out: &mut [u64])
     ensures { out.new ≡ pairs_read (pairs_of run.now) dense.now.words out.old }
 {
     dense.read_run(run, out);
+}
+
+/// Stages a word at a place, in a mask and words.
+pub(crate) fn stage_cell(mask: &mut [bool], staged: &mut [u64], place: usize, word: u64)
+    requires same { length mask.old ≡ length staged.old }
+    requires inside { place < length staged.old }
+    ensures { staged_cells mask.new staged.new ≡ slice_set (staged_cells mask.old staged.old) place (Some word) }
+{
+    mask[place] = true;
+    staged[place] = word;
 }
 
 /// Stages the words of a view along a run, in a mask and words.
@@ -42,7 +52,7 @@ pub(crate) fn show_run(mask: &[bool], staged: &[u64], run: &Run, out: &mut [u64]
 }
 
 /// The view's place and the chunk's place of pair `k`.
-fn pair_at(run: &Run, k: u32) -> (usize, usize)
+pub(crate) fn pair_at(run: &Run, k: u32) -> (usize, usize)
     requires in_view { view_place run.now k < 2 ^ 64 }
     requires from_first { pos 0 ≤ℤ chunk_number run.now k }
     requires to_last { chunk_number run.now k <ℤ pos (2 ^ 63) }

@@ -1,31 +1,44 @@
-ghost use Rattle.std.specs.Prelude.{◌≡◌, ℕ, ◌<◌, ◌≤◌, ◌^◌, ◌↔◌, None, Some, Bool, true, length, replicate, slice_get, slice_index, slice_set, unwrap_or, IfOk, IsTrue, IsSome};
+ghost use Rattle.std.specs.Prelude.{◌≡◌, ℕ, ◌<◌, ◌≤◌, ◌^◌, ◌↔◌, None, Some, true, false, length, replicate, slice_index, slice_index_or, slice_set, unwrap_or, IfOk, IsTrue, IsSome};
 ghost use Rattle.cells.specs.Dense.{DenseCells, IsDense};
 ghost use Rattle.rebase_writes.specs.Staged.{staged_cells, staged_at, AreWords, CoverAll, laid_over};
 ghost use Rattle.cells.specs.Runs.{IsRunInside, pairs_of};
 ghost use Rattle.rebase_writes.specs.Runs.{pairs_written, pairs_shown};
 
-use crate::run::{show_run, stage_run};
+use crate::rising::{add_run, cover_range, lay_runs, show_staged, spare_range, spread, word_at};
+use crate::run::{show_run, stage_cell, stage_run};
 use cells::{Dense, Run};
 use std::alloc::{AllocError, Global};
 use std::marker::Model;
 
+// A chunk of no more cells, or of more, is kept by marks and words from the first.
+const FEW_CELLS: usize = 64;
+
+const MOST_CELLS: usize = 1 << 24;
+
 /// Cells that are to be laid over a chunk, one per place of the chunk in C order. A contract sees at each place the staged
 /// word, or none.
+///
+/// Kept are runs with their words as long as each begins behind the end of the one before, and a mark and a word for each cell from then on.
 #[derive(Debug, Drop)]
 pub struct Staged {
+    by_runs: bool,
+    cells: usize,
+    runs: Vec<Run>,
+    kept: Vec<u64>,
     mask: Vec<bool>,
     words: Vec<u64>,
 }
 
 impl Model for Staged {
-    ghost use Rattle.std.specs.Prelude.{◌≡◌, ℕ, List, Option, length};
-    ghost use Rattle.rebase_writes.specs.Staged.{staged_cells};
+    ghost use Rattle.std.specs.Prelude.{ℕ, List, Option, vec_capacity};
+    ghost use Rattle.rebase_writes.specs.Rising.{cells_kept, AreKept};
 
     ghost Value = { List (Option ℕ) };
 
-    ghost view = { λ staged. staged_cells staged.mask.items staged.words.items };
+    ghost view = { λ s. cells_kept s.by_runs s.cells s.runs.items s.kept.items s.mask.items s.words.items };
 
-    ghost invariant = { λ staged. length staged.mask.items ≡ length staged.words.items };
+    ghost invariant = { λ s. AreKept s.by_runs s.cells s.runs.items s.kept.items s.mask.items s.words.items
+        (vec_capacity s.kept) (vec_capacity s.mask) (vec_capacity s.words) };
 }
 
 impl Staged {
@@ -37,9 +50,31 @@ impl Staged {
     pub fn new(alloc: Global, cells: usize) -> Result<Staged, AllocError>
         ensures { IfOk result (λ staged. staged ≡ replicate cells None) }
     {
-        let mask = vec![in alloc; false; cells]?;
-        let words = vec![in alloc; 0; cells]?;
-        Ok(Staged { mask, words })
+        if cells <= FEW_CELLS || cells > MOST_CELLS {
+            let mask = vec![in alloc; false; cells]?;
+            let words = vec![in alloc; 0; cells]?;
+            return Ok(Staged {
+                by_runs: false,
+                cells,
+                runs: Vec::new(alloc),
+                kept: Vec::new(alloc),
+                mask,
+                words,
+            });
+        }
+        // Room is taken now, so that no write wants memory. What isn't written isn't touched.
+        let runs = Vec::with_capacity(alloc, 64 + cells / 64)?;
+        let kept = Vec::with_capacity(alloc, cells)?;
+        let mask = Vec::with_capacity(alloc, cells)?;
+        let words = Vec::with_capacity(alloc, cells)?;
+        Ok(Staged {
+            by_runs: true,
+            cells,
+            runs,
+            kept,
+            mask,
+            words,
+        })
     }
 
     /// Stages a word at a place. A word that is staged there already gives way.
@@ -47,8 +82,17 @@ impl Staged {
         requires { place < length self.old }
         ensures { self.new ≡ slice_set self.old place (Some word) }
     {
-        self.mask[place] = true;
-        self.words[place] = word;
+        if self.by_runs {
+            spread(
+                &self.runs,
+                &self.kept,
+                self.cells,
+                &mut self.mask,
+                &mut self.words,
+            );
+            self.by_runs = false;
+        }
+        stage_cell(&mut self.mask, &mut self.words, place, word);
     }
 
     /// Stages the words of a view along a run: for each pair in turn, the view's word at the pair's place in the chunk.
@@ -56,6 +100,19 @@ impl Staged {
         requires { IsRunInside run.now (length words.now) (length self.old) }
         ensures { self.new ≡ pairs_written (pairs_of run.now) words.now self.old }
     {
+        if self.by_runs {
+            if add_run(&mut self.runs, &mut self.kept, self.cells, run, words) {
+                return;
+            }
+            spread(
+                &self.runs,
+                &self.kept,
+                self.cells,
+                &mut self.mask,
+                &mut self.words,
+            );
+            self.by_runs = false;
+        }
         stage_run(&mut self.mask, &mut self.words, run, words);
     }
 
@@ -65,7 +122,11 @@ impl Staged {
         requires { IsRunInside run.now (length out.old) (length self.now) }
         ensures { out.new ≡ pairs_shown (pairs_of run.now) self.now out.old }
     {
-        show_run(&self.mask, &self.words, run, out);
+        if self.by_runs {
+            show_staged(&self.runs, &self.kept, run, out);
+        } else {
+            show_run(&self.mask, &self.words, run, out);
+        }
     }
 
     /// Whether a word is staged at a place.
@@ -73,7 +134,35 @@ impl Staged {
         requires { place < length self.now }
         ensures { IsTrue result ↔ IsSome (staged_at self.now place) }
     {
-        self.mask[place]
+        if self.by_runs {
+            word_at(&self.runs, &self.kept, place).is_some()
+        } else {
+            self.mask[place]
+        }
+    }
+
+    /// Whether a word is staged at each place of a range, which ends before `to`.
+    pub fn covers_range(&self, from: usize, to: usize) -> bool
+        requires { to ≤ length self.now }
+        ensures { IsTrue result ↔ ((place : ℕ) → from ≤ place → place < to → IsSome (staged_at self.now place)) }
+    {
+        if self.by_runs {
+            cover_range(&self.runs, &self.kept, from, to)
+        } else {
+            covers_each(&self.mask, from, to)
+        }
+    }
+
+    /// Whether no word is staged at any place of a range, which ends before `to`.
+    pub fn spares_range(&self, from: usize, to: usize) -> bool
+        requires { to ≤ length self.now }
+        ensures { IsTrue result ↔ ((place : ℕ) → from ≤ place → place < to → staged_at self.now place ≡ None) }
+    {
+        if self.by_runs {
+            spare_range(&self.runs, &self.kept, from, to)
+        } else {
+            spares_each(&self.mask, from, to)
+        }
     }
 
     /// Whether a word is staged at each place that lies inside the array, so that nothing of the chunk is left to be read.
@@ -81,7 +170,12 @@ impl Staged {
         requires { length inside.now ≡ length self.now }
         ensures { IsTrue result ↔ CoverAll self.now inside.now }
     {
-        covers_all(&self.mask, inside)
+        for (place, within) in inside.iter().enumerate() {
+            if *within && !self.covers(place) {
+                return false;
+            }
+        }
+        true
     }
 
     /// The chunk with the staged words in place of its own.
@@ -111,18 +205,34 @@ impl Staged {
             slice_index chunk.new.words place ≡ unwrap_or (staged_at self.now place)
             (slice_index chunk.old.words place) }
     {
-        chunk.set_where(&self.mask, &self.words);
+        if self.by_runs {
+            lay_runs(&self.runs, &self.kept, chunk);
+        } else {
+            chunk.set_where(&self.mask, &self.words);
+        }
     }
 }
 
-/// Whether the mask is set at each place that lies inside.
-fn covers_all(mask: &[bool], inside: &[bool]) -> bool
-    requires { length inside.now ≡ length mask.now }
-    ensures { IsTrue result ↔ ((place : ℕ) → slice_get inside.now place ≡ Some true
-        → slice_get mask.now place ≡ Some true) }
+// Whether the mask is set at each place of a range.
+fn covers_each(mask: &[bool], from: usize, to: usize) -> bool
+    requires { to ≤ length mask.now }
+    ensures { IsTrue result ↔ ((place : ℕ) → from ≤ place → place < to → slice_index_or mask.now place false ≡ true) }
 {
-    for (place, covered) in mask.iter().enumerate() {
-        if inside[place] && !covered {
+    for place in from..to {
+        if !mask[place] {
+            return false;
+        }
+    }
+    true
+}
+
+// Whether the mask is set at no place of a range.
+fn spares_each(mask: &[bool], from: usize, to: usize) -> bool
+    requires { to ≤ length mask.now }
+    ensures { IsTrue result ↔ ((place : ℕ) → from ≤ place → place < to → slice_index_or mask.now place false ≡ false) }
+{
+    for place in from..to {
+        if mask[place] {
             return false;
         }
     }

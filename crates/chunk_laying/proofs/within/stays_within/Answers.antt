@@ -5,11 +5,11 @@ use Rattle.chunk_laying.proofs.CoverLaws.{row-fits, row-past, not_both_ways}
 use Rattle.chunk_laying.proofs.BareLaws.{bare-more, bare-places, places-bare, run-bare}
 use Rattle.chunk_laying.proofs.within.stays_within.Goals as goal
 
-pub returns-then-not-is_bare : goal.returns-then-not-is_bare
-returns-then-not-is_bare c =
+pub returns-then-not-spares_range : goal.returns-then-not-spares_range
+returns-then-not-spares_range c =
     let rows = c.rows_of-rows.result in
     let fits = row-fits c.loop-row.row rows.count rows.len (cell_count c.args.chunk_shape.now) c.loop-row-test.true c.rows_of-rows.ensures.all in
-    not_both_ways c.is_bare.result _ _ c.is_bare.ensures c.if-not-is_bare.true
+    not_both_ways c.spares_range.result _ _ c.spares_range.ensures c.if-not-spares_range.true
     (λ within.
     run-bare c.args.chunk_shape.now c.args.shape.now c.args.chunk.now c.args.staged.now c.loop-row.row rows.len c.inside_of_row-inside.result fits c.inside_of_row-inside.ensures.cells
     (bare-places c.args.chunk_shape.now c.args.shape.now c.args.chunk.now c.args.staged.now c.requires.chunk.shape_rank c.requires.chunk.chunk_rank within))
@@ -18,7 +18,7 @@ pub loop-row-preserved : goal.loop-row-preserved
 loop-row-preserved c =
     let rows = c.rows_of-rows.result in
     bare-more (is_place_inside c.args.chunk_shape.now c.args.shape.now c.args.chunk.now) c.args.staged.now c.loop-row.row rows.len c.inside_of_row-inside.result c.inside_of_row-inside.ensures.cells c.loop-row.invariant
-    (c.is_bare.ensures.0 c.if-not-is_bare.false)
+    (c.spares_range.ensures.0 c.if-not-spares_range.false)
 
 pub returns : goal.returns
 returns c =
