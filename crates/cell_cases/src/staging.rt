@@ -1,5 +1,5 @@
 // Cells that are staged over a chunk, and runs between a view and a chunk.
-ghost use Rattle.std.specs.Prelude.{◌≡◌, ◌≤◌, length};
+ghost use Rattle.std.specs.Prelude.{◌≡◌, ◌≤◌, pos, length, IfOk};
 ghost use Rattle.cells.specs.declared.dtype.Dtype.TheVariants.{U8};
 ghost use Rattle.rebase_writes.specs.Staged.{AreWords};
 
@@ -15,6 +15,8 @@ pub(crate) fn answer(alloc: Global, call: &str) -> Result<String, Fault> {
         "write_run" => write_run(alloc),
         "read_run" => read(alloc),
         "read_staged" => read_staged(alloc),
+        "ranges" => ranges(alloc),
+        "in_rows" => in_rows(alloc),
         _ => Err(Fault::Line),
     }
 }
@@ -120,5 +122,69 @@ fn read_staged(alloc: Global) -> Result<String, Fault> {
     let mut out = [1, 1, 1, 1, 1];
     staged.read_run(&down, &mut out);
     staged.read_run(&again, &mut out);
+    told(alloc, &out)
+}
+
+// A run of so many cells of a chunk one after another, from a place on.
+fn row(view: u32, chunk: u32, len: u32) -> Run
+    ensures { result ≡ record { view = view; view_step = 1; chunk = chunk; chunk_step = pos 1; len = len } }
+{
+    Run {
+        view,
+        view_step: 1,
+        chunk,
+        chunk_step: 1,
+        len,
+    }
+}
+
+// Of a chunk of 80 cells, 8 to 11 and 12 to 15 are staged, and of those behind every third from 20 to 32.
+fn rows_staged(alloc: Global) -> Result<Staged, Fault>
+    ensures { IfOk result (λ staged. length staged ≡ 80) }
+{
+    let words = [1, 2, 3, 4, 5, 6, 7, 8, 9, 10, 11, 12, 13];
+    let third = Run {
+        view: 8,
+        view_step: 1,
+        chunk: 20,
+        chunk_step: 3,
+        len: 5,
+    };
+    let mut staged = Staged::new(alloc, 80)?;
+    staged.write_run(&row(0, 8, 4), &words);
+    staged.write_run(&row(4, 12, 4), &words);
+    staged.write_run(&third, &words);
+    Ok(staged)
+}
+
+// Which ranges of them are staged as a whole: 8 to 15, 8 to 16, 20 alone, 20 and 21; of which nothing is: 0 to 7, 16 to 19, 16 to 20, 33 to 79.
+fn ranges(alloc: Global) -> Result<String, Fault> {
+    let staged = rows_staged(alloc)?;
+    let whole = staged.covers_range(8, 16) && staged.covers_range(20, 21);
+    let more = staged.covers_range(8, 17) || staged.covers_range(20, 22);
+    let none = staged.spares_range(0, 8)
+        && staged.spares_range(16, 20)
+        && staged.spares_range(33, 80);
+    let some = staged.spares_range(16, 21) || staged.spares_range(15, 16);
+    told(
+        alloc,
+        &[
+            whole,
+            more,
+            none,
+            some,
+            staged.covers(23),
+            staged.covers(24),
+        ],
+    )
+}
+
+// The cells 6 to 33, once as they are staged and once when 9 and 10 are staged again.
+fn in_rows(alloc: Global) -> Result<String, Fault> {
+    let mut staged = rows_staged(alloc)?;
+    let mut out = [0; 56];
+    staged.read_run(&row(0, 6, 28), &mut out);
+    staged.write_run(&row(0, 9, 2), &[70, 71]);
+    staged.read_run(&row(28, 6, 28), &mut out);
     told(alloc, &out)
 }
