@@ -7,12 +7,12 @@ crates of this repository; the way of no step counts as one. `rt` walks every on
 
     tools/paths.py [FILE]     prints the number of FILE (crates.txt at the top of the repository, if none is named)
 
-The status is 1 above 130,000 paths, or where the list names a crate twice or goes in a circle; 2 where FILE can't be read.
+The status is 1 above 100,000 paths, or where the list names a crate twice or goes in a circle; 2 where FILE can't be read.
 """
 import os
 import sys
 
-MOST = 130_000
+MOST = 100_000
 
 
 def read_list(path):
