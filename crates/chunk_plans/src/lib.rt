@@ -25,8 +25,8 @@ pub use plan::{Left, Planned};
 pub use planning::plan_write;
 pub use readying::write_of;
 pub use shared_state::{
-    Bounds, ChangeError, Commit, Deed, FetchError, HeldCells, MetaCause, NewShape, OpenError,
-    Opened, State, metadata_change,
+    Bounds, ChangeError, Commit, Deed, FetchError, HeldCells, Look, MetaCause, NewShape, OpenError,
+    Opened, State, decode, metadata_change,
 };
 pub use sorting::{sort_marks, sort_writes};
 pub use write::{ChunkWrite, Ready};

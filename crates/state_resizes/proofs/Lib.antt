@@ -3,7 +3,9 @@ pub mod Cut
 pub mod Right
 pub mod Made
 pub mod Outcome
+pub mod Absent
 pub mod Reading
+pub mod Looks
 pub mod Along
 pub mod Row
 pub mod Laws

@@ -1,41 +1,47 @@
 -- What is left of a chunk that a new shape cuts.
-use Rattle.std.proofs.Common.{◌≡◌, ℕ, List, [], ◌∷◌, ◌++◌, true, false, cond, Option, Some, None, refl, sym, ap, subst, ◌∙◌}
+use Rattle.std.proofs.Common.{◌≡◌, ℕ, List, [], ◌∷◌, ◌++◌, Bool, true, false, cond, Option, Some, None, refl, sym, ap, subst, ◌∙◌}
 use Rattle.std.specs.Prelude.{Result, Err, not}
+use Rattle.std.specs.FinMap as finmap
 use Rattle.cells.specs.Dense.{DenseCells}
 use Rattle.cells.specs.Elements.{word_at}
 use Rattle.cells.specs.Numbers.{IsWord}
 use Rattle.cells.specs.Places.{IsInside}
+use Rattle.chunk_cache.specs.Cache.{after_hit}
 use Rattle.chunk_cache.specs.Snapshot.{SnapshotCells}
 use Rattle.chunk_forms.specs.declared.form.Damage.{Damage}
 use Rattle.chunk_forms.specs.declared.form.Form.{Form}
 use Rattle.chunk_forms.specs.Metadata as meta
 use Rattle.chunk_forms.specs.Metadata.{shape_of, chunk_shape_of, dtype_of, fill_of, with_shape}
+use Rattle.chunk_forms.specs.Words.{stored_fault, stored_word}
 use Rattle.history.specs.declared.array.Home.{Home}
 use Rattle.history.specs.declared.array.Home.TheVariants.{Zarr, N5, Zarr3, Local}
 use Rattle.history.specs.Arrays.{Known, known_after, form_of, is_local, chunk_shape}
-use Rattle.history.specs.Chunks.{IsIndexOf}
+use Rattle.history.specs.Chunks.{Chunk, IsIndexOf, chunk_key}
 use Rattle.history.specs.Own.{fault}
 use Rattle.history.specs.ReadRows.{mount_of}
 use Rattle.history.specs.Resizes.{is_cut, reaches_into}
 use Rattle.history.specs.Snapshots.{chunk_box}
 use Rattle.history.proofs.Laws.{IsGood, some_inj}
-use Rattle.chunk_plans.specs.Laid.{IsChunkOf, cut_word, word_within}
+use Rattle.chunk_plans.specs.Laid.{IsChunkOf}
 use Rattle.chunk_plans.specs.Resized.{is_gone}
 use Rattle.chunk_plans.specs.Left.{IsLeft}
-use Rattle.chunk_plans.proofs.Laws.{IsLaidBy, shape_told, chunk_told, dtype_told, valid_chunks, valid_ranks, same_by}
+use Rattle.chunk_plans.proofs.Laws.{shape_told, chunk_told, dtype_told, valid_chunks, valid_ranks, same_by, same_log}
 use Rattle.chunk_plans.specs.Agreement.{IsState}
-use Rattle.chunk_plans.specs.Fetches.{HasFailed, IsAnswered, IsDamagedThere}
+use Rattle.chunk_plans.specs.Fetches.{HasFailed, IsAnswered, IsDamagedThere, IsNamed, looked_at}
 use Rattle.chunk_plans.specs.Fetches as fetches
 use Rattle.chunk_plans.specs.Log.{Log}
-use Rattle.chunk_plans.specs.Looks.{IsFailedLook}
+use Rattle.chunk_plans.specs.Looks.{IsFailedLook, IsStoredLook}
+use Rattle.chunk_plans.specs.Writes.{IsSameButCache}
 use Rattle.chunk_plans.specs.Seen.{StoreSeen}
 use Rattle.chunk_plans.specs.declared.NewShape.{NewShape}
 use Rattle.chunk_plans.specs.declared.FetchError.{FetchError}
 use Rattle.chunk_plans.specs.declared.FetchError.TheVariants as fetch
 use Rattle.chunk_plans.proofs.Laws.{form_fill, good_in}
 use Rattle.state_resizes.specs.Answers.{fixed_by}
-use Rattle.state_resizes.specs.Cuts.{IsBegun, IsLeftBy, IsLeftOfCut}
-use Rattle.state_resizes.specs.Refusals.{IsFailedCall, IsUnfilled}
+use Rattle.state_resizes.specs.Cuts.{IsBegun, IsLeftBy, IsLeftOfCut, MayCut}
+use Rattle.state_resizes.specs.Refusals.{IsDamagedBy, IsFailedCall, IsUnfilled}
+use Rattle.chunk_plans.proofs.Laws.{look_answered, decoded_damaged, form_stored}
+use Rattle.state_resizes.proofs.Absent.{of_fill, fill_at, left_fill}
 use Rattle.state_resizes.proofs.Cut.{cut_valid}
 use Rattle.state_resizes.proofs.Right.{damage_of}
 
@@ -52,17 +58,18 @@ fill_any (N5 mount path m) s t word = word
 fill_any (Zarr3 mount path m) s t word = word
 fill_any (Local start) s t word = word
 
+-- a chunk of the fill is the same by each shape
+fill_reshaped : (home : Home) (s t : List ℕ) → of_fill (with_shape (form_of home) s) ≡ of_fill (with_shape (form_of home) t)
+fill_reshaped (Zarr mount path m) s t = refl
+fill_reshaped (N5 mount path m) s t = refl
+fill_reshaped (Zarr3 mount path m) s t = refl
+fill_reshaped (Local start) s t = refl
+
 pub reshaped_form : (home : Home) (s t : List ℕ) → with_shape (with_shape (form_of home) s) t ≡ with_shape (form_of home) t
 reshaped_form (Zarr mount path m) s t = refl
 reshaped_form (N5 mount path m) s t = refl
 reshaped_form (Zarr3 mount path m) s t = refl
 reshaped_form (Local start) s t = refl
-
--- what cutting a chunk asks
-pub record MayCut (f : Form) (index : List ℕ) : Type 0 where
-  pub stored : meta.is_local f ≡ false
-  pub fill : IsWord (dtype_of f) (fill_of f)
-  pub chunk : IsChunkOf (shape_of f) (chunk_shape_of f) index
 
 module _ {store : StoreSeen} {log : Log} (new : NewShape) (index : List ℕ) (state : IsState store log) (begun : IsBegun log.events new)
     (cut : (k : Known) → known_after log.events new.array ≡ Some k → is_cut (chunk_shape k.info) k.shape new.shape index ≡ true) where
@@ -145,6 +152,45 @@ module _ {store : StoreSeen} {log : Log} (new : NewShape) (index : List ℕ) (st
         };
       })
 
+  abbrev here : Chunk
+  here = record { array = new.array; index = index }
+
+  -- a look's form is that of a stored array, and its fill is a word
+  pub look_stored : (generation : ℕ) (form : Form) (bytes : Option (List ℕ)) → IsStoredLook store log here generation form bytes → meta.is_local form ≡ false
+  look_stored generation form bytes look = form_stored store log new.array look.array form state look.known look.stored look.form_is
+
+  pub look_fill : (generation : ℕ) (form : Form) (bytes : Option (List ℕ)) → IsStoredLook store log here generation form bytes → IsWord (dtype_of form) (fill_of form)
+  look_fill generation form bytes look = form_fill store log new.array look.array form state look.known look.stored look.form_is
+
+  -- what a look's bytes decode to is the chunk
+  pub decoded : (generation : ℕ) (form : Form) (bytes : Option (List ℕ)) (cells : DenseCells) → IsStoredLook store log here generation form bytes → cells.dtype ≡ dtype_of form → cells.shape ≡ chunk_shape_of form
+      → ((at : List ℕ) → IsInside (chunk_shape_of form) at → stored_word form (fill_of form) bytes at ≡ Some (word_at cells at)) → IsAnswered store log here (record { generation = generation; cells = cells })
+  decoded generation form bytes cells look dtype shape words = look_answered store log here generation form bytes (record { generation = generation; cells = cells }) state look refl dtype shape words
+
+  -- nothing is left of a chunk that the store doesn't have
+  pub left_absent : (generation : ℕ) (form : Form) → reaches_into (chunk_shape_of new.form) (shape_of new.form) index ≡ true → IsStoredLook store log here generation form None → IsLeftBy store log new.array new.shape index None
+  left_absent generation form reached look =
+      let one : look.array ≡ k = some_inj look.array k (sym look.known ∙ begun.known) in
+      let same : of_fill new.form ≡ of_fill form =
+      ap of_fill begun.form ∙ fill_reshaped k.info.home new.shape look.array.shape ∙ ap (λ (l : Known). of_fill (with_shape (form_of l.info.home) look.array.shape)) (sym one) ∙ ap of_fill (sym look.form_is) in
+      left_read (record { generation = generation; cells = of_fill form }) None reached (decoded generation form None (of_fill form) look refl refl (λ at inside. ap Some (sym (fill_at form at inside))))
+      (subst (λ d. IsLeft new.form index [] (Some d) None) same (left_fill new.form index))
+
+  -- damage of a chunk that is cut in part
+  pub damaged_cut : (name : List ℕ) (cause : Damage) → reaches_into (chunk_shape_of new.form) (shape_of new.form) index ≡ true → IsDamagedThere store log here name cause → IsDamagedBy store log new.array new.shape name cause
+  damaged_cut name cause reached there = λ opening start agrees told.
+      damage_of start log.events 0 new.array k new.shape state.1.outline begun.known begun.may.stored good.kept (fixed_by opening start) refl index name cause (cut k begun.known) (sym reached_told ∙ reached) (there opening start agrees told)
+
+  -- a look's bytes are no chunk
+  pub damaged_look : (generation : ℕ) (form : Form) (bytes : Option (List ℕ)) (cause : Damage) (l : Known) → reaches_into (chunk_shape_of new.form) (shape_of new.form) index ≡ true → IsStoredLook store log here generation form bytes
+      → known_after log.events new.array ≡ Some l → stored_fault form bytes ≡ Some cause → IsDamagedBy store log new.array new.shape (chunk_key l index) cause
+  damaged_look generation form bytes cause l reached look known fault =
+      let one : look.array ≡ l = some_inj look.array l (sym look.known ∙ known) in
+      let key = chunk_key l index in
+      let named : IsNamed log.events here key = record { array = look.array; known = look.known; valid = look.valid; named = ap (λ (m : Known). chunk_key m index) one } in
+      damaged_cut key cause reached
+      (decoded_damaged store log here key form bytes state named look.stored look.form_is (λ m told. look.held m told ∙ ap (λ n. finmap.get m n) (ap (λ (p : Known). chunk_key p index) one)) cause fault)
+
   -- why it wasn't read
   failed_call : (owner : ℕ) (next : StoreSeen) (later : Log) (event : ℕ) → IsFailedLook owner (record { array = new.array; index = index }) store next log later event → IsFailedCall owner new.mount store next log later event
   failed_call owner next later event failed =
@@ -163,18 +209,15 @@ module _ {store : StoreSeen} {log : Log} (new : NewShape) (index : List ℕ) (st
       → ((name : List ℕ) (cause : Damage) → r ≡ Err (fetch.Damaged name cause) → (later ≡ log) × IsDamagedThere store log (record { array = new.array; index = index }) name cause) → (r ≡ Err fetch.Memory → later ≡ log)
       → IsUnfilled owner new store next log later e
   unread owner next later r (fetch.StoreFailed event) reached is failed damaged memory = failed_call owner next later event (failed event is)
-  unread owner next later r (fetch.Damaged name cause) reached is failed damaged memory =
-      let there = damaged name cause is in (
-        same_by log later there.0,
-        λ opening start agrees told.
-            damage_of start log.events owner new.array k new.shape state.1.outline begun.known begun.may.stored good.kept (fixed_by opening start) refl index name cause (cut k begun.known) (sym reached_told ∙ reached) (there.1 opening start agrees told),
-      )
+  unread owner next later r (fetch.Damaged name cause) reached is failed damaged memory = let there = damaged name cause is in (same_by log later there.0, damaged_cut name cause reached there.1)
   unread owner next later r fetch.Memory reached is failed damaged memory = same_by log later (memory is)
 
--- what is laid is what is cut, with nothing staged
-pub laid_cut : (form : Form) (index : List ℕ) (base cells : DenseCells) (shape : List ℕ) (fill : ℕ) → shape ≡ shape_of form → fill ≡ fill_of form → base.shape ≡ chunk_shape_of form
-    → ((at : List ℕ) → IsInside base.shape at → word_at cells at ≡ cut_word shape index fill base at) → IsLaidBy form index [] (Some base) cells
-laid_cut form index base cells shape fill s f sizes cut = λ at inside.
-    cut at (subst (λ ns. IsInside ns at) (sym sizes) inside)
-    ∙ ap (λ t. word_within t base.shape index fill at (word_at base at)) s ∙ ap (λ ns. word_within (shape_of form) ns index fill at (word_at base at)) sizes
-    ∙ ap (λ w. word_within (shape_of form) (chunk_shape_of form) index w at (word_at base at)) f
+either_same : (b : Bool) (old one other : Log) → IsSameButCache old one → IsSameButCache old other → IsSameButCache old (cond b one other)
+either_same true old one other a b = a
+either_same false old one other a b = b
+
+-- a look changes the cache alone
+pub looked_same : (old new : Log) (k : Known) (key : List ℕ) → new ≡ looked_at old k key → IsSameButCache old new
+looked_same old new k key is =
+    subst (IsSameButCache old) (sym is)
+    (either_same (is_local k.info.home) old old (record old { cache = record old.cache { entries = after_hit key old.cache.entries } }) (same_log old) (record { events = refl; generations = refl; locals = refl }))

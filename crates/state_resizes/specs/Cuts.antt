@@ -2,21 +2,27 @@
 use Rattle.std.specs.Prelude.{◌≡◌, ◌<◌, ◌+◌, slice_index_or, ℕ, zero, suc, List, [], ◌∷◌, map, true, false, Option, Some, None}
 use Rattle.cells.specs.Dense.{DenseCells}
 use Rattle.cells.specs.Elements.{word_at}
+use Rattle.cells.specs.Numbers.{IsWord}
 use Rattle.kv_face.specs.Store.{Contents, keys_of}
 use Rattle.kv_face.specs.declared.change.Change.{Change}
-use Rattle.chunk_forms.specs.Metadata.{metadata_text, with_shape}
+use Rattle.chunk_forms.specs.declared.form.Form.{Form}
+use Rattle.chunk_forms.specs.Metadata.{metadata_text, with_shape, shape_of, chunk_shape_of, dtype_of, fill_of}
+use Rattle.chunk_forms.specs.Metadata as meta
 use Rattle.history.specs.Arrays.{Known, known_after, chunk_shape, form_of}
 use Rattle.history.specs.Chunks.{Chunk, chunk_key, metadata_key}
 use Rattle.history.specs.History.{History}
 use Rattle.history.specs.Legal.{MayTake}
 use Rattle.history.specs.ReadRows.{mount_of}
-use Rattle.history.specs.Resizes.{cut_chunks, reaches_into}
+use Rattle.history.specs.Resizes.{cut_chunks, is_cut, reaches_into}
 use Rattle.history.specs.Snapshots.{IsSnapshotOf}
-use Rattle.chunk_plans.specs.Agreement.{Opening, Agrees}
+use Rattle.chunk_plans.specs.Agreement.{Opening, Agrees, IsState}
+use Rattle.chunk_plans.specs.Laid.{IsChunkOf}
 use Rattle.chunk_plans.specs.Log.{Log}
+use Rattle.chunk_plans.specs.Looks.{IsLook}
 use Rattle.chunk_plans.specs.Seen.{StoreSeen}
 use Rattle.chunk_plans.specs.declared.NewShape.{NewShape}
 use Rattle.chunk_plans.specs.Left.{IsLeft}
+use Rattle.chunk_plans.specs.declared.Look.{Look}
 use Rattle.state_resizes.specs.declared.keys.Asked.{Asked}
 
 -- these are the chunks that a new shape of a stored array cuts, in lexical order, and few enough
@@ -33,6 +39,21 @@ pub record IsBegun (events : History) (new : NewShape) : Type 0 where
   pub may : MayTake array new.shape
   pub mount : mount_of array.info.home ≡ Some new.mount
   pub form : new.form ≡ with_shape (form_of array.info.home) new.shape
+
+-- a chunk of a stored array, by a form, may be cut to the form's shape
+pub record MayCut (form : Form) (index : List ℕ) : Type 0 where
+  pub stored : meta.is_local form ≡ false
+  pub fill : IsWord (dtype_of form) (fill_of form)
+  pub chunk : IsChunkOf (shape_of form) (chunk_shape_of form) index
+
+-- what a look told of a chunk that a new shape cuts in part, which has this key
+pub record IsCutLook (store : StoreSeen) (log : Log) (new : NewShape) (index key : List ℕ) (look : Look) : Type 0 where
+  pub agrees : IsState store log
+  pub begun : IsBegun log.events new
+  pub cut : (k : Known) → known_after log.events new.array ≡ Some k → is_cut (chunk_shape k.info) k.shape new.shape index ≡ true
+  pub reached : reaches_into (chunk_shape_of new.form) (shape_of new.form) index ≡ true
+  pub named : (k : Known) → known_after log.events new.array ≡ Some k → key ≡ chunk_key k index
+  pub looked : IsLook store log (record { array = new.array; index = index }) look
 
 -- the change of a chunk's key before it's known what is left of the chunk
 abbrev pub unfilled : Known → List ℕ → Change

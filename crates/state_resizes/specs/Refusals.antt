@@ -32,6 +32,12 @@ IsDamagedBy store log a shape key cause =
     (opening : Opening) (start : Contents) → Agrees opening store log → opening.store.contents ≡ Some start
     → IsDamagedResize (fixed_by opening start) log.events a shape key cause
 
+-- why it isn't known what is left of a chunk that was looked at
+abbrev pub IsUnlaid : StoreSeen → Log → NewShape → FetchError → Type 0
+IsUnlaid store log new (fetch.StoreFailed event) = ⊥
+IsUnlaid store log new (fetch.Damaged key cause) = IsDamagedBy store log new.array new.shape key cause
+IsUnlaid store log new fetch.Memory = Unit {0}
+
 -- why it isn't known what is left of a chunk
 abbrev pub IsUnfilled : ℕ → NewShape → StoreSeen → StoreSeen → Log → Log → FetchError → Type 0
 IsUnfilled owner new store next log later (fetch.StoreFailed event) = IsFailedCall owner new.mount store next log later event

@@ -3,7 +3,7 @@ use Rattle.cells.specs.Numbers.{IsWord}
 use Rattle.chunk_forms.specs.Metadata.{shape_of, dtype_of}
 use Rattle.chunk_plans.specs.Laid.{IsChunkOf}
 use Rattle.chunk_plans.proofs.Laws.{may_write, is_left}
-use Rattle.state_resizes.proofs.Reading.{laid_cut}
+use Rattle.state_resizes.proofs.Absent.{laid_cut}
 use Rattle.state_resizes.proofs.cutting.bytes_of_cut.Goals as goal
 
 pub cut-requires-clause-chunk : goal.cut-requires-clause-chunk
