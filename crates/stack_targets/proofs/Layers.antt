@@ -1,5 +1,5 @@
 -- The last layer that has an index vector, and the leaves before it.
-use Rattle.std.proofs.Common.{◌≡◌, ◌<◌, ◌≤◌, ◌∙◌, ℕ, ◌+◌, zero, suc, ℤ, true, false, List, [], ◌∷◌, ◌++◌, length, map, take, get_or, min, Some, Result, refl, sym, ap, subst, arith, length-append, append_assoc, append-nil}
+use Rattle.std.proofs.Common.{◌≡◌, ◌<◌, ◌≤◌, ◌∙◌, ℕ, ◌+◌, zero, suc, ℤ, true, false, List, [], ◌∷◌, ◌++◌, length, map, take, get_or, Some, Result, refl, sym, ap, subst, arith, length-append, append_assoc, append-nil}
 use Rattle.std.specs.List.{AllByRecursion}
 use Rattle.std.specs.Prelude.{if◌then◌else◌}
 use Rattle.std.proofs.lemmas.List.{map_more}
@@ -9,7 +9,6 @@ use denote.Param.Weighed.{at_most}
 use Rattle.index_intervals.specs.Bounds.{Bounds}
 use Rattle.index_transform.specs.Transforms.{DomainAndMaps}
 use Rattle.stack_driver.specs.Conditions.{IsNode, IsView}
-use Rattle.stack_driver.specs.Counts.{leaves_of as leaf_count}
 use Rattle.stack_driver.specs.References.{Reference}
 use Rattle.stack_driver.specs.Targets.{has_index}
 use Rattle.stack_driver.specs.Views.{look_of}
@@ -110,14 +109,3 @@ pub none_lands : (x : List ℤ) → ((dims : List Bounds) → has_index dims x �
 none_lands x none before [] found = refl
 none_lands x none before (g ∷ gs) found =
     ap (λ f. last_landing (before + length g.leaves) gs x f) (else_from (has_index g.dims x) (behind_leaves before (g.landing x)) found (none g.dims)) ∙ none_lands x none (before + length g.leaves) gs found
-
-capped_sum : (s n m : ℕ) → min (min s m + min n m) m ≡ min (s + n) m
-capped_sum s n m = omega arith
-
--- one layer more is counted, up to 2^32 - 1
-pub counted-more : (layers : List View) (k : ℕ) (d : View) → k < length layers → d ≡ get_or layers k d
-    → min (min (length (all_leaves (map ground_of (take k layers)))) 4294967295 + min (leaf_count d) 4294967295) 4294967295 ≡ min (length (all_leaves (map ground_of (take (k + 1) layers)))) 4294967295
-counted-more layers k d below is =
-    capped_sum (length (all_leaves (map ground_of (take k layers)))) (leaf_count d) 4294967295
-    ∙ ap (λ n. min (length (all_leaves (map ground_of (take k layers))) + n) 4294967295) ((agrees d).leaves ∙ ap (λ w. length (leaves_of w)) is)
-    ∙ ap (λ n. min n 4294967295) (sym (leaves-more layers k d below))

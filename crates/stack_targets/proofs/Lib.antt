@@ -6,4 +6,5 @@ pub mod Layers
 pub mod Reached
 pub mod Gathered
 pub mod Named
+pub mod NumberLaws
 pub mod Laws

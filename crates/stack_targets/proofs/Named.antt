@@ -37,7 +37,7 @@ nth-Cast v to base n is less =
     let here : n < length (leaves_of base) = let same = ap length all in let m = length-map (leaves_of base) c in omega (arith, less, same, m) in
     ap (λ ls. get_or ls n no_leaf) all ∙ get_or-map c (leaves_of base) n no_leaf no_leaf here
 
-below-Cast : (v : View) (to : Dtype) (base : View) → v ≡ view.Cast to base → length (leaves_of v) ≡ length (leaves_of base)
+pub below-Cast : (v : View) (to : Dtype) (base : View) → v ≡ view.Cast to base → length (leaves_of v) ≡ length (leaves_of base)
 below-Cast v to base is = ap length (leaves-Cast v to base is) ∙ length-map (leaves_of base) (with_cast (record { from = (ground_of base).dtype; to = to }))
 
 pub few-Cast : (v : View) (to : Dtype) (base : View) (n : ℕ) → v ≡ view.Cast to base → length (leaves_of v) < n → length (leaves_of base) < n

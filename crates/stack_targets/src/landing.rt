@@ -1,30 +1,38 @@
 // In which leaf a cell of a view lands, and at which index vector.
-ghost use Rattle.std.specs.Prelude.{◌≡◌, ◌≢◌, ◌<◌, ◌≤◌, ◌^◌, ◌-◌, false, true, None, Some, List, length, map, min, take, IsTrue, IfOk, IfErr, IfSome, OnOk};
+ghost use Rattle.std.specs.Prelude.{◌≡◌, ◌≢◌, ◌<◌, false, true, None, Some, List, length, IsTrue, IfOk, IfErr, IfSome, OnOk};
 ghost use Rattle.cells.specs.Shapes.{IsShape};
 ghost use Rattle.index_intervals.specs.Bounds.{Bounds};
 ghost use Rattle.index_transform.specs.Values.{value_at};
 ghost use Rattle.stack_driver.specs.Conditions.{IsView};
-ghost use Rattle.stack_driver.specs.Counts.{leaves_of as leaf_count};
 ghost use Rattle.stack_driver.specs.Targets.{IsOutside, has_index, in_shape};
 ghost use Rattle.stack_driver.specs.Views.{look_of};
-ghost use Rattle.stack_targets.specs.Landings.{IsInside, IsLastLayer, IsPut, all_leaves, first_landing, ground_of, landing_of, leaves_of};
+ghost use Rattle.stack_targets.specs.Landings.{IsInside, IsLastLayer, IsPut, first_landing, landing_of, leaves_of};
+ghost use Rattle.stack_targets.specs.Numberings.{numbering_of};
 
+use crate::numbering::{Numbering, below, first_leaf};
 use cells::LARGEST_RANK;
 use index_intervals::is_index;
 use index_transform::Transform;
-use stack_driver::{ArrayRef, TargetError, View, contains, leaves};
+use stack_driver::{ArrayRef, TargetError, View, contains};
 
-/// Puts the index vector at which a cell lands behind the numbers that are there, and gives its leaf's number.
-pub(crate) fn land(v: &View, index: &[i64], numbers: &mut Vec<u64>) -> Result<u32, TargetError>
+/// Puts the index vector at which a cell lands behind the numbers that are there, and gives its leaf's number. The leaves were
+/// numbered before.
+pub(crate) fn land(
+    v: &View,
+    numbering: &Numbering,
+    index: &[i64],
+    numbers: &mut Vec<u64>,
+) -> Result<u32, TargetError>
     requires view { IsView v.now }
     requires inside { IsTrue (has_index (look_of v.now).dims index.now) }
     requires few { length (leaves_of v.now) < 4294967295 }
+    requires numbered { numbering.now ≡ numbering_of v.now }
     ensures ok { IfOk result (λ leaf. IsPut (landing_of v.now index.now) leaf numbers.old.items numbers.new.items) }
     ensures err { IfErr result (λ e. e ≢ TargetError.Memory → landing_of v.now index.now ≡ Err e) }
 {
     match v {
         View::Leaf { array, transform } => land_in_array(array, transform, index, numbers),
-        View::Cast { base, .. } => land(base.get(), index, numbers),
+        View::Cast { base, .. } => land(base.get(), numbering, index, numbers),
         View::Stack { layers, transform } => {
             let mut inner = [0i64; LARGEST_RANK];
             let (inner, _) = inner.split_at_mut(transform.maps().len());
@@ -32,8 +40,8 @@ pub(crate) fn land(v: &View, index: &[i64], numbers: &mut Vec<u64>) -> Result<u3
             let Some(place) = covering(layers, transform, index, inner) else {
                 return Err(TargetError::Uncovered);
             };
-            match land(&layers[place], inner, numbers) {
-                Ok(leaf) => Ok(leaves_before(layers, place) + leaf),
+            match land(&layers[place], below(numbering, place), inner, numbers) {
+                Ok(leaf) => Ok(first_leaf(numbering, place) + leaf),
                 Err(e) => Err(e),
             }
         }
@@ -88,36 +96,6 @@ fn last_with(layers: &[View], index: &[i64]) -> Option<usize>
         }
     }
     None
-}
-
-// How many leaves the layers before a place have.
-fn leaves_before(layers: &[View], place: usize) -> u32
-    requires { place ≤ length layers.now }
-    ensures { result ≡ min (length (all_leaves (map ground_of (take place layers.now)))) 4294967295 }
-{
-    let (before, _) = layers.split_at(place);
-    leaves_in(before)
-}
-
-fn leaves_in(layers: &[View]) -> u32
-    ensures { result ≡ min (length (all_leaves (map ground_of layers.now))) 4294967295 }
-{
-    let mut count = 0u32;
-    for layer in layers {
-        count = count.saturating_add(leaves_of_layer(layer));
-    }
-    count
-}
-
-// How many leaves a layer has: an array is one.
-fn leaves_of_layer(layer: &View) -> u32
-    ensures { result ≡ min (leaf_count layer.now) 4294967295 }
-{
-    match layer {
-        View::Leaf { .. } => 1,
-        View::Cast { .. } => leaves(layer),
-        View::Stack { .. } => leaves(layer),
-    }
 }
 
 // The same in an array, which is the first leaf of its view.

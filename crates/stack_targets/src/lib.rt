@@ -8,6 +8,7 @@ mod buffers;
 mod error;
 mod landing;
 mod naming;
+mod numbering;
 mod targeting;
 
 pub use buffers::Targets;

@@ -7,10 +7,12 @@ ghost use Rattle.stack_driver.specs.Conditions.{IsView};
 ghost use Rattle.stack_driver.specs.Views.{look_of};
 ghost use Rattle.stack_targets.specs.Buffers.{all_landings, all_targets, fault_at, told_landings, told_targets};
 ghost use Rattle.stack_targets.specs.Landings.{leaves_of};
+ghost use Rattle.stack_targets.specs.Numberings.{numbering_of};
 
 use crate::buffers::{Buffers, Targets};
 use crate::error::TargetsError;
 use crate::landing::land;
+use crate::numbering::{Numbering, number};
 use cells::List;
 use index_transform::Walk;
 use stack_driver::{TargetError, View, leaves, transform_of};
@@ -18,7 +20,7 @@ use std::alloc::{AllocError, Global};
 
 /// Where each cell of a view lies, whose domain is finite by its bounds as they stand.
 ///
-/// No memory is taken for a cell by itself.
+/// No memory is taken for a cell by itself. The view's leaves are numbered once.
 ///
 /// # Errors
 ///
@@ -59,13 +61,15 @@ fn along(alloc: Global, v: &View, walk: &mut Walk) -> Result<Targets, TargetsErr
 {
     let rank = transform_of(v).domain().dims.items().len();
     let mut index = Vec::from_elem(alloc, 0i64, rank)?;
-    gathered(alloc, v, walk, &mut index)
+    let numbering = number(alloc, v)?;
+    gathered(alloc, v, &numbering, walk, &mut index)
 }
 
 // The buffers, where all cells have landed.
 fn gathered(
     alloc: Global,
     v: &View,
+    numbering: &Numbering,
     walk: &mut Walk,
     index: &mut [i64],
 ) -> Result<Targets, TargetsError>
@@ -76,12 +80,13 @@ fn gathered(
     requires cells { walk.old.cells ≡ cells_of (look_of v.now).dims }
     requires rank { walk.old.rank ≡ length (look_of v.now).dims }
     requires room { length index.old ≡ length (look_of v.now).dims }
+    requires numbered { numbering.now ≡ numbering_of v.now }
     ensures targets { IfOk result (λ t. all_targets v.now ≡ Ok (told_targets (leaves_of v.now) t.leaves t.numbers)) }
     ensures landings { IfOk result (λ t. all_landings v.now ≡ Ok (told_landings (leaves_of v.now) t.leaves t.numbers)) }
     ensures err { IfErr result (λ e. e ≢ TargetsError.Memory → all_targets v.now ≡ Err e) }
 {
     let mut buffers = room_for(alloc, v)?;
-    match gather(v, walk, index, &mut buffers) {
+    match gather(v, numbering, walk, index, &mut buffers) {
         Ok(()) => Ok(told(buffers)),
         Err(e) => Err(e),
     }
@@ -113,6 +118,7 @@ fn told(buffers: Buffers) -> Targets
 // Lets each cell land, until one can't.
 fn gather(
     v: &View,
+    numbering: &Numbering,
     walk: &mut Walk,
     index: &mut [i64],
     buffers: &mut Buffers,
@@ -124,6 +130,7 @@ fn gather(
     requires cells { walk.old.cells ≡ cells_of (look_of v.now).dims }
     requires rank { walk.old.rank ≡ length (look_of v.now).dims }
     requires room { length index.old ≡ length (look_of v.now).dims }
+    requires numbered { numbering.now ≡ numbering_of v.now }
     requires no_leaves { buffers.old.leaves.items ≡ [] }
     requires no_numbers { buffers.old.numbers.items ≡ [] }
     ensures ok { OnOk result (all_landings v.now
@@ -131,7 +138,7 @@ fn gather(
     ensures err { IfErr result (λ e. e ≢ TargetsError.Memory → all_landings v.now ≡ Err e) }
 {
     while walk.advance(index) {
-        match land(v, index, &mut buffers.numbers) {
+        match land(v, numbering, index, &mut buffers.numbers) {
             Ok(leaf) => buffers.leaves.push(leaf)?,
             Err(e) => return Err(fault_at(buffers.leaves.len() as u64, e)),
         }
