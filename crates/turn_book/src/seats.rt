@@ -14,7 +14,33 @@ use crate::rule::{Deals, Gives, Origin, Takes, Turns};
 use crate::view::SeatView;
 use atomic_table::{Seat, Shared, Table};
 use std::alloc::Global;
+use std::hint;
 use std::sync::Wait;
+
+// How often the turn is asked for before its seat waits. A turn is often over sooner than a thread sleeps and is woken.
+const TRIES: u32 = 100;
+
+// Asks for the turn for a short while, and says whether it is this seat's.
+fn try_turn<S: Book>(
+    shared: &Shared<Option<S>, SeatView<S::Entry, S::Fixed>, Origin<S>, Turns<S>>,
+    seat: &mut Seat<Option<S>, SeatView<S::Entry, S::Fixed>>,
+) -> bool
+    requires at { IsAt (book_at shared.now.table_id shared.now.key.passes
+        (S.opening shared.now.key.start.value)) seat.old }
+    requires one_word { shared.now.table_id.words ≡ 1 }
+    requires idle { seat.old.me.1 ≡ [] }
+    ensures same { (seat.new.table_id ≡ seat.old.table_id) × (seat.new.id ≡ seat.old.id) }
+    ensures turn { result ≡ true → TakesTurn S.owner S.history S.agrees seat.old.me seat.new.me }
+    ensures not { result ≡ false → seat.new.me ≡ seat.old.me }
+{
+    for _ in 0..TRIES {
+        if shared.compare_exchange::<Takes<S>>(seat, 0, 0, 1) == 0 {
+            return true;
+        }
+        hint::spin_loop();
+    }
+    false
+}
 
 // Waits until the turn is this seat's.
 pub(crate) fn win<S: Book, R: Wait>(
@@ -29,7 +55,7 @@ pub(crate) fn win<S: Book, R: Wait>(
     ensures same { (seat.new.table_id ≡ seat.old.table_id) × (seat.new.id ≡ seat.old.id) }
     ensures turn { TakesTurn S.owner S.history S.agrees seat.old.me seat.new.me }
 {
-    if shared.compare_exchange::<Takes<S>>(seat, 0, 0, 1) == 0 {
+    if try_turn(shared, seat) {
         return;
     }
     for _ in rt.forever() {

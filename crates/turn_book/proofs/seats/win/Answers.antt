@@ -1,15 +1,8 @@
 use Rattle.std.proofs.Common.{ap, ◌∙◌, arith}
 use mathlib.Core.Option.{none}
 use Rattle.atomic_table.specs.Table.{step}
-use Rattle.turn_book.proofs.Turning.{tries_at, locks, sleeps}
+use Rattle.turn_book.proofs.Turning.{tries_at, sleeps}
 use Rattle.turn_book.proofs.seats.win.Goals as goal
-
-pub compare_exchange-requires : goal.compare_exchange-requires
-compare_exchange-requires g c = (
-  c.requires.at.0,
-  (let w = c.requires.one_word in omega arith),
-  tries_at _ _ _ _ _ _ _ c.args.seat.now.me _ _ (step c.args.shared.now.table_id.slots 0 0 1 none) c.requires.at.1 c.requires.idle locks,
-)
 
 pub swap-requires : goal.swap-requires
 swap-requires g c = let me = c.loop.invariant.me in (
