@@ -6,7 +6,7 @@ use Rattle.cells.specs.declared.run.Run.{Run}
 use Rattle.cells.specs.Runs.{view_place, chunk_place, chunk_number, pairs_of, IsRunInside}
 use Rattle.cells.proofs.Laws.{less_or_not}
 use Rattle.rebase_writes.specs.Runs.{pairs_written}
-use Rattle.rebase_writes.specs.Rising.{IsForward, AreRising, last_place, runs_staged}
+use Rattle.rebase_writes.specs.Rising.{IsBehind, IsForward, AreRising, last_place, runs_staged}
 use Rattle.rebase_writes.proofs.RisingLaws.{no_run, forward_place, joined, runs_more}
 
 -- a list with more behind it, cut to its own length
@@ -72,18 +72,19 @@ rising_take n v cells runs are few = record {
     among : (i : ℕ) → i < length (take n runs) → i < n
     among i below = omega (arith, below, length-take-le n runs)
 
--- the last run ends just before the next begins, by places and by words
+-- the last run ends just before the next begins, and goes on with its words
 pub record GoesOn (last next : Run) : Type 0 where
   pub last_step : last.chunk_step ≡ pos 1
   pub next_step : next.chunk_step ≡ pos 1
   pub places : last.chunk + last.len ≡ next.chunk
-  pub words : last.view + last.len ≡ next.view
+  pub words : (k : ℕ) → view_place last (last.len + k) ≡ view_place next k
 
 row_place : (run : Run) (k : ℕ) → run.chunk_step ≡ pos 1 → chunk_number run k ≡ pos (run.chunk + k)
 row_place run k one = rw one (ap (λ n. pos (run.chunk + n)) (omega arith))
 
-pub row_view : (run : Run) (k : ℕ) → IsForward run → view_place run k ≡ run.view + k
-row_view run k forward = rw forward.words (omega arith)
+-- the words of a run that is kept stand one after another
+pub words_behind : (runs : List Run) (view : ℕ) (run next : Run) (k : ℕ) → IsBehind runs view run next → view_place next k ≡ view + k
+words_behind runs view run next k is = rw (is.words, is.begins) (omega arith)
 
 -- then the whole is a run
 pub forward_whole : (last next : Run) → IsForward last → GoesOn last next → IsForward (record last { len = last.len + next.len })
@@ -93,16 +94,20 @@ forward_whole last next forward on = record {
   places = forward.places;
 }
 
-pub inside_whole : (last next : Run) (words cells : ℕ) → IsForward last → IsForward next → GoesOn last next → IsRunInside next words cells
+pub inside_whole : (last next : Run) (words cells : ℕ) → ((k : ℕ) → k < last.len → view_place last k < words) → IsForward next → GoesOn last next → IsRunInside next words cells
     → IsRunInside (record last { len = last.len + next.len }) words cells
 inside_whole last next words cells before forward on inside =
-    let end = inside.in_view (next.len - 1) (omega (arith, forward.some)) in
-    let end_is = row_view next (next.len - 1) forward in
     let far = inside.to_last (next.len - 1) (omega (arith, forward.some)) in
     let far_is = row_place next (next.len - 1) on.next_step in
     let far_place : next.chunk + (next.len - 1) < cells = omega (arith, ints, far, far_is) in
     record {
-      in_view = λ k less. omega (arith, less, end, end_is, row_view last k before, on.words, forward.some);
+      in_view = λ k less. elim (less_or_not k last.len) [
+        | inl below ↦ before k below
+        | inr above ↦
+            let j = k - last.len in
+            let on_by : last.len + j ≡ k = omega (arith, above) in
+            subst (λ n. n < words) (sym (on.words j) ∙ ap (λ n. view_place last n) on_by) (inside.in_view j (omega (arith, less, above)))
+      ];
       from_first = λ k less. omega (arith, ints, row_place last k on.last_step);
       to_last = λ k less. omega (arith, ints, less, row_place last k on.last_step, far_place, on.places, forward.some);
     }
@@ -120,21 +125,22 @@ staged_whole runs last next words staged n long is before forward on =
     ∙ (λ i. pairs_written (pairs_of (get_or-set_same runs n whole no_run (omega (arith, long)) i)) words (runs_staged (front i) words staged))
     ∙ joined last next words (runs_staged (take n runs) words staged) last.len next.len
     (λ k less. ap unsigned_abs (row_place last (last.len + k) on.last_step ∙ ap pos (omega (arith, on.places)) ∙ sym (row_place next k on.next_step)))
-    (λ k less. omega (arith, row_view last (last.len + k) before, row_view next k forward, on.words))
+    (λ k less. on.words k)
     ∙ ap (λ (r : Run). pairs_written (pairs_of next) words (pairs_written (pairs_of r) words (runs_staged (take n runs) words staged))) is
     ∙ ap (pairs_written (pairs_of next) words) (sym (runs_more runs words staged n no_run (omega (arith, long))) ∙ ap (λ rs. runs_staged rs words staged) (take_all (n + 1) runs (omega (arith, long))))
 
 -- runs of which the last goes on rise
-pub rising_whole : (runs : List Run) (last next : Run) (words cells n : ℕ) → length runs ≡ n + 1 → last ≡ get_or runs n no_run → IsForward next → GoesOn last next → next.view ≤ words
-    → IsRunInside next words cells → AreRising next.view cells runs → AreRising words cells (set runs n (record last { len = last.len + next.len }))
-rising_whole runs last next words cells n long is forward on more inside are =
+pub rising_whole : (runs : List Run) (last next : Run) (v words cells n : ℕ) → length runs ≡ n + 1 → last ≡ get_or runs n no_run → IsForward next → GoesOn last next → v ≤ words
+    → IsRunInside next words cells → AreRising v cells runs → AreRising words cells (set runs n (record last { len = last.len + next.len }))
+rising_whole runs last next v words cells n long is forward on more inside are =
     let whole : Run = record last { len = last.len + next.len } in
     let size : length (set runs n whole) ≡ n + 1 = length-set runs n whole ∙ long in
     let before : IsForward last = subst IsForward (sym is) (are.forward n no_run (omega (arith, long))) in
     let parts : set runs n whole ≡ take n runs ++ whole ∷ [] = sym (take_all (n + 1) (set runs n whole) (omega (arith, size))) ∙ take_more_set runs n whole (omega (arith, long)) in
+    let within : IsRunInside last v cells = subst (λ run. IsRunInside run v cells) (sym is) (are.inside n no_run (omega (arith, long))) in
     subst (AreRising words cells) (sym parts)
-    (rising_more next.view words cells (take n runs) whole (rising_take n next.view cells runs are (omega (arith, long))) more (forward_whole last next before on)
-    (inside_whole last next words cells before forward on inside)
+    (rising_more v words cells (take n runs) whole (rising_take n v cells runs are (omega (arith, long))) more (forward_whole last next before on)
+    (inside_whole last next words cells (λ k less. omega (arith, more, within.in_view k less)) forward on inside)
     (λ i d below.
     let less : i < n = omega (arith, below, length-take-le n runs) in
     let begins = ap (λ (r : Run). r.chunk) (is ∙ get_or_default runs n no_run d (omega (arith, long))) in

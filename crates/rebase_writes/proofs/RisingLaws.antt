@@ -314,10 +314,6 @@ none_before words runs place count are some few front back last cells =
       ]
     ])
 
--- the word of a run at a place, kept from its begin on
-pub word_of_run : (words : List ℕ) (runs : List Run) (i k : ℕ) → All IsForward runs → i < length runs → view_place (get_or runs i no_run) k ≡ (get_or runs i no_run).view + k
-word_of_run words runs i k forward inside = rw (forward i no_run inside).words (omega arith)
-
 -- no run has a place behind the end of the first ones and before the begin of the others
 pub missed_between : (size : ℕ) (runs : List Run) (place count : ℕ) → AreRising size (2 ^ 24) runs → 0 < count → count ≤ length runs → last_place (get_or runs (count - 1) no_run) < place
     → ((i : ℕ) (d : Run) → count ≤ i → i < length runs → place < (get_or runs i d).chunk) → (words : List ℕ) (cells : List (Option ℕ))

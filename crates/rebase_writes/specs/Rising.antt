@@ -6,10 +6,10 @@ use Rattle.cells.specs.Runs.{chunk_place, IsRunInside, pairs_of}
 use Rattle.rebase_writes.specs.Runs.{pairs_written}
 use Rattle.rebase_writes.specs.Staged.{staged_cells}
 
--- the run has pairs, goes forward through the chunk, and its words stand one after another
+-- the run has pairs, goes forward through the chunk, and its words stand one after another or are one
 pub record IsForward (run : Run) : Type 0 where
   pub some : 1 ≤ run.len
-  pub words : run.view_step ≡ 1
+  pub words : run.view_step ≤ 1
   pub places : pos 1 ≤ℤ run.chunk_step
 
 -- the place of the last pair
@@ -39,10 +39,11 @@ pub record AreKept (by_runs : Bool) (count : ℕ) (runs : List Run) (kept : List
   pub words_room : by_runs ≡ true → count ≤ words_cap
   pub same : by_runs ≡ false → length mask ≡ length words
 
--- a run begins behind the others, its words from a place on, and has the places of another, pair by pair
+-- a run begins behind the others, its words one after another from a place on, and has the places of another, pair by pair
 pub record IsBehind (runs : List Run) (view : ℕ) (run next : Run) : Type 0 where
   pub forward : IsForward next
   pub begins : next.view ≡ view
+  pub words : next.view_step ≡ 1
   pub as_many : next.len ≡ run.len
   pub places : (k : ℕ) → k < run.len → chunk_place next k ≡ chunk_place run k
   pub behind : (i : ℕ) (d : Run) → i < length runs → last_place (slice_index_or runs i d) < next.chunk

@@ -1,4 +1,5 @@
-// Runs that were staged one behind another in a chunk. The words of each stand one after another in a list of all words, from its `view` on.
+// Runs that were staged one behind another in a chunk. The words of each stand one after another in a list of all words, from its `view` on; a run of
+// one word has it there once, and the view step 0.
 ghost use Rattle.std.specs.Prelude.{◌≡◌, ◌≢◌, ℕ, ◌+◌, ◌*◌, ◌-◌, ◌<◌, ◌≤◌, ◌^◌, ◌↔◌, pos, ◌+ℤ◌, ◌*ℤ◌, ◌≤ℤ◌, false, List, Option, Some, None, length, replicate, slice_index, slice_index_or, unsigned_abs, vec_capacity, IfNone, IfSome, IsSome, IsTrue};
 ghost use Rattle.cells.specs.Dense.{DenseCells};
 ghost use Rattle.cells.specs.Numbers.{IsWord};
@@ -24,7 +25,7 @@ pub(crate) fn word_at(runs: &[Run], words: &[u64], place: usize) -> Option<u64>
     }
     let run = &runs[count - 1];
     match pair_of(run, place) {
-        Some(k) => Some(words[run.view as usize + k as usize]),
+        Some(k) => Some(words[run.view as usize + run.view_step as usize * k as usize]),
         None => None,
     }
 }
@@ -107,9 +108,80 @@ pub(crate) fn add_run(
     let Some(next) = run_behind(runs, count as u32, run) else {
         return false;
     };
+    if is_one_word(run, words) {
+        add_one(runs, kept, run, next, words);
+        return true;
+    }
     gather(run, words, kept);
     put(runs, next);
     true
+}
+
+// A run of fewer pairs keeps its words one by one, so that runs don't become many where rows of one word stand among others.
+const FEW_PAIRS: u32 = 64;
+
+// Whether a run has many pairs, and the words of all are the same.
+fn is_one_word(run: &Run, words: &[u64]) -> bool
+    requires some { 1 ≤ run.now.len }
+    requires inside { (k : ℕ) → k < run.now.len → view_place run.now k < length words.now }
+    ensures { IsTrue result → (k : ℕ) → k < run.now.len
+        → slice_index words.now (view_place run.now k) ≡ slice_index words.now (view_place run.now 0) }
+{
+    if run.len < FEW_PAIRS {
+        return false;
+    }
+    let first = words[run.view as usize];
+    for k in 0..run.len {
+        if words[run.view as usize + run.view_step as usize * k as usize] != first {
+            return false;
+        }
+    }
+    true
+}
+
+// Stages the one word of a run behind the runs that are there.
+fn add_one(runs: &mut Vec<Run>, kept: &mut Vec<u64>, run: &Run, next: Run, words: &[u64])
+    requires behind { IsBehind runs.old.items (length kept.old.items) run.now next }
+    requires inside { IsRunInside run.now (length words.now) (2 ^ 24) }
+    requires one { (k : ℕ) → k < run.now.len
+        → slice_index words.now (view_place run.now k) ≡ slice_index words.now (view_place run.now 0) }
+    requires rising { AreRising (length kept.old.items) (2 ^ 24) runs.old.items }
+    requires few { length kept.old.items < 2 ^ 24 }
+    requires room { length kept.old.items < vec_capacity kept.old }
+    requires runs_room { length runs.old.items < vec_capacity runs.old }
+    ensures rising { (cells : ℕ) → IsRunInside run.now (length words.now) cells
+        → AreRising (length kept.old.items) cells runs.old.items → AreRising (length kept.new.items) cells runs.new.items }
+    ensures room { vec_capacity kept.old ≤ vec_capacity kept.new }
+    ensures added { (staged : List (Option ℕ)) → runs_staged runs.new.items kept.new.items staged
+        ≡ pairs_written (pairs_of run.now) words.now (runs_staged runs.old.items kept.old.items staged) }
+{
+    let word = words[run.view as usize];
+    let view = place_for(kept, word);
+    let mut one = next;
+    one.view = view as u32;
+    one.view_step = 0;
+    put(runs, one);
+}
+
+// A place at which a word is kept: the last one where it is there, else one more.
+fn place_for(kept: &mut Vec<u64>, word: u64) -> usize
+    requires room { length kept.old.items < vec_capacity kept.old }
+    ensures room { vec_capacity kept.old ≤ vec_capacity kept.new }
+    ensures longer { length kept.old.items ≤ length kept.new.items }
+    ensures inside { result < length kept.new.items }
+    ensures few { length kept.new.items ≤ length kept.old.items + 1 }
+    ensures word { slice_index kept.new.items result ≡ word }
+    ensures front { (place : ℕ) → place < length kept.old.items
+        → slice_index kept.new.items place ≡ slice_index kept.old.items place }
+{
+    let count = kept.len();
+    if count > 0 && kept[count - 1] == word {
+        return count - 1;
+    }
+    let Ok(()) = kept.push(word) else {
+        unreachable!();
+    };
+    count
 }
 
 // The run as it is kept, its words from a place on, where it goes forward and begins behind the others.
@@ -202,9 +274,9 @@ fn put(runs: &mut Vec<Run>, next: Run)
     requires room { length runs.old.items < vec_capacity runs.old }
     requires forward { IsForward next }
     requires inside { IsRunInside next (2 ^ 24) (2 ^ 24) }
-    requires others { AreRising next.view (2 ^ 24) runs.old.items }
+    requires others { (count : ℕ) × ((count ≤ 2 ^ 24) × AreRising count (2 ^ 24) runs.old.items) }
     requires behind { (i : ℕ) (d : Run) → i < length runs.old.items → last_place (slice_index_or runs.old.items i d) < next.chunk }
-    ensures rising { (words cells : ℕ) → next.view ≤ words → IsRunInside next words cells → AreRising next.view cells runs.old.items
+    ensures rising { (count words cells : ℕ) → count ≤ words → IsRunInside next words cells → AreRising count cells runs.old.items
         → AreRising words cells runs.new.items }
     ensures staged { (words : List ℕ) (staged : List (Option ℕ)) → runs_staged runs.new.items words staged
         ≡ pairs_written (pairs_of next) words (runs_staged runs.old.items words staged) }
@@ -227,12 +299,22 @@ fn is_joined(last: &Run, next: &Run) -> bool
     requires last { IsRunInside last.now (2 ^ 24) (2 ^ 24) }
     requires some { 1 ≤ last.now.len }
     ensures { IsTrue result → (last.now.chunk_step ≡ pos 1) × ((next.now.chunk_step ≡ pos 1)
-        × ((last.now.chunk + last.now.len ≡ next.now.chunk) × (last.now.view + last.now.len ≡ next.now.view))) }
+        × ((last.now.chunk + last.now.len ≡ next.now.chunk)
+        × ((k : ℕ) → view_place last.now (last.now.len + k) ≡ view_place next.now k))) }
 {
     last.chunk_step == 1
         && next.chunk_step == 1
         && u64::from(last.chunk) + u64::from(last.len) == u64::from(next.chunk)
-        && u64::from(last.view) + u64::from(last.len) == u64::from(next.view)
+        && go_on(last, next)
+}
+
+// Whether the words of a run begin where those of the one before it end, or are the same one.
+fn go_on(last: &Run, next: &Run) -> bool
+    requires last { IsRunInside last.now (2 ^ 24) (2 ^ 24) }
+    ensures { IsTrue result → (k : ℕ) → view_place last.now (last.now.len + k) ≡ view_place next.now k }
+{
+    let behind = u64::from(last.view) + u64::from(last.view_step) * u64::from(last.len);
+    last.view_step == next.view_step && behind == u64::from(next.view)
 }
 
 /// Writes what runs have staged into a mask and words, which have room for it.
@@ -294,7 +376,20 @@ fn lay_run(run: &Run, kept: &[u64], chunk: &mut Dense)
     let from = run.view as usize;
     let mut alone = *run;
     alone.view = 0;
-    chunk.write_run(&alone, &kept[from..from + run.len as usize]);
+    chunk.write_run(&alone, &kept[from..from + word_count(run)]);
+}
+
+// How many words a run has: one, or one for each pair.
+fn word_count(run: &Run) -> usize
+    requires { IsForward run.now }
+    ensures some { 1 ≤ result }
+    ensures count { result ≡ 1 + run.now.view_step * (run.now.len - 1) }
+{
+    if run.view_step == 0 {
+        1
+    } else {
+        run.len as usize
+    }
 }
 
 /// Puts the words that are staged by runs into a view along a run.

@@ -7,13 +7,13 @@ use Rattle.cells.proofs.Laws.{first_pairs-all}
 use Rattle.rebase_writes.specs.Runs.{pairs_written}
 use Rattle.rebase_writes.specs.Rising.{AreRising, IsBehind, runs_staged}
 use Rattle.rebase_writes.proofs.RisingLaws.{no_run, alike, runs_alike}
-use Rattle.rebase_writes.proofs.PutLaws.{number_is, row_view}
+use Rattle.rebase_writes.proofs.PutLaws.{number_is, words_behind}
 use Rattle.rebase_writes.proofs.rising.add_run.Goals as goal
 
 -- the run as it is kept lies inside, over the words behind
 kept_inside : (runs : List Run) (view words all cells : ℕ) (run next : Run) → IsBehind runs view run next → IsRunInside run words cells → all ≡ view + run.len → IsRunInside next all cells
 kept_inside runs view words all cells run next is inside size = record {
-  in_view = λ k less. omega (arith, less, size, row_view next k is.forward, is.begins, is.as_many);
+  in_view = λ k less. omega (arith, less, size, words_behind runs view run next k is, is.as_many);
   from_first = λ k less. omega (arith, ints, number_is next k is.forward.places);
   to_last = λ k less.
       let fewer : k < run.len = omega (arith, less, is.as_many) in
@@ -25,9 +25,9 @@ returns-clause-rising c =
     let is = c.in-Some.ensures in
     let count = c.gather.ensures.count in
     let begins : c.in-Some.next.view ≡ length c.args.kept.now.items = omega (arith, is.begins, c.len-count.ensures, c.args.kept.now.ok) in
-    c.put.ensures.rising (length c.gather.new.kept.items) c.args.cells (omega (arith, begins, count))
+    c.put.ensures.rising (length c.args.kept.now.items) (length c.gather.new.kept.items) c.args.cells (omega (arith, count))
     (kept_inside _ _ _ _ c.args.cells c.args.run.now c.in-Some.next is c.requires.inside (omega (arith, count, begins, is.begins)))
-    (subst (λ n. AreRising n c.args.cells c.args.runs.now.items) (sym begins) c.requires.rising)
+    c.requires.rising
 
 pub returns-clause-added : goal.returns-clause-added
 returns-clause-added c is_true staged =
@@ -42,5 +42,5 @@ returns-clause-added c is_true staged =
     c.put.ensures.staged new staged
     ∙ ap (λ (r : Run). pairs_written (pairs_of r) new (runs_staged c.args.runs.now.items new staged)) (sym (first_pairs-all next run.len (sym is.as_many)))
     ∙ alike next run new c.args.words.now (runs_staged c.args.runs.now.items new staged) run.len is.places
-    (λ k less. ap (λ n. get_or new n 0) (row_view next k is.forward ∙ ap (λ n. n + k) begins) ∙ c.gather.ensures.behind k less)
+    (λ k less. ap (λ n. get_or new n 0) (words_behind _ _ run next k is ∙ ap (λ n. n + k) (sym is.begins ∙ begins)) ∙ c.gather.ensures.behind k less)
     ∙ ap (pairs_written (pairs_of run) c.args.words.now) before

@@ -3,7 +3,7 @@ use Rattle.std.proofs.Common.{◌≡◌, ◌∙◌, ◌+◌, ◌-◌, ◌<◌, �
 use Rattle.rebase_writes.specs.Rising.{runs_staged}
 use Rattle.rebase_writes.specs.Staged.{staged_at}
 use Rattle.cells.specs.Runs.{view_place, chunk_place}
-use Rattle.rebase_writes.proofs.RisingLaws.{no_run, begins_rise, runs_missed, from_first, none_before, run_shown, word_of_run}
+use Rattle.rebase_writes.proofs.RisingLaws.{no_run, begins_rise, runs_missed, from_first, none_before, run_shown}
 use Rattle.rebase_writes.proofs.rising.word_at.Goals as goal
 
 pub begun-count-requires : goal.begun-count-requires
@@ -22,7 +22,7 @@ bounds-words-run c =
     let inside : i < length c.args.runs.now = omega (arith, c.begun-count.ensures.few, c.if-count-eq0.false) in
     let found = c.in-Some.ensures.some in
     let view = (c.requires.inside i no_run inside).in_view c.in-Some.k found.0 in
-    omega (arith, view, word_of_run c.args.words.now c.args.runs.now i c.in-Some.k c.requires.forward inside)
+    omega (arith, view)
 
 pub returns-in-Some-clause-some : goal.returns-in-Some-clause-some
 returns-in-Some-clause-some c cells are =
@@ -31,7 +31,6 @@ returns-in-Some-clause-some c cells are =
     let found = c.in-Some.ensures.some in
     ap (λ p. staged_at (runs_staged c.args.runs.now c.args.words.now cells) p) (sym found.1)
     ∙ run_shown c.args.words.now cells c.args.runs.now are i no_run c.in-Some.k inside found.0
-    ∙ ap (λ n. Some (get_or c.args.words.now n 0)) (word_of_run c.args.words.now c.args.runs.now i c.in-Some.k c.requires.forward inside)
 
 pub returns-in-None-clause-none : goal.returns-in-None-clause-none
 returns-in-None-clause-none c cells =
