@@ -50,7 +50,7 @@ fn ask<'a, K: KvStore>(state: &mut State<K>, part: Part<'a>) -> Result<Asked<'a>
     ensures kept { KeepsAgreement (K.seen state.old.store) state.old.log (K.seen state.new.store) state.new.log }
 {
     let key = state.key(part.array, part.chunk)?;
-    let resized = state.bounds(part.array)?.resized;
+    let resized = state.resized(part.array);
     let form = state.info(part.array)?;
     let under = under_of(state, part, &form)?;
     Ok(Asked {

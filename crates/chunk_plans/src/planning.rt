@@ -67,11 +67,10 @@ pub fn plan_write<'a, K: KvStore>(
     ensures memory { result ≡ Err FetchError.Memory → IsSameButCache state.old.log state.new.log }
     ensures kept { KeepsAgreement (K.seen state.old.store) state.old.log (K.seen state.new.store) state.new.log }
 {
-    let form = state.info(write.array)?;
-    if form.is_local() {
+    if state.is_local(write.array) {
         Ok(plan_held(alloc, state, number, write)?)
     } else {
-        plan_stored(alloc, state, owner, &form, write)
+        plan_stored(alloc, state, owner, write)
     }
 }
 
@@ -120,13 +119,11 @@ fn plan_stored<'a, K: KvStore>(
     alloc: Global,
     state: &mut State<K>,
     owner: u32,
-    form: &Form,
     write: ChunkWrite<'a>,
 ) -> Result<Planned<'a>, FetchError>
     requires agrees { IsState (K.seen state.old.store) state.old.log }
     requires write { IsWrite state.old.log.events write }
-    requires form { (k : Known) → known_after state.old.log.events write.array ≡ Some k
-        → (is_local k.info.home ≡ false) × (form.now ≡ with_shape (form_of k.info.home) k.shape) }
+    requires stored { (k : Known) → known_after state.old.log.events write.array ≡ Some k → is_local k.info.home ≡ false }
     ensures array { IfOk result (λ p. p.array ≡ write.entry.array) }
     ensures chunk { IfOk result (λ p. p.chunk.now ≡ write.entry.chunk.now) }
     ensures key { IfOk result (λ p. p.key ≡ write.entry.key) }
@@ -151,10 +148,12 @@ fn plan_stored<'a, K: KvStore>(
     ensures memory { result ≡ Err FetchError.Memory → IsSameButCache state.old.log state.new.log }
     ensures kept { KeepsAgreement (K.seen state.old.store) state.old.log (K.seen state.new.store) state.new.log }
 {
-    if is_usable(state, &write)? {
+    if is_usable(state, &write) {
+        let form = state.form(write.array);
         return Ok(prepared(form, write));
     }
-    let over = left_now(alloc, state, owner, form, &write)?;
+    let form = state.info(write.array)?;
+    let over = left_now(alloc, state, owner, &form, &write)?;
     Ok(planned(write, over))
 }
 
@@ -253,19 +252,19 @@ fn is_base<K: KvStore>(state: &State<K>, write: &ChunkWrite<'_>, generation: Opt
 }
 
 /// Whether prepared bytes may be used as they are.
-fn is_usable<K: KvStore>(state: &State<K>, write: &ChunkWrite<'_>) -> Result<bool, AllocError>
+fn is_usable<K: KvStore>(state: &State<K>, write: &ChunkWrite<'_>) -> bool
     requires agrees { IsState (K.seen state.now.store) state.now.log }
     requires write { IsWrite state.now.log.events write.now }
-    ensures { IfOk result (λ b. (k : Known) → known_after state.now.log.events write.now.array ≡ Some k
-        → b ≡ may_use state.now.log k write.now) }
+    ensures { (k : Known) → known_after state.now.log.events write.now.array ≡ Some k
+        → result ≡ may_use state.now.log k write.now }
 {
     let Some(ready) = &write.ready else {
-        return Ok(false);
+        return false;
     };
     if !is_base(state, write, ready.generation) {
-        return Ok(false);
+        return false;
     }
-    Ok(state.bounds(write.array)?.resized == ready.resized)
+    state.resized(write.array) == ready.resized
 }
 
 /// The staged words over the chunk as it is, which is read where not every cell in the array's shape is staged.

@@ -21,16 +21,16 @@ pub(crate) struct Outside {
 }
 
 /// Whether each word that is staged for a chunk of a stored array is of a cell in the array's shape.
-fn is_within<K: KvStore>(state: &State<K>, write: &ChunkWrite<'_>) -> Result<bool, AllocError>
+fn is_within<K: KvStore>(state: &State<K>, write: &ChunkWrite<'_>) -> bool
     requires agrees { IsState (K.seen state.now.store) state.now.log }
     requires write { IsSizedWrite state.now.log.events write.now }
     requires stored { (k : Known) → known_after state.now.log.events write.now.array ≡ Some k
         → is_local k.info.home ≡ false }
-    ensures { IfOk result (λ b. (k : Known) → known_after state.now.log.events write.now.array ≡ Some k → IsTrue b
-        ↔ IsStagedWithin k.shape (chunk_shape k.info) write.now.chunk.now write.now.staged.now) }
+    ensures { (k : Known) → known_after state.now.log.events write.now.array ≡ Some k → IsTrue result
+        ↔ IsStagedWithin k.shape (chunk_shape k.info) write.now.chunk.now write.now.staged.now }
 {
-    let form = state.info(write.array)?;
-    Ok(stays_within(form.shape(), form.chunk_shape(), write.chunk, write.staged))
+    let form = state.form(write.array);
+    stays_within(form.shape(), form.chunk_shape(), write.chunk, write.staged)
 }
 
 /// What is told of an array of which a written cell lies outside.
@@ -41,7 +41,7 @@ fn told<K: KvStore>(state: &State<K>, array: u64) -> Result<Option<Outside>, All
         → IsToldOf state.now.log.events array k found) }
 {
     let key = state.metadata_key(array)?;
-    let now = state.bounds(array)?.resized;
+    let now = state.resized(array);
     Ok(Some(Outside { key, now }))
 }
 
@@ -54,7 +54,7 @@ fn beyond<K: KvStore>(
     ensures { IfOk result (λ found. (k : Known) → known_after state.now.log.events write.now.array ≡ Some k
         → TellsOutside state.now.log.events k write.now found) }
 {
-    if state.is_local(write.array) || is_within(state, write)? {
+    if state.is_local(write.array) || is_within(state, write) {
         return Ok(None);
     }
     told(state, write.array)

@@ -65,7 +65,7 @@ impl<K: KvStore> State<K> {
         self.get(owner, mount, key)
     }
 
-    /// The chunk as it is kept, or its stored bytes: no more than one call of the store, and none where it is kept.
+    /// The chunk as it is kept, or its stored bytes. The store isn't called where it is kept.
     ///
     /// # Errors
     /// `StoreFailed` where the store failed, which one event more tells. `Damaged` never.

@@ -65,7 +65,25 @@ impl<K: KvStore> State<K> {
         })
     }
 
-    /// How an array's chunks are stored, with its present shape; of a local array `Form::Local`.
+    /// The number of the event that gave an array its present shape, 0 where that was its opening. Takes no memory.
+    pub fn resized(&self, array: u64) -> u64
+        requires { IsSome (known_after self.now.log.events array) }
+        ensures { (k : Known) → known_after self.now.log.events array ≡ Some k
+            → result ≡ (bounds_in self.now.log.events array k).resized }
+    {
+        self.records.resized(array)
+    }
+
+    /// How an array's chunks are stored, with its present shape; of a local array `Form::Local`. Takes no memory.
+    pub fn form(&self, array: u64) -> &Form
+        requires { IsSome (known_after self.now.log.events array) }
+        ensures { (k : Known) → known_after self.now.log.events array ≡ Some k
+            → result.now ≡ with_shape (form_of k.info.home) k.shape }
+    {
+        self.records.form(array)
+    }
+
+    /// A copy of `form`.
     ///
     /// # Errors
     /// Want of memory alone.

@@ -1,5 +1,4 @@
-use Rattle.std.proofs.Common.{sym, ap}
-use Rattle.shared_state.specs.declared.Bounds.{Bounds}
+use Rattle.std.proofs.Common.{sym}
 use Rattle.chunk_plans.proofs.asking.ask.Goals as goal
 
 pub returns-clause-asked : goal.returns-clause-asked
@@ -11,6 +10,6 @@ returns-clause-asked g c opening agrees =
       part = is;
       named = sym (c.in_ok-key.ensures k is.known);
       form_is = c.in_ok-form.ensures k is.known;
-      resized = ap (λ (b : Bounds). b.resized) (c.in_ok-resized.ensures k is.known);
+      resized = c.resized-resized.ensures k is.known;
       under = c.in_ok-under.ensures.under opening k agrees is.known;
     }

@@ -6,21 +6,24 @@ use Rattle.shared_state.specs.declared.FetchError.TheVariants as fetch
 use Rattle.chunk_plans.proofs.planning.plan_stored.Goals as goal
 
 pub prepared-requires : goal.prepared-requires
-prepared-requires g c = usable_some _ _ c.args.write.ready (sym (c.in_ok-is_usable.ensures c.requires.write.0 c.requires.write.1.known) ∙ c.if-branch.true)
+prepared-requires g c = usable_some _ _ c.args.write.ready (sym (c.is_usable.ensures c.requires.write.0 c.requires.write.1.known) ∙ c.if-is_usable.true)
 
-pub returns-then-branch-clause-left : goal.returns-then-branch-clause-left
-returns-then-branch-clause-left g c k known =
-    let some = usable_some _ _ c.args.write.ready (sym (c.in_ok-is_usable.ensures c.requires.write.0 c.requires.write.1.known) ∙ c.if-branch.true) in
-    ready_left c.args.write k c.args.form.now c.requires.agrees known (c.requires.form k known) c.prepared.result.left some c.prepared.ensures.left
+pub returns-then-is_usable-clause-left : goal.returns-then-is_usable-clause-left
+returns-then-is_usable-clause-left g c k known =
+    let some = usable_some _ _ c.args.write.ready (sym (c.is_usable.ensures c.requires.write.0 c.requires.write.1.known) ∙ c.if-is_usable.true) in
+    ready_left c.args.write k c.form-form.result.now c.requires.agrees known (c.requires.stored k known, c.form-form.ensures k known) c.prepared.result.left some c.prepared.ensures.left
 
-pub returns-then-branch-clause-plan : goal.returns-then-branch-clause-plan
-returns-then-branch-clause-plan g c opening start k number agrees told known ready =
-    let some = usable_some _ _ c.args.write.ready (sym (c.in_ok-is_usable.ensures c.requires.write.0 c.requires.write.1.known) ∙ c.if-branch.true) in
-    ready_plan start c.args.state.now.log number k c.args.write c.args.form.now c.prepared.result.left some c.prepared.ensures.left (sym (c.in_ok-is_usable.ensures k known) ∙ c.if-branch.true) ready
+pub returns-then-is_usable-clause-plan : goal.returns-then-is_usable-clause-plan
+returns-then-is_usable-clause-plan g c opening start k number agrees told known ready =
+    let some = usable_some _ _ c.args.write.ready (sym (c.is_usable.ensures c.requires.write.0 c.requires.write.1.known) ∙ c.if-is_usable.true) in
+    ready_plan start c.args.state.now.log number k c.args.write c.form-form.result.now c.prepared.result.left some c.prepared.ensures.left (sym (c.is_usable.ensures k known) ∙ c.if-is_usable.true) ready
+
+pub left_now-requires-clause-form : goal.left_now-requires-clause-form
+left_now-requires-clause-form g c k known = (c.requires.stored k known, c.in_ok-form.ensures k known)
 
 pub returns-clause-left : goal.returns-clause-left
 returns-clause-left g c k known =
-    now_left c.args.write k c.args.form.now c.requires.agrees known (c.requires.form k known) c.planned.result.left c.in_ok-over.over.cells c.in_ok-over.over.bytes c.planned.ensures.left c.in_ok-over.ensures.cells
+    now_left c.args.write k c.in_ok-form.form c.requires.agrees known (c.requires.stored k known, c.in_ok-form.ensures k known) c.planned.result.left c.in_ok-over.over.cells c.in_ok-over.over.bytes c.planned.ensures.left c.in_ok-over.ensures.cells
 
 pub returns-clause-plan : goal.returns-clause-plan
 returns-clause-plan g c opening start k number agrees told known ready =

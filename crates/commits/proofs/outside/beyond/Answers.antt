@@ -7,4 +7,4 @@ pub returns : goal.returns
 returns g c =
     ok_to _ _ c.told.result
     (λ found told k known.
-    tells_outside c.args.state.now.log.events c.args.write.now k c.in_ok-is_within.field-0 found (sym (c.is_local.ensures k known) ∙ c.if-is_local.false) (c.in_ok-is_within.ensures k known) c.if-branch.false (told k known)) c.told.ensures
+    tells_outside c.args.state.now.log.events c.args.write.now k c.is_within.result found (sym (c.is_local.ensures k known) ∙ c.if-is_local.false) (c.is_within.ensures k known) c.if-is_within.false (told k known)) c.told.ensures
