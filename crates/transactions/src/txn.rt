@@ -94,6 +94,28 @@ impl Txn {
         ensures same { OnErr result (result ≢ Err write.Memory → self.new ≡ self.old) }
         ensures memory { OnErr result (self.new ≡ record self.old { staged = self.new.staged }) }
     {
+        let words = Words::wrap(Vec::from_slice(alloc, words)?);
+        self.write_owned(alloc, v, words)
+    }
+
+    /// Stages words as `write` does, and takes them: they are those of the operation.
+    ///
+    /// # Errors
+    /// Those of `write`.
+    pub fn write_owned(&mut self, alloc: Global, v: &View, words: Words) -> Result<(), WriteError>
+        requires view { IsView v.now }
+        requires txn { MayUse v.now self.old }
+        requires words { (n : ℕ) → count_answer (look_of v.now).dims ≡ Ok n → length words ≡ n }
+        requires typed { AllByRecursion (IsWord (look_of v.now).dtype) words }
+        ensures ok { OnOk result ((self.new.ops ≡ self.old.ops ++ op.Write v.now words ∷ [])
+            × (self.new ≡ record self.old { ops = self.new.ops; staged = self.new.staged })) }
+        ensures txn { OnOk result ((opening : Opening) (events : History) → IsTxnIn opening events self.old
+            → HasKnownRefs events v.now → IsTxnIn opening events self.new) }
+        ensures whole { OnOk result (IsStaged (op.Write v.now words)) }
+        ensures err { IfErr result (IsLocateFault v.now) }
+        ensures same { OnErr result (result ≢ Err write.Memory → self.new ≡ self.old) }
+        ensures memory { OnErr result (self.new ≡ record self.old { staged = self.new.staged }) }
+    {
         let cells = located(alloc, v)?;
         self.stage(alloc, v, &cells, words)
     }
@@ -106,34 +128,24 @@ impl Txn {
         alloc: Global,
         v: &View,
         cells: &ViewCells,
-        words: &[u64],
+        words: Words,
     ) -> Result<(), WriteError>
         requires view { IsView v.now }
-        requires cells { CanStage self.old.staged cells.now (length words.now) }
+        requires cells { CanStage self.old.staged cells.now (length words) }
         requires sites { HasSites v.now }
         requires are { AreCells (sites_of v.now) cells.now }
-        requires typed { AllByRecursion (IsWord (look_of v.now).dtype) words.now }
-        ensures ok { OnOk result ((self.new.ops ≡ self.old.ops ++ op.Write v.now words.now ∷ [])
+        requires typed { AllByRecursion (IsWord (look_of v.now).dtype) words }
+        ensures ok { OnOk result ((self.new.ops ≡ self.old.ops ++ op.Write v.now words ∷ [])
             × (self.new ≡ record self.old { ops = self.new.ops; staged = self.new.staged })) }
         ensures staged { OnOk result ((events : History) → AllByRecursion (IsLeafIn events) (leaves_of v.now)
             → AreStaged events self.old.ops self.old.staged → AreStaged events self.new.ops self.new.staged) }
         ensures err { OnErr result (result ≡ Err write.Memory) }
         ensures memory { OnErr result (self.new ≡ record self.old { staged = self.new.staged }) }
     {
-        let op = write_of(alloc, v, words)?;
+        let view = copy(alloc, v)?;
         self.ops.reserve(1)?;
-        self.staging.stage(alloc, cells, words)?;
-        self.ops.push_reserved(op);
+        self.staging.stage(alloc, cells, words.items())?;
+        self.ops.push_reserved(Op::Write { view, words });
         Ok(())
     }
-}
-
-// A write of words, copied.
-fn write_of(alloc: Global, v: &View, words: &[u64]) -> Result<Op, AllocError>
-    requires { IsView v.now }
-    ensures { IfOk result (λ o. o ≡ op.Write v.now words.now) }
-{
-    let words = Words::wrap(Vec::from_slice(alloc, words)?);
-    let view = copy(alloc, v)?;
-    Ok(Op::Write { view, words })
 }

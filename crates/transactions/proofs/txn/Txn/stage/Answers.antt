@@ -1,5 +1,8 @@
-use Rattle.std.proofs.Common.{◌≡◌, ◌∙◌, ◌∷◌, ◌++◌, [], sym, ap, append_assoc, subst, rules}
+use Rattle.std.proofs.Common.{◌≡◌, ◌∙◌, ◌∷◌, ◌++◌, [], ℕ, List, sym, ap, append_assoc, subst, rules}
+use Rattle.std.specs.List.{AllByRecursion}
+use Rattle.cells.specs.Numbers.{IsWord}
 use Rattle.history.specs.declared.event.Op.TheVariants.{Write}
+use Rattle.stack_driver.specs.Views.{look_of}
 use Rattle.chunk_fetches.specs.Operations.{AreStaged}
 use Rattle.transactions.specs.Txn.{TxnSeen, shared_ops}
 use Rattle.transactions.proofs.txn.Txn.stage.Goals as goal
@@ -7,9 +10,11 @@ use Rattle.transactions.proofs.txn.Txn.stage.Goals as goal
 pub returns-clause-staged : goal.returns-clause-staged
 returns-clause-staged c events leaves h =
     let before = shared_ops c.self.inside.shared in
-    let ops : c.push_reserved.new.self.items ≡ c.self.inside.ops.items ++ Write c.args.v.now c.args.words.now ∷ [] = search rules in
-    let all : before ++ c.push_reserved.new.self.items ≡ (before ++ c.self.inside.ops.items) ++ Write c.args.v.now c.args.words.now ∷ [] =
-    ap (λ xs. before ++ xs) ops ∙ sym (append_assoc before c.self.inside.ops.items (Write c.args.v.now c.args.words.now ∷ [])) in
+    let ops : c.push_reserved.new.self.items ≡ c.self.inside.ops.items ++ Write c.args.v.now c.args.words ∷ [] = search rules in
+    let all : before ++ c.push_reserved.new.self.items ≡ (before ++ c.self.inside.ops.items) ++ Write c.args.v.now c.args.words ∷ [] =
+    ap (λ xs. before ++ xs) ops ∙ sym (append_assoc before c.self.inside.ops.items (Write c.args.v.now c.args.words ∷ [])) in
+    let typed = subst (AllByRecursion (IsWord (look_of c.args.v.now).dtype)) (sym c.items.ensures) c.requires.typed in
+    let was = subst (λ (t : TxnSeen). AreStaged events t.ops t.staged) (sym c.self.view_is) h in
     subst (λ all. AreStaged events all c.stage.new.self) (sym all)
-    (c.in_ok-stage.ensures.history events c.args.v.now (before ++ c.self.inside.ops.items) leaves c.requires.sites c.requires.are c.requires.typed
-    (subst (λ (t : TxnSeen). AreStaged events t.ops t.staged) (sym c.self.view_is) h))
+    (subst (λ (ws : List ℕ). AreStaged events ((before ++ c.self.inside.ops.items) ++ Write c.args.v.now ws ∷ []) c.stage.new.self) c.items.ensures
+    (c.in_ok-stage.ensures.history events c.args.v.now (before ++ c.self.inside.ops.items) leaves c.requires.sites c.requires.are typed was))
