@@ -18,22 +18,13 @@ use crate::fault::Fault;
 use crate::opening::opened;
 use history::Mode;
 use kv_face::{KvStore, MemoryKv};
-use session_turns::{Gate, State, Txn};
+use session_turns::{OpenGate, State, Txn};
 use stack_driver::{View, dtype, transform_of};
 use std::alloc::Global;
 use std::sync::Wait;
 use turn_book::{Pass, TurnBook};
 
 const CACHED: u64 = 1_048_576;
-
-// A gate that holds nobody up.
-struct Open;
-
-impl Gate for Open {
-    fn before<R: Wait>(&self, _rt: &R, _session: u32, _line: u64) {}
-
-    fn coding<R: Wait>(&self, _rt: &R, _session: u32) {}
-}
 
 pub(crate) fn bench<R: Wait>(rt: &R, alloc: Global, before: u32, times: u32) -> Result<u64, Fault> {
     let store = MemoryKv::new(alloc, true);
@@ -172,7 +163,7 @@ fn committed<K: KvStore, R: Wait>(
     requires ready { IsReady book.now.fixed pass.old.seen t }
     ensures { OnOk result (HasPassed book.now pass.old pass.new) }
 {
-    match t.commit(alloc, rt, book, pass, &Open) {
+    match t.commit(alloc, rt, book, pass, &OpenGate) {
         Ok(numbers) => match numbers.items() {
             [event] => Ok(*event),
             _ => Err(Fault::Refused),

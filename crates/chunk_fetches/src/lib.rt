@@ -16,7 +16,7 @@ mod turns;
 
 pub use error::{ReadError, ViewFault};
 pub use fetching::fetch;
-pub use gate::Gate;
+pub use gate::{Gate, OpenGate};
 pub use kept::Kept;
 pub use looking::{array_in, index_in};
 pub use shared_state::{Bounds, State};

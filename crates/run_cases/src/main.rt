@@ -6,7 +6,6 @@
 
 mod cases;
 mod filling;
-mod gate;
 mod made;
 mod made_events;
 mod made_logs;

@@ -3,12 +3,11 @@
 // to fail.
 ghost use Rattle.kv_mounts.specs.Parts.{AreMounts};
 
-use crate::gate::Open;
 use crate::mounts::mounts_of_line;
 use crate::reports::report;
 use case_lines::{Fault, items, member, number_or, text_of};
 use kv_face::MemoryKv;
-use script_runner::{MemoryScripts, MemorySink, Mount, run};
+use script_runner::{MemoryScripts, MemorySink, Mount, OpenGate, run};
 use serde_json::Value;
 use std::alloc::Global;
 use std::sync::Wait;
@@ -72,7 +71,7 @@ fn with_mounts<R: Threads + Wait + Sync>(
 ) -> Result<String, Fault>
     requires { AreMounts mounts.old.items }
 {
-    let outcome = run(alloc, rt, words, scripts, sink, mounts, &Open);
+    let outcome = run(alloc, rt, words, scripts, sink, mounts, &OpenGate);
     report(alloc, v, &outcome, sink, mounts.as_slice())
 }
 

@@ -1,10 +1,9 @@
 // Four sessions on four workers, each with a quarter of the rows of one array of 1,000 by 1,000 cells in chunks of 100 by 100.
 use crate::counted::Counted;
-use crate::gates::Open;
 use crate::runs::{counted, mounts, run_texts};
 use answer_text::Body;
 use kv_face::MemoryKv;
-use script_runner::{MemorySink, Mount, Outcome};
+use script_runner::{MemorySink, Mount, OpenGate, Outcome};
 use std::alloc::{AllocError, Global};
 use std::sync::atomic::AtomicU64;
 use std::test::Fail;
@@ -113,7 +112,7 @@ fn four_sessions_four_workers(rt: HostRuntime) -> Result<(), Fail> {
         &[FIRST, SECOND, THIRD, FOURTH],
         &mut sink,
         &mut mounts,
-        &Open,
+        &OpenGate,
     )?;
     assert!(rt; outcome.status == 0);
     assert!(rt; outcome.history.items().len() == 9);

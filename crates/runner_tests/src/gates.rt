@@ -4,15 +4,6 @@ use std::sync::Wait;
 use std::sync::atomic::{AtomicU64, Ordering};
 use std::thread::yield_now;
 
-/// A gate that holds nobody up.
-pub(crate) struct Open;
-
-impl Gate for Open {
-    fn before<R: Wait>(&self, _rt: &R, _session: u32, _line: u64) {}
-
-    fn coding<R: Wait>(&self, _rt: &R, _session: u32) {}
-}
-
 /// A gate that holds session 0, before a line of its own or where it is about to decode or encode a chunk for the nth time, until the store
 /// was changed so often and, where it is asked, session 1 is before its third line. Session 1 doesn't begin before session 0 is held.
 #[derive(Drop)]

@@ -1,8 +1,7 @@
 // The nine scripts that are made from a number, on four workers.
-use crate::gates::Open;
 use crate::runs::{counted, mounts, run_texts};
 use kv_face::MemoryKv;
-use script_runner::MemorySink;
+use script_runner::{MemorySink, OpenGate};
 use std::sync::atomic::AtomicU64;
 use std::test::Fail;
 
@@ -21,7 +20,7 @@ fn made_scripts_four_workers(rt: HostRuntime) -> Result<(), Fail> {
         &[],
         &mut sink,
         &mut mounts,
-        &Open,
+        &OpenGate,
     )?;
     assert!(rt; outcome.status == 0);
     assert!(rt; outcome.logs.items().len() == 9);

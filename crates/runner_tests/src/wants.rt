@@ -1,8 +1,8 @@
 // Sessions on one worker over a store that wants memory.
 use crate::counted::Counted;
-use crate::gates::Open;
 use crate::runs::told;
 use kv_face::MemoryKv;
+use script_runner::OpenGate;
 use std::alloc::Global;
 use std::sync::Wait;
 use std::sync::atomic::AtomicU64;
@@ -36,7 +36,7 @@ fn ran<R: Threads + Wait + Sync>(
         get_wants: get,
         apply_wants: apply,
     };
-    told(rt, alloc, &[], &texts, store, &Open, "a/0")
+    told(rt, alloc, &[], &texts, store, &OpenGate, "a/0")
 }
 
 // The session's read is its last line; the other session still runs.

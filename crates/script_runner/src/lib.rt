@@ -16,7 +16,7 @@ pub use kv_face::{KvStore, MemoryKv};
 pub use mounts::new_mounts;
 pub use outcome::Outcome;
 pub use script_streams::{FileScripts, MemoryScripts, MemorySink, Scripts, Sink, StdoutSink};
-pub use session_workers::{BoxedStore, Gate, Mount};
+pub use session_workers::{BoxedStore, Gate, Mount, OpenGate};
 pub use store::Store;
 pub use top::run;
 pub use words::mounts_by;

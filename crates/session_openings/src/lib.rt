@@ -13,6 +13,6 @@ mod resolving;
 pub use opening::open;
 pub use resolving::resolve;
 pub use session_turns::{
-    Answer, Asked, Body, CommitError, CommitRefused, Gate, Kept, Names, ReadError, State, Txn,
-    WriteError, open_given_in_turn, open_in_turn, refusal, resize_in_turn,
+    Answer, Asked, Body, CommitError, CommitRefused, Gate, Kept, Names, OpenGate, ReadError, State,
+    Txn, WriteError, open_given_in_turn, open_in_turn, refusal, resize_in_turn,
 };

@@ -104,6 +104,29 @@ impl<K: KvStore> Session<K> {
         self.log.push_reserved(Answer { line, body });
         Ok(())
     }
+
+    /// Whether the session has ended: no further line is answered. It has exactly behind an error of `step`, and behind an answer that is want
+    /// of memory.
+    pub fn ended(&self) -> bool
+        ensures { result ≡ self.now.ended }
+    {
+        self.ended
+    }
+
+    /// The session's pass, and what it has answered. It takes no memory.
+    pub fn into_parts(self) -> (Pass<State<K>>, Vec<Answer>)
+        ensures pass { result.0 ≡ self.pass }
+        ensures log { result.1.items ≡ self.log.items }
+    {
+        let Session {
+            pass,
+            names: _,
+            txn: _,
+            log,
+            ended: _,
+        } = self;
+        (pass, log)
+    }
 }
 
 fn is_memory(body: &Body) -> bool

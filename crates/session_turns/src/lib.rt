@@ -18,5 +18,7 @@ pub use cell_faults::{counted, fault_body};
 pub use line_answers::{Answer, Body, bad_metadata, damaged, refusal};
 pub use names::{Names, named, unknown};
 pub use state_resizes::{Bounds, OpenError, Opened, ResizeError};
-pub use transactions::{CommitError, CommitRefused, Gate, Kept, ReadError, State, Txn, WriteError};
+pub use transactions::{
+    CommitError, CommitRefused, Gate, Kept, OpenGate, ReadError, State, Txn, WriteError,
+};
 pub use turns::{bounds_in_turn, open_given_in_turn, open_in_turn, resize_in_turn};

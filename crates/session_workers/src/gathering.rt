@@ -45,7 +45,7 @@ fn is_full<K: KvStore>(session: &Session<K>) -> bool
     ensures { result ≡ true → IsFull (session_with session.now.pass
         (get_by_text session.now.names) session.now.txn session.now.log.items session.now.ended) }
 {
-    !session.ended || ends_in_want(session.log.as_slice())
+    !session.ended() || ends_in_want(session.log.as_slice())
 }
 
 #[tactic(auto, using(crate::proofs::Kept::last_want))]

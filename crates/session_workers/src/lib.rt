@@ -15,4 +15,4 @@ mod working;
 
 pub use kv_mounts::{BoxedStore, Mount};
 pub use runs::{Finished, run_over};
-pub use session_runs::Gate;
+pub use session_runs::{Gate, OpenGate};

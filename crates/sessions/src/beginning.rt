@@ -36,9 +36,11 @@ pub fn abort(line: u64, txn: &mut Option<Txn>) -> Body
     ensures txn { (opening : Opening) (events : History) → HasSoundTxn opening events txn.old
         → HasSoundTxn opening events txn.new }
 {
-    if txn.is_none() {
-        return Body::NoTransaction;
+    match txn.take() {
+        Some(t) => {
+            t.abort();
+            Body::Aborted
+        }
+        None => Body::NoTransaction,
     }
-    *txn = None;
-    Body::Aborted
 }

@@ -4,7 +4,6 @@
 //! All that it does is to make the real ends, to call `run`, and to say on standard error in one line each what went wrong.
 #![tactic(auto)]
 
-mod gate;
 mod runs;
 mod said;
 

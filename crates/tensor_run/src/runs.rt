@@ -6,9 +6,8 @@ ghost use Rattle.script_runner.specs.Parts.{parts_of};
 ghost use Rattle.script_runner.specs.Words.{mount_words, names_folder};
 ghost use Rattle.script_runner.specs.Promises.{IsSerialOutcome};
 
-use crate::gate::Open;
 use crate::said::{say, say_unfinished};
-use script_runner::{FileScripts, Mount, Outcome, StdoutSink, Store, mounts_by, run};
+use script_runner::{FileScripts, Mount, OpenGate, Outcome, StdoutSink, Store, mounts_by, run};
 use std::sync::Wait;
 use std::thread::Threads;
 
@@ -66,6 +65,6 @@ fn ran<R: Threads + Wait + Sync>(
         &mut scripts,
         &mut sink,
         mounts,
-        &Open,
+        &OpenGate,
     )
 }

@@ -8,7 +8,6 @@ mod calls;
 mod cases;
 mod ended;
 mod filling;
-mod gates;
 mod locals;
 mod opens;
 mod runs;

@@ -7,13 +7,12 @@ ghost use Rattle.turn_book.specs.Passes.{AreNew, IsIdle};
 use crate::calls::answer;
 use crate::ended::{ended, put_events};
 use crate::filling::{mounts, store};
-use crate::gates::Open;
 use crate::seats::Seat;
 use case_lines::{Fault, items, member, number_or};
 use kv_face::{KvStore, MemoryKv};
 use kv_mounts::Mount;
 use serde_json::Value;
-use session_runs::State;
+use session_runs::{OpenGate, State};
 use std::alloc::Global;
 use std::sync::Wait;
 use turn_book::{Pass, TurnBook};
@@ -234,8 +233,8 @@ fn by_session<K: KvStore, R: Wait>(
         (IsSeatThen book.now other.old.pass other.new.pass other.new.arrays.items other.new.txn) }
 {
     match number_or(call, "by", 0)? {
-        0 => answer(rt, alloc, call, book, one, &Open),
-        1 => answer(rt, alloc, call, book, other, &Open),
+        0 => answer(rt, alloc, call, book, one, &OpenGate),
+        1 => answer(rt, alloc, call, book, other, &OpenGate),
         _ => Err(Fault::Line),
     }
 }

@@ -4,14 +4,13 @@ ghost use Rattle.indexmap.specs.IndexMap.{get_by_text};
 ghost use Rattle.transaction_cases.specs.Sessions.{IsBetween, IsFresh};
 ghost use Rattle.session_runs.specs.Session.{HasMounts, session_with};
 
-use crate::gates::Open;
 use crate::session_ends::put_answer;
 use answer_text::Answer;
 use case_lines::Fault;
 use cells::Name;
 use kv_face::MemoryKv;
 use serde_json::Value;
-use session_runs::{Session, State, run_script};
+use session_runs::{OpenGate, Session, State, run_script};
 use std::alloc::Global;
 use std::sync::Wait;
 use turn_book::TurnBook;
@@ -70,7 +69,7 @@ fn ran<R: Wait>(
         (get_by_text session.old.names) session.old.txn session.old.log.items session.old.ended) }
     ensures { IsBetween book.now by session.new.pass (get_by_text session.new.names) session.new.txn session.new.ended }
 {
-    run_script(alloc, rt, book, mounts, session, script, &Open);
+    run_script(alloc, rt, book, mounts, session, script, &OpenGate);
 }
 
 fn logs(alloc: Global, one: &[Answer], other: &[Answer]) -> Result<Vec<u8>, Fault> {

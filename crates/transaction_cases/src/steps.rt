@@ -3,13 +3,12 @@ ghost use Rattle.transaction_cases.specs.Sessions.{IsBetween};
 ghost use Rattle.indexmap.specs.IndexMap.{get_by_text};
 ghost use Rattle.session_runs.specs.Session.{HasMounts};
 
-use crate::gates::Open;
 use crate::session_ends::put_answer;
 use case_lines::{Fault, items};
 use cells::Name;
 use kv_face::MemoryKv;
 use serde_json::Value;
-use session_runs::{Session, State};
+use session_runs::{OpenGate, Session, State};
 use std::alloc::Global;
 use std::sync::Wait;
 use turn_book::TurnBook;
@@ -107,7 +106,7 @@ fn put_bytes<R: Wait>(
     let line = (session.log.len() as u64)
         .checked_add(1)
         .ok_or(Fault::Line)?;
-    session.step(alloc, rt, book, mounts, line, bytes, &Open)?;
+    session.step(alloc, rt, book, mounts, line, bytes, &OpenGate)?;
     match session.log.as_slice().last() {
         Some(answer) => put_answer(alloc, text, answer),
         None => Ok(()),

@@ -119,6 +119,9 @@ impl Txn {
         let cells = located(alloc, v)?;
         self.stage(alloc, v, &cells, words)
     }
+
+    /// Ends the transaction, of which nothing is done. It takes no memory and no turn.
+    pub fn abort(self) {}
 }
 
 impl Txn {
