@@ -115,13 +115,13 @@ def row(i, columns):
     return "[" + ",".join(str(number(i, j)) for j in range(columns)) + "]"
 
 
-def opened(shape, chunks, mount="memory", driver="zarr", shared=False):
+def opened(shape, chunks, mount="memory", driver="zarr", shared=False, name="a"):
     if driver == "zarr":
         meta = {"chunks": chunks, "dtype": "<i4", "fill_value": 0, "shape": shape}
-        path = "a"
+        path = name
     else:
         meta = {"blockSize": chunks, "dataType": "int32", "dimensions": shape}
-        path = "n5/a"
+        path = f"n5/{name}"
     spec = {"driver": driver, "kvstore": {"driver": mount, "path": path}, "metadata": meta, "create": True}
     if shared:
         spec["open"] = True
@@ -137,16 +137,16 @@ def whole(n, chunk, mount="memory", driver="zarr"):
     yield '{"read":"a"}\n'
 
 
-def rows(first, last, columns, total, chunk, shared=False):
-    yield opened([total, columns], [chunk, chunk], shared=shared)
+def rows(first, last, columns, total, chunk, shared=False, name="a"):
+    yield opened([total, columns], [chunk, chunk], shared=shared, name=name)
     for i in range(first, last):
         yield '{"write":"a","steps":[{"slice":[{"start":%d,"stop":%d},{"start":0,"stop":%d}]}],"values":[%s]}\n' % (i, i + 1, columns, row(i, columns))
     for i in range(first, last):
         yield '{"read":"a","steps":[{"slice":[{"start":%d,"stop":%d},{"start":0,"stop":%d}]}]}\n' % (i, i + 1, columns)
 
 
-def cells(n):
-    yield opened([1000, 1000], [100, 100])
+def cells(n, name="a"):
+    yield opened([1000, 1000], [100, 100], name=name)
     for k in range(n // 2):
         i, j = k * 7919 % 1000, k * 104729 % 997
         yield '{"write":"a","steps":[{"at":[%d,%d]}],"values":%d}\n' % (i, j, k)
@@ -159,8 +159,8 @@ def written_cells(n):
         yield '{"write":"a","steps":[{"at":[%d,%d]}],"values":%d}\n' % (k * 7919 % 1000, k * 104729 % 997, k)
 
 
-def strided(n, chunk, mount="memory", driver="zarr"):
-    yield opened([n, n], [chunk, chunk], mount, driver)
+def strided(n, chunk, mount="memory", driver="zarr", shared=False, name="a"):
+    yield opened([n, n], [chunk, chunk], mount, driver, shared, name)
     cut = '"steps":[{"slice":[{"start":%d,"stop":%d,"step":%d},{"start":%d,"stop":%d,"step":%d}]}]'
     for k in range(10):
         yield '{"write":"a",' + cut % (k % 2, n, 2, k % 3, n, 3) + ',"values":%d}\n' % (k + 1)
@@ -212,6 +212,15 @@ CASES = [
 LINES = [
     ("staged", "four sessions stage rows of one array on four workers, n rows each", (1000, 2000, 4000), lambda n: four(lambda s: staged(s, n, 500)), lambda n: 4 * n, ["--workers", "4"]),
     ("lines", "n lines of one cell", (25000, 50000, 100000), lambda n: [written_cells(n)], lambda n: n, []),
+]
+
+# by workers: name, sizes, scripts, how many times as fast by the clock four workers are to be as one
+WORKERS = [
+    ("own rows", "four sessions, each its rows of an array of its own", 500, lambda n: four(lambda s: rows(0, n, 1000, n, 100, name=f"a{s}")), 2.5),
+    ("one rows", "four sessions, each its rows of one array", 2000, lambda n: four(lambda s: rows(s * n // 4, (s + 1) * n // 4, 1000, n, 100, shared=True)), 1.5),
+    ("own strided", "four sessions, strided views of an array of its own each", 1000, lambda n: four(lambda s: strided(n, 100, name=f"a{s}")), 2.5),
+    ("one strided", "four sessions, strided views of one array", 1000, lambda n: four(lambda s: strided(n, 100, shared=True)), 1.5),
+    ("own cells", "four sessions, single cells of an array of its own each", 20000, lambda n: four(lambda s: cells(n, name=f"a{s}")), 2.5),
 ]
 
 # ---------------------------------------------------------------- measuring
@@ -348,6 +357,19 @@ class Bench:
             self.falls_short(f"{name}: {growth:.3f} times as long a line at twice the size, and not at most 1.05")
 
 
+    def by_workers(self, key, name, n, scripts, wanted):
+        """On one worker, on two and on four, by the clock. Several runs, since others' work shows in each."""
+        print(f"{name}, n = {n}")
+        files, first = self.put(scripts(n)), None
+        for workers in (1, 2, 4):
+            ours, empty = self.ours(files, ["--workers", str(workers)], 5)
+            clock = max(ours.clock - empty.clock, 0.001)
+            first = first or clock
+            print(f"  {workers} workers: {clock:8.3f} s on the clock, {ours.processor - empty.processor:.3f} s of the processor, {first / clock:.2f} times as fast as one, {ours.peak / 1024:6.0f} MiB", flush=True)
+        if first < wanted * clock:
+            self.falls_short(f"{name}: four workers are {first / clock:.2f} times as fast as one, and not {wanted} times")
+
+
 def main(words):
     program, python, chosen = words[0], words[1], words[2:]
     gc.freeze()
@@ -363,6 +385,9 @@ def main(words):
         for case in LINES:
             if not chosen or case[0] in chosen:
                 bench.by_lines(*case)
+        for case in WORKERS:
+            if not chosen or case[0] in chosen or "workers" in chosen:
+                bench.by_workers(*case)
         load = os.getloadavg()
         print(f"load at the end: {load[0]:.1f}, {load[1]:.1f}, {load[2]:.1f}")
         print(f"falls short in {len(bench.short)}:" if bench.short else "falls short in nothing")
