@@ -1,0 +1,4 @@
+pub mod Moments
+pub mod Versions
+pub mod Reach
+pub mod Marks
