@@ -2,6 +2,7 @@ use crate::args::{items_at, text_or_none};
 use crate::fault::Fault;
 use crate::judging::judged;
 use crate::texts::{bytes_of, scripts_of};
+use crate::versions::of_chunk;
 use cells::List;
 use json_forms::parse;
 use serde_json::Value;
@@ -22,6 +23,13 @@ fn told(alloc: Global, line: &str) -> Result<String, Fault> {
 }
 
 fn of_value(alloc: Global, v: &Value) -> Result<String, Fault> {
+    match v.get("chunk") {
+        Some(chunk) => of_chunk(alloc, chunk),
+        None => of_transcript(alloc, v),
+    }
+}
+
+fn of_transcript(alloc: Global, v: &Value) -> Result<String, Fault> {
     let scripts = scripts_of(alloc, items_at(v, "scripts")?)?;
     of_scripts(alloc, v, &scripts)
 }

@@ -1,4 +1,5 @@
-//! `transcript_cases`: each line of stdin has scripts and a transcript, each line of stdout what the first steps of a check tell of them.
+//! `transcript_cases`: each line of stdin has scripts and a transcript, or a chunk with words that events put there; each line of stdout what the
+//! steps of a check tell of them.
 //!
 //! The lines stand in the file `stdin` and what they must give in `stdout`, worked out by hand.
 #![tactic(auto)]
@@ -8,6 +9,7 @@ mod cases;
 mod fault;
 mod judging;
 mod texts;
+mod versions;
 
 use cases::answer;
 use std::io;
