@@ -89,27 +89,27 @@ fn stage(
         → HasSoundTxn opening events (Some t.old) → result ≢ printed.Memory → HasSoundTxn opening events (Some t.new) }
 {
     match taken_write(alloc, names, name, steps, values) {
-        Ok(w) => staged(alloc, t, &w),
+        Ok(w) => staged(alloc, t, w),
         Err(body) => body,
     }
 }
 
-fn staged(alloc: Global, t: &mut Txn, w: &Worded) -> Body
-    requires view { IsView w.now.view }
-    requires may { MayUse w.now.view t.old }
-    requires count { count_answer (look_of w.now.view).dims ≡ Ok (length w.now.words) }
-    requires typed { AllByRecursion (IsWord (look_of w.now.view).dtype) w.now.words }
+fn staged(alloc: Global, t: &mut Txn, w: Worded) -> Body
+    requires view { IsView w.view }
+    requires may { MayUse w.view t.old }
+    requires count { count_answer (look_of w.view).dims ≡ Ok (length w.words) }
+    requires typed { AllByRecursion (IsWord (look_of w.view).dtype) w.words }
     ensures told { (names : NamesOf) (seen line : ℕ) (asked : Line)
         → act_of names (Some (transaction_of t.old)) asked
-        ≡ without (cell_fault w.now.view) (Ok (stages (transaction_of t.old) w.now.view w.now.words))
+        ≡ without (cell_fault w.view) (Ok (stages (transaction_of t.old) w.view w.words))
         → IsToldAlone (session_state names seen (Some t.old)) line asked names (Some (transaction_of t.new)) result }
-    ensures txn { (opening : Opening) (events : History) → HasKnownRefs events w.now.view
+    ensures txn { (opening : Opening) (events : History) → HasKnownRefs events w.view
         → HasSoundTxn opening events (Some t.old) → result ≢ printed.Memory → HasSoundTxn opening events (Some t.new) }
 {
-    match t.write(alloc, &w.view, w.words.items()) {
-        Ok(()) => Body::Staged {
-            cells: w.words.items().len() as u64,
-        },
-        Err(e) => unwritten(alloc, &w.view, e),
+    let Worded { view, words } = w;
+    let cells = words.items().len() as u64;
+    match t.write_owned(alloc, &view, words) {
+        Ok(()) => Body::Staged { cells },
+        Err(e) => unwritten(alloc, &view, e),
     }
 }

@@ -85,7 +85,7 @@ pub(crate) fn write_alone<K: KvStore, R: Wait, G: Gate>(
     ensures passed { HasPassed book.now pass.old pass.new }
 {
     match taken_write(alloc, names, name, steps, values) {
-        Ok(w) => written(alloc, rt, book, pass, line, &w, gate),
+        Ok(w) => written(alloc, rt, book, pass, line, w, gate),
         Err(body) => body,
     }
 }
@@ -250,47 +250,49 @@ fn written<K: KvStore, R: Wait, G: Gate>(
     book: &TurnBook<State<K>>,
     pass: &mut Pass<State<K>>,
     line: u64,
-    w: &Worded,
+    w: Worded,
     gate: &G,
 ) -> Body
     requires pass { IsRested book.now pass.old }
-    requires view { IsView w.now.view }
-    requires refs { HasKnownRefs pass.old.seen w.now.view }
-    requires count { count_answer (look_of w.now.view).dims ≡ Ok (length w.now.words) }
-    requires typed { AllByRecursion (IsWord (look_of w.now.view).dtype) w.now.words }
+    requires view { IsView w.view }
+    requires refs { HasKnownRefs pass.old.seen w.view }
+    requires count { count_answer (look_of w.view).dims ≡ Ok (length w.words) }
+    requires typed { AllByRecursion (IsWord (look_of w.view).dtype) w.words }
     ensures told { (names : NamesOf) (asked : Line)
-        → act_of names None asked ≡ without (cell_fault w.now.view) (Ok (write_act None w.now.view w.now.words))
+        → act_of names None asked ≡ without (cell_fault w.view) (Ok (write_act None w.view w.words))
         → IsToldBy book.now pass.old pass.new (session_state names
         (length pass.old.seen) None) line asked names None result }
     ensures passed { HasPassed book.now pass.old pass.new }
 {
+    let cells = w.words.items().len() as u64;
     match begun(alloc, line, w) {
-        Ok(t) => committed(alloc, rt, book, pass, t, w.words.items().len() as u64, gate),
+        Ok(t) => committed(alloc, rt, book, pass, t, cells, gate),
         Err(body) => body,
     }
 }
 
 // A transaction of one write, or the answer to what refuses it.
-fn begun(alloc: Global, line: u64, w: &Worded) -> Result<Txn, Body>
-    requires view { IsView w.now.view }
+fn begun(alloc: Global, line: u64, w: Worded) -> Result<Txn, Body>
+    requires view { IsView w.view }
     requires refs { (opening : Opening) × (events : History) × IsLegal finmap.empty (outline events)
-        × HasKnownRefs events w.now.view }
-    requires count { count_answer (look_of w.now.view).dims ≡ Ok (length w.now.words) }
-    requires typed { AllByRecursion (IsWord (look_of w.now.view).dtype) w.now.words }
-    ensures alone { IfOk result (λ t. transaction_of t ≡ alone line w.now.view w.now.words) }
+        × HasKnownRefs events w.view }
+    requires count { count_answer (look_of w.view).dims ≡ Ok (length w.words) }
+    requires typed { AllByRecursion (IsWord (look_of w.view).dtype) w.words }
+    ensures alone { IfOk result (λ t. transaction_of t ≡ alone line w.view w.words) }
     ensures sound { IfOk result (λ t. (opening : Opening) (events : History) → IsLegal finmap.empty (outline events)
-        → HasKnownRefs events w.now.view → HasSoundTxn opening events (Some t)) }
-    ensures found { OnOk result (cell_fault w.now.view ≡ None) }
-    ensures err { IfErr result (λ b. (next : Asked) → IsAnswerTo (without (cell_fault w.now.view) next) b) }
+        → HasKnownRefs events w.view → HasSoundTxn opening events (Some t)) }
+    ensures found { OnOk result (cell_fault w.view ≡ None) }
+    ensures err { IfErr result (λ b. (next : Asked) → IsAnswerTo (without (cell_fault w.view) next) b) }
 {
     let mode = Mode {
         atomic: false,
         repeatable_read: false,
     };
+    let Worded { view, words } = w;
     let mut t = Txn::begin(alloc, line, mode);
-    match t.write(alloc, &w.view, w.words.items()) {
+    match t.write_owned(alloc, &view, words) {
         Ok(()) => Ok(t),
-        Err(e) => Err(unwritten(alloc, &w.view, e)),
+        Err(e) => Err(unwritten(alloc, &view, e)),
     }
 }
 

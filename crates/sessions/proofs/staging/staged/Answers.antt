@@ -1,4 +1,4 @@
-use Rattle.std.proofs.Common.{◌≡◌, ℕ, List, Ok, Some, length, sym, ap, subst}
+use Rattle.std.proofs.Common.{◌≡◌, ℕ, List, Ok, Some, length, refl, sym, ap, subst}
 use Rattle.session_turns.specs.declared.Body.TheVariants.{Staged}
 use Rattle.history.specs.Acts.{Asked, stages}
 use Rattle.sessions.specs.Commits.{HasSoundTxn}
@@ -12,20 +12,20 @@ use Rattle.session_turns.specs.declared.WriteError.TheVariants as write
 
 pub returns-in-Ok-clause-told : goal.returns-in-Ok-clause-told
 returns-in-Ok-clause-told c names seen line asked act =
-    let v = c.args.w.now.view in
-    subst (λ (ws : List ℕ). IsToldAlone (session_state names seen (Some c.args.t.now)) line asked names (Some (transaction_of c.write.new.self)) (Staged (length ws))) (sym c.items-in-Ok.ensures)
-    (staged_told c.args.t.now c.write.new.self v c.args.w.now.words c.items.result.now c.items.ensures c.in-Ok.ensures.ok names seen line asked (found_all v c.in-Ok.ensures.whole.targets) act)
+    let v = c.args.w.view in
+    subst (λ (ws : List ℕ). IsToldAlone (session_state names seen (Some c.args.t.now)) line asked names (Some (transaction_of c.write_owned.new.self)) (Staged (length ws))) (sym c.items.ensures)
+    (staged_told c.args.t.now c.write_owned.new.self v c.args.w.words c.args.w.words refl c.in-Ok.ensures.ok names seen line asked (found_all v c.in-Ok.ensures.whole.targets) act)
 
 pub returns-in-Ok-clause-txn : goal.returns-in-Ok-clause-txn
 returns-in-Ok-clause-txn c opening events refs was printed =
-    more_sound c.args.t.now c.write.new.self c.args.w.now.view c.args.w.now.words c.items.result.now c.items.ensures c.in-Ok.ensures.ok opening events (c.in-Ok.ensures.txn opening events was.0 refs) c.requires.view c.in-Ok.ensures.whole was
+    more_sound c.args.t.now c.write_owned.new.self c.args.w.view c.args.w.words c.args.w.words refl c.in-Ok.ensures.ok opening events (c.in-Ok.ensures.txn opening events was.0 refs) c.requires.view c.in-Ok.ensures.whole was
 
-pub returns-in-Err-clause-told : goal.returns-in-Err-clause-told
-returns-in-Err-clause-told c names seen line asked act =
-    unstaged_told c.args.t.now c.write.new.self names seen line asked c.unwritten.result (ap transaction_of c.in-Err.ensures.memory)
-    (subst (λ (a : Asked). IsAnswerTo a c.unwritten.result) (sym act) (c.unwritten.ensures.answer (Ok (stages (transaction_of c.args.t.now) c.args.w.now.view c.args.w.now.words))))
+pub returns-clause-told : goal.returns-clause-told
+returns-clause-told c names seen line asked act =
+    unstaged_told c.args.t.now c.write_owned.new.self names seen line asked c.unwritten.result (ap transaction_of c.in-Err.ensures.memory)
+    (subst (λ (a : Asked). IsAnswerTo a c.unwritten.result) (sym act) (c.unwritten.ensures.answer (Ok (stages (transaction_of c.args.t.now) c.args.w.view c.args.w.words))))
 
-pub returns-in-Err-clause-txn : goal.returns-in-Err-clause-txn
-returns-in-Err-clause-txn c opening events refs was printed =
+pub returns-clause-txn : goal.returns-clause-txn
+returns-clause-txn c opening events refs was printed =
     subst (λ (t : TxnSeen). HasSoundTxn opening events (Some t))
     (sym (c.in-Err.ensures.same (λ is. printed (c.unwritten.ensures.memory (let same : c.in-Err.e ≡ write.Memory = cc in same))))) was

@@ -4,6 +4,7 @@ use Rattle.session_turns.specs.Standing.{session_state}
 use Rattle.session_turns.specs.Told.{IsAnswerTo}
 use Rattle.sessions.specs.Writes.{IsWrittenAs}
 use Rattle.session_turns.proofs.Laws.{told_without}
+use Rattle.sessions.proofs.CommitRows.{commit_passed}
 use Rattle.sessions.proofs.WriteLaws.{written_told}
 use Rattle.sessions.proofs.writing.written.Goals as goal
 use Rattle.session_turns.specs.Txn.{transaction_of}
@@ -13,10 +14,14 @@ committed-requires-clause-sound g c = c.in-Ok.ensures.sound c.args.book.now.fixe
 
 pub returns-in-Ok-clause-told : goal.returns-in-Ok-clause-told
 returns-in-Ok-clause-told g c names asked act =
-    written_told c.args.book.now c.args.pass.now c.committed.new.pass c.args.line c.args.w.now.view c.args.w.now.words c.in-Ok.t c.in-Ok.ensures.alone c.committed.result c.requires.pass
+    written_told c.args.book.now c.args.pass.now c.committed.new.pass c.args.line c.args.w.view c.args.w.words c.in-Ok.t c.in-Ok.ensures.alone c.committed.result c.requires.pass
     (subst (λ (ws : List ℕ). IsWrittenAs c.args.book.now c.args.pass.now c.committed.new.pass (transaction_of c.in-Ok.t) (length ws) c.committed.result) c.items.ensures c.committed.ensures) names asked c.in-Ok.ensures.found act
 
 pub returns-in-Err-clause-told : goal.returns-in-Err-clause-told
 returns-in-Err-clause-told g c names asked act =
     told_without c.args.book.now c.args.pass.now (session_state names (length c.args.pass.now.seen) None) c.args.line asked c.in-Err.body
-    (subst (λ (a : Asked). IsAnswerTo a c.in-Err.body) (sym act) (c.in-Err.ensures.err (Ok (writes c.args.w.now.view c.args.w.now.words))))
+    (subst (λ (a : Asked). IsAnswerTo a c.in-Err.body) (sym act) (c.in-Err.ensures.err (Ok (writes c.args.w.view c.args.w.words))))
+
+pub returns-in-Ok-clause-passed : goal.returns-in-Ok-clause-passed
+returns-in-Ok-clause-passed g c =
+    commit_passed c.args.book.now c.args.pass.now c.committed.new.pass (transaction_of c.in-Ok.t) c.committed.ensures.result c.requires.pass c.committed.ensures.committed
