@@ -95,7 +95,7 @@ fn commit_parts<K: KvStore>(
         keys,
         cells,
     };
-    match commit_deed(state, owner, deed, &changes) {
+    match commit_deed(state, owner, deed, changes) {
         Ok(number) => {
             keep_left(alloc, state, number, left);
             Ok(number)
@@ -109,25 +109,25 @@ fn commit_deed<K: KvStore>(
     state: &mut State<K>,
     owner: u32,
     deed: Deed,
-    changes: &[Change],
+    changes: Vec<Change>,
 ) -> Result<u64, ChangeError>
     requires agrees { IsState (K.seen state.old.store) state.old.log }
     requires deed { IsDeed state.old.log owner deed }
-    requires made { AreMade (K.seen state.old.store) changes.now }
+    requires made { AreMade (K.seen state.old.store) changes.items }
     requires known { AllByRecursion (λ (c : HeldCellsOf).
         IsSome (known_after state.old.log.events c.array)) deed.cells.items }
     ensures number { IfOk result (λ n. n ≡ length state.old.log.events + 1) }
     ensures after { OnOk result (state.new.log ≡ committed state.old.log owner deed) }
     ensures done { OnOk result ((m : Contents) → (K.seen state.old.store).contents ≡ Some m
-        → (K.seen state.new.store).contents ≡ Some (after m changes.now)) }
+        → (K.seen state.new.store).contents ≡ Some (after m changes.items)) }
     ensures failed { (event : ℕ) → result ≡ Err (ChangeError.StoreFailed event)
         → HasFailed owner deed.mount (K.seen state.old.store)
         (K.seen state.new.store) state.old.log state.new.log event }
     ensures memory { result ≡ Err ChangeError.Memory → state.new.log ≡ state.old.log }
-    ensures uncalled { length changes.now ≡ 0 → state.new.store ≡ state.old.store }
+    ensures uncalled { length changes.items ≡ 0 → state.new.store ≡ state.old.store }
     ensures quiet { OnErr result (IsQuiet (K.seen state.old.store) (K.seen state.new.store)) }
     ensures frame { IsFrame (K.seen state.old.store) (K.seen state.new.store) }
-    ensures kept { KeepsByDeed (K.seen state.old.store) state.old.log owner deed changes.now
+    ensures kept { KeepsByDeed (K.seen state.old.store) state.old.log owner deed changes.items
         (K.seen state.new.store) state.new.log }
 {
     if state.make_room(1, &deed.keys).is_err() {

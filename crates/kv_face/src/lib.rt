@@ -17,7 +17,7 @@ mod streams;
 mod table;
 
 pub use calls::{CountedCalls, one_more};
-pub use change::Change;
+pub use change::{Change, copy_changes};
 pub use error::{Failed, KvError};
 pub use memory::MemoryKv;
 pub use reading::{ReadError, read_script};

@@ -7,11 +7,10 @@ ghost use Rattle.kv_face.specs.Table.{held_by};
 ghost use Rattle.kv_face.specs.Store.{after, keys_of, are_together, takes, opened, finished, failing, OneMore, HasCause, IsToldExactly};
 
 use crate::calls::CountedCalls;
-use crate::change::Change;
+use crate::change::{Change, copy_changes};
 use crate::error::{Failed, KvError};
 use crate::store::KvStore;
 use crate::table::{Table, change_all};
-use cells::{List, Name};
 use std::alloc::{AllocError, Global};
 use std::marker::Model;
 
@@ -137,41 +136,43 @@ impl MemoryKv {
     }
 }
 
-fn copy_bytes(alloc: Global, bytes: &Option<List<u8>>) -> Result<Option<List<u8>>, AllocError>
-    ensures { IfOk result (λ b. b ≡ bytes.now) }
-{
-    match bytes {
-        Some(bytes) => Ok(Some(List::wrap(Vec::from_slice(alloc, bytes.items())?))),
-        None => Ok(None),
+impl MemoryKv {
+    ghost use Rattle.kv_face.specs.Memory.{called, change_calls_after, failed_apply, fails, standing_after};
+
+    /// Counts a call that changes, and says whether it fails. One that fails leaves the store open where there was something to change.
+    fn call_apply(&mut self, changes: &[Change]) -> bool
+        ensures failed { result ≡ fails self.old.applies }
+        ensures on { result ≡ false → self.new ≡ record self.old { applies = called self.old.applies } }
+        ensures after_failed { result ≡ true → self.new ≡ failed_apply self.old changes.now }
+    {
+        if self.applies.call() {
+            if !changes.is_empty() {
+                self.state = State::Opened;
+            }
+            return true;
+        }
+        false
     }
-}
 
-fn copy(alloc: Global, change: &Change) -> Result<Change, AllocError>
-    ensures { IfOk result (λ c. c ≡ change.now) }
-{
-    let bytes = copy_bytes(alloc, &change.bytes)?;
-    let key = Name::wrap(String::from_str(alloc, change.key.items())?);
-    Ok(Change { key, bytes })
-}
-
-fn copies(alloc: Global, changes: &[Change]) -> Result<Vec<Change>, AllocError>
-    ensures { IfOk result (λ v. v.items ≡ changes.now) }
-{
-    let mut all = Vec::with_capacity(alloc, changes.len())?;
-    for change in changes {
-        all.push(copy(alloc, change)?)?;
+    /// Makes all changes, or none where memory is wanting.
+    fn make(&mut self, changes: Vec<Change>) -> Result<(), AllocError>
+        ensures ok { OnOk result (self.new ≡ record self.old {
+          contents = after self.old.contents changes.items;
+          standing = standing_after self.old.standing changes.items;
+          change_calls = change_calls_after self.old.change_calls changes.items;
+        }) }
+        ensures err { OnErr result (self.new ≡ self.old) }
+    {
+        self.table.reserve(changes.len())?;
+        if !changes.is_empty() {
+            self.state = State::Opened;
+            if self.change_calls < u64::MAX {
+                self.change_calls += 1;
+            }
+        }
+        change_all(&mut self.table, changes);
+        Ok(())
     }
-    Ok(all)
-}
-
-/// Makes all changes, or none where memory is wanting.
-fn change(alloc: Global, table: &mut Table, changes: &[Change]) -> Result<(), AllocError>
-    ensures ok { OnOk result (held_by table.new.map.entries ≡ after (held_by table.old.map.entries) changes.now) }
-    ensures err { OnErr result (held_by table.new.map.entries ≡ held_by table.old.map.entries) }
-{
-    table.reserve(changes.len())?;
-    change_all(table, copies(alloc, changes)?);
-    Ok(())
 }
 
 impl KvStore for MemoryKv {
@@ -207,19 +208,25 @@ impl KvStore for MemoryKv {
         ensures after_memory { IsErrOf result KvError.Memory
             → self.new ≡ record self.old { applies = called self.old.applies } }
     {
-        if self.applies.call() {
-            if !changes.is_empty() {
-                self.state = State::Opened;
-            }
+        if self.call_apply(changes) {
             return Err(KvError::Failed);
         }
-        change(self.alloc, &mut self.table, changes)?;
-        if !changes.is_empty() {
-            self.state = State::Opened;
-            if self.change_calls < u64::MAX {
-                self.change_calls += 1;
-            }
+        let changes = copy_changes(self.alloc, changes)?;
+        self.make(changes)?;
+        Ok(())
+    }
+
+    fn apply_owned(&mut self, changes: Vec<Change>) -> Result<(), KvError>
+        ensures done { OnOk result (self.new ≡ done_apply self.old changes.items) }
+        ensures failed { IsErrOf result KvError.Failed ↔ IsTrue (fails self.old.applies) }
+        ensures after_failed { IsErrOf result KvError.Failed → self.new ≡ failed_apply self.old changes.items }
+        ensures after_memory { IsErrOf result KvError.Memory
+            → self.new ≡ record self.old { applies = called self.old.applies } }
+    {
+        if self.call_apply(changes.as_slice()) {
+            return Err(KvError::Failed);
         }
+        self.make(changes)?;
         Ok(())
     }
 

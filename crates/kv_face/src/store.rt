@@ -61,6 +61,33 @@ pub trait KvStore: Drop {
         ensures count_err { OnErr result ((seen self.new).changes ≡ (seen self.old).changes) }
         ensures cause { IsToldExactly ((seen self.old).faults) ((seen self.new).faults) (IsErrOf result KvError.Failed) };
 
+    /// Makes all changes as `apply` does, and takes them, so that a store which keeps their bytes need not copy them.
+    ///
+    /// # Errors
+    /// Those of `apply`.
+    fn apply_owned(&mut self, changes: Vec<Change>) -> Result<(), KvError>
+        requires keys { All (λ (c : Change). takes ((seen self.old).names) c.key ≡ true) changes.items }
+        requires distinct { IsDistinct bytes_eq (keys_of changes.items) }
+        requires together { are_together ((seen self.old).prefixes) changes.items 0 ≡ true }
+        ensures done { OnOk result (IfSome ((seen self.old).contents)
+            (λ m. (seen self.new).contents ≡ Some (after m changes.items))) }
+        ensures err { OnErr result ((seen self.new).contents ≡ (seen self.old).contents) }
+        ensures prefixes { (seen self.new).prefixes ≡ (seen self.old).prefixes }
+        ensures names { (seen self.new).names ≡ (seen self.old).names }
+        ensures opens { (result ≡ Err KvError.Memory → ⊥) → 0 < length changes.items
+            → (seen self.new).standing ≡ opened }
+        ensures standing_memory { result ≡ Err KvError.Memory → ((seen self.new).standing ≡ (seen self.old).standing)
+            ⊎ ((seen self.new).standing ≡ opened) }
+        ensures standing_none { length changes.items ≡ 0 → (seen self.new).standing ≡ (seen self.old).standing }
+        ensures one_more { OnOk result (0 < length changes.items
+            → OneMore ((seen self.old).changes) ((seen self.new).changes)) }
+        ensures count_none { length changes.items ≡ 0 → (seen self.new).changes ≡ (seen self.old).changes }
+        ensures count_err { OnErr result ((seen self.new).changes ≡ (seen self.old).changes) }
+        ensures cause { IsToldExactly ((seen self.old).faults) ((seen self.new).faults) (IsErrOf result KvError.Failed) }
+    {
+        self.apply(changes.as_slice())
+    }
+
     /// Ends the work on the store.
     ///
     /// # Errors

@@ -192,5 +192,5 @@ pub one_mount_at : (parts : List Part) (i : ℕ) (p : Part) (c : Change) (cs : L
 one_mount_at parts i p c [] are less is some first e all = absurd (omega arith)
 one_mount_at parts i p c (d ∷ ds) are less is some first e all = one_mount parts i p d ds are less is (ap (λ (r : Change). begins p.name r.key) (sym first) ∙ e) all
 
-pub not_empty : (cs : List Change) → (length cs == 0) ≡ false → 0 < length cs
-not_empty cs e = grind (arith, nat_tests)
+pub more_than_none : (n : ℕ) → (n == 0) ≡ false → 0 < n
+more_than_none n e = grind (arith, nat_tests)

@@ -21,6 +21,10 @@ impl KvStore for BoxedStore {
         self.store.apply(changes)
     }
 
+    fn apply_owned(&mut self, changes: Vec<Change>) -> Result<(), KvError> {
+        self.store.apply_owned(changes)
+    }
+
     fn finish(&mut self) -> Result<(), Failed> {
         self.store.finish()
     }

@@ -88,14 +88,14 @@ impl<K: KvStore> Mount<K> {
     }
 
     // Makes changes below the mount, or none.
-    pub(crate) fn apply(&mut self, alloc: Global, changes: &[Change]) -> Result<(), KvError>
-        requires some { 0 < length changes.now }
+    pub(crate) fn apply(&mut self, alloc: Global, changes: Vec<Change>) -> Result<(), KvError>
+        requires some { 0 < length changes.items }
         requires few { length self.old.name ≤ 64 }
         requires every { self.old.names ≡ None }
-        requires one { AreOneMounts self.old changes.now }
-        requires distinct { IsDistinct bytes_eq (keys_of changes.now) }
+        requires one { AreOneMounts self.old changes.items }
+        requires distinct { IsDistinct bytes_eq (keys_of changes.items) }
         ensures done { OnOk result (IfSome self.old.contents
-            (λ m. self.new.contents ≡ Some (after m (shortened self.old.name changes.now)))) }
+            (λ m. self.new.contents ≡ Some (after m (shortened self.old.name changes.items)))) }
         ensures err { OnErr result (self.new.contents ≡ self.old.contents) }
         ensures kept { self.new ≡ record self.old {
           contents = self.new.contents;
@@ -111,7 +111,7 @@ impl<K: KvStore> Mount<K> {
         ensures cause { IsToldExactly self.old.faults self.new.faults (IsErrOf result KvError.Failed) }
     {
         let changes = shorter(alloc, self.name.items(), changes)?;
-        self.store.apply(changes.as_slice())
+        self.store.apply_owned(changes)
     }
 
     // Finishes the store, and says whether that failed.

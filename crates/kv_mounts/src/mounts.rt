@@ -1,20 +1,21 @@
 ghost use Rattle.std.specs.Prelude.{◌≡◌, ◌≤◌, ◌<◌, ℕ, Some, None, IfSome, length, false, true, is_err, [], slice_index_or};
 ghost use Rattle.std.specs.List.{list_any};
 ghost use Rattle.std.specs.Str.{bytes_eq};
+ghost use Rattle.kv_face.specs.declared.change.Change.{Change as ChangeOf};
 ghost use Rattle.kv_mounts.specs.Finish.{AreFinished, failed_places};
 ghost use Rattle.kv_mounts.specs.Parts.{AreMounts, Part, begins, names_of};
 ghost use Rattle.kv_mounts.specs.Union.{has_failed};
 
 use crate::failed::FinishList;
 use crate::mount::Mount;
-use kv_face::{Change, Failed, KvError, KvStore};
+use kv_face::{Change, Failed, KvError, KvStore, copy_changes};
 use std::alloc::Global;
 use std::marker::Model;
 
 /// Several stores as one: the key `NAME/REST` is `REST` in the store that is mounted under `NAME`.
 ///
-/// A call goes to one store; it costs by the number of mounts, and not by the number of keys. `apply` takes memory, since it
-/// copies the changes under their shorter keys.
+/// A call goes to one store; it costs by the number of mounts, and not by the number of keys. Changes take memory, since each gets its
+/// shorter key; their bytes are copied by `apply`, and moved by `apply_owned`.
 #[derive(Drop)]
 pub struct Mounts<K: KvStore> {
     alloc: Global,
@@ -97,6 +98,17 @@ fn place_of<K: KvStore>(list: &[Mount<K>], key: &str) -> Option<usize>
     None
 }
 
+// The place of the mount below which the key of the first of some changes lies.
+fn place_of_first<K: KvStore>(list: &[Mount<K>], changes: &[Change]) -> Option<usize>
+    requires { 0 < length changes.now }
+    ensures found { IfSome result (λ i. (i < length list.now) × ((first : ChangeOf) × (first ≡ slice_index_or changes.now 0 first)
+        × ((d : Part) → begins (slice_index_or list.now i d).name first.key ≡ true))) }
+    ensures none { result ≡ None → (first : ChangeOf) × (first ≡ slice_index_or changes.now 0 first)
+        × (list_any (λ (p : Part). begins p.name first.key) list.now ≡ false) }
+{
+    place_of(list, changes[0].key.items())
+}
+
 // Finishes each store.
 fn finish_into<K: KvStore>(mounts: &mut [Mount<K>], list: &mut FinishList)
     requires empty { list.old.places ≡ [] }
@@ -149,10 +161,15 @@ impl<K: KvStore> KvStore for Mounts<K> {
     }
 
     fn apply(&mut self, changes: &[Change]) -> Result<(), KvError> {
+        let changes = copy_changes(self.alloc, changes)?;
+        self.apply_owned(changes)
+    }
+
+    fn apply_owned(&mut self, changes: Vec<Change>) -> Result<(), KvError> {
         if changes.is_empty() {
             return Ok(());
         }
-        let Some(place) = place_of(self.list.as_slice(), changes[0].key.items()) else {
+        let Some(place) = place_of_first(self.list.as_slice(), changes.as_slice()) else {
             unreachable!();
         };
         let alloc = self.alloc;

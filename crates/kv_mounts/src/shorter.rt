@@ -2,19 +2,19 @@
 ghost use Rattle.std.specs.Prelude.{◌≡◌, ◌≤◌, IfOk, length, true};
 ghost use Rattle.kv_mounts.specs.Parts.{all_below, begins, behind, shortened};
 
-use cells::{List, Name};
+use cells::Name;
 use kv_face::Change;
 use std::alloc::{AllocError, Global};
 
-/// Copies of changes, each under the key that is behind the name.
+/// Changes, each under the key that is behind the name.
 pub(crate) fn shorter(
     alloc: Global,
     name: &str,
-    changes: &[Change],
+    changes: Vec<Change>,
 ) -> Result<Vec<Change>, AllocError>
     requires few { length name.now ≤ 64 }
-    requires below { all_below name.now changes.now 0 ≡ true }
-    ensures { IfOk result (λ all. all.items ≡ shortened name.now changes.now) }
+    requires below { all_below name.now changes.items 0 ≡ true }
+    ensures { IfOk result (λ all. all.items ≡ shortened name.now changes.items) }
 {
     let mut all = Vec::with_capacity(alloc, changes.len())?;
     for change in changes {
@@ -23,13 +23,23 @@ pub(crate) fn shorter(
     Ok(all)
 }
 
-fn shorter_one(alloc: Global, name: &str, change: &Change) -> Result<Change, AllocError>
+fn shorter_one(alloc: Global, name: &str, change: Change) -> Result<Change, AllocError>
     requires few { length name.now ≤ 64 }
-    requires below { begins name.now change.now.key ≡ true }
-    ensures { IfOk result (λ c. c ≡ record { key = behind name.now change.now.key; bytes = change.now.bytes }) }
+    requires below { begins name.now change.key ≡ true }
+    ensures { IfOk result (λ c. c ≡ record { key = behind name.now change.key; bytes = change.bytes }) }
 {
-    let bytes = copy(alloc, &change.bytes)?;
-    under(alloc, behind(name, change.key.items()), bytes)
+    let Change { key, bytes } = change;
+    let key = rest_of(alloc, name, key)?;
+    Ok(Change { key, bytes })
+}
+
+fn rest_of(alloc: Global, name: &str, key: Name) -> Result<Name, AllocError>
+    requires few { length name.now ≤ 64 }
+    requires below { begins name.now key ≡ true }
+    ensures { IfOk result (λ k. k ≡ behind name.now key) }
+{
+    let rest = String::from_str(alloc, behind(name, key.items()))?;
+    Ok(Name::wrap(rest))
 }
 
 // What is behind the name and the slash.
@@ -39,20 +49,4 @@ pub(crate) fn behind<'a>(name: &str, key: &'a str) -> &'a str
     ensures { result.now ≡ behind name.now key.now }
 {
     &key[name.len() + 1..]
-}
-
-fn copy(alloc: Global, bytes: &Option<List<u8>>) -> Result<Option<List<u8>>, AllocError>
-    ensures { IfOk result (λ b. b ≡ bytes.now) }
-{
-    match bytes {
-        Some(bytes) => Ok(Some(List::wrap(Vec::from_slice(alloc, bytes.items())?))),
-        None => Ok(None),
-    }
-}
-
-fn under(alloc: Global, key: &str, bytes: Option<List<u8>>) -> Result<Change, AllocError>
-    ensures { IfOk result (λ c. c ≡ record { key = key.now; bytes = bytes }) }
-{
-    let key = Name::wrap(String::from_str(alloc, key)?);
-    Ok(Change { key, bytes })
 }

@@ -36,6 +36,13 @@ impl<R: Files + AllocGlobal + Drop> KvStore for Store<R> {
         }
     }
 
+    fn apply_owned(&mut self, changes: Vec<Change>) -> Result<(), KvError> {
+        match self {
+            Store::Memory(store) => store.apply_owned(changes),
+            Store::Files(store) => store.apply_owned(changes),
+        }
+    }
+
     fn finish(&mut self) -> Result<(), Failed> {
         match self {
             Store::Memory(store) => store.finish(),

@@ -13,7 +13,7 @@ ghost use Rattle.state_laws.specs.Fetches.{HasFailed};
 use crate::state::State;
 use cells::Name;
 use kv_face::{Change, KvError, KvStore};
-use state_laws::{ChangeError, Deed, apply, enter_commit, prepare_all};
+use state_laws::{ChangeError, Deed, apply_owned, enter_commit, prepare_all};
 use std::alloc::AllocError;
 
 impl<K: KvStore> State<K> {
@@ -38,10 +38,15 @@ impl<K: KvStore> State<K> {
     /// # Errors
     /// `StoreFailed` where the store failed, which one event more tells; `Memory` where the store wanted memory. Nothing was
     /// changed then, and no memory is wanted besides.
-    pub fn commit(&mut self, owner: u32, deed: Deed, changes: &[Change]) -> Result<u64, ChangeError>
+    pub fn commit(
+        &mut self,
+        owner: u32,
+        deed: Deed,
+        changes: Vec<Change>,
+    ) -> Result<u64, ChangeError>
         requires agrees { IsState (K.seen self.old.store) self.old.log }
         requires deed { IsDeed self.old.log owner deed }
-        requires made { AreMade (K.seen self.old.store) changes.now }
+        requires made { AreMade (K.seen self.old.store) changes.items }
         requires known { AllByRecursion (λ (c : HeldCellsOf).
             IsSome (known_after self.old.log.events c.array)) deed.cells.items }
         requires room { 0 < self.old.spare.events }
@@ -49,24 +54,29 @@ impl<K: KvStore> State<K> {
         ensures number { IfOk result (λ n. n ≡ length self.old.log.events + 1) }
         ensures after { OnOk result (self.new.log ≡ committed self.old.log owner deed) }
         ensures done { OnOk result ((m : Contents) → (K.seen self.old.store).contents ≡ Some m
-            → (K.seen self.new.store).contents ≡ Some (after m changes.now)) }
+            → (K.seen self.new.store).contents ≡ Some (after m changes.items)) }
         ensures failed { (event : ℕ) → result ≡ Err (ChangeError.StoreFailed event)
             → HasFailed owner deed.mount (K.seen self.old.store)
             (K.seen self.new.store) self.old.log self.new.log event }
         ensures memory { result ≡ Err ChangeError.Memory → self.new.log ≡ self.old.log }
         ensures quiet { OnErr result (IsQuiet (K.seen self.old.store) (K.seen self.new.store)) }
         ensures frame { IsFrame (K.seen self.old.store) (K.seen self.new.store) }
-        ensures kept { KeepsByDeed (K.seen self.old.store) self.old.log owner deed changes.now
+        ensures kept { KeepsByDeed (K.seen self.old.store) self.old.log owner deed changes.items
             (K.seen self.new.store) self.new.log }
-        ensures uncalled { length changes.now ≡ 0 → IsOk result × (self.new.store ≡ self.old.store) }
+        ensures uncalled { length changes.items ≡ 0 → IsOk result × (self.new.store ≡ self.old.store) }
         ensures room { self.old.spare.events ≤ self.new.spare.events + 1 }
         ensures prepared { KeepsPrepared self.old.spare.prepared self.new.spare.prepared }
     {
         self.make_deed(owner, deed, changes)
     }
 
-    fn make_deed(&mut self, owner: u32, deed: Deed, changes: &[Change]) -> Result<u64, ChangeError>
-        requires made { AreMade (K.seen self.old.store) changes.now }
+    fn make_deed(
+        &mut self,
+        owner: u32,
+        deed: Deed,
+        changes: Vec<Change>,
+    ) -> Result<u64, ChangeError>
+        requires made { AreMade (K.seen self.old.store) changes.items }
         requires known { AllByRecursion (λ (c : HeldCellsOf).
             IsSome (known_after self.old.log.events c.array)) deed.cells.items }
         requires room { 0 < self.old.spare.events }
@@ -74,10 +84,10 @@ impl<K: KvStore> State<K> {
         ensures number { IfOk result (λ n. n ≡ length self.old.log.events + 1) }
         ensures after { OnOk result (self.new.log ≡ committed self.old.log owner deed) }
         ensures done { OnOk result ((m : Contents) → (K.seen self.old.store).contents ≡ Some m
-            → (K.seen self.new.store).contents ≡ Some (after m changes.now)) }
-        ensures one_more { OnOk result (0 < length changes.now
+            → (K.seen self.new.store).contents ≡ Some (after m changes.items)) }
+        ensures one_more { OnOk result (0 < length changes.items
             → OneMore ((K.seen self.old.store).changes) ((K.seen self.new.store).changes)) }
-        ensures none { OnOk result (length changes.now ≡ 0
+        ensures none { OnOk result (length changes.items ≡ 0
             → (K.seen self.new.store).changes ≡ (K.seen self.old.store).changes) }
         ensures failed { (event : ℕ) → result ≡ Err (ChangeError.StoreFailed event)
             → HasFailed owner deed.mount (K.seen self.old.store)
@@ -85,11 +95,11 @@ impl<K: KvStore> State<K> {
         ensures memory { result ≡ Err ChangeError.Memory → self.new.log ≡ self.old.log }
         ensures quiet { OnErr result (IsQuiet (K.seen self.old.store) (K.seen self.new.store)) }
         ensures frame { IsFrame (K.seen self.old.store) (K.seen self.new.store) }
-        ensures uncalled { length changes.now ≡ 0 → IsOk result × (self.new.store ≡ self.old.store) }
+        ensures uncalled { length changes.items ≡ 0 → IsOk result × (self.new.store ≡ self.old.store) }
         ensures room { self.old.spare.events ≤ self.new.spare.events + 1 }
         ensures prepared { KeepsPrepared self.old.spare.prepared self.new.spare.prepared }
     {
-        match apply(&mut self.store, changes) {
+        match apply_owned(&mut self.store, changes) {
             Ok(()) => Ok(enter_commit(&mut self.records, owner, deed)),
             Err(KvError::Failed) => {
                 let event = self.records.add_fault(owner, deed.mount);

@@ -28,6 +28,25 @@ pub fn apply<K: KvStore>(store: &mut K, changes: &[Change]) -> Result<(), KvErro
     store.apply(changes)
 }
 
+/// The same of changes that the store may keep.
+pub fn apply_owned<K: KvStore>(store: &mut K, changes: Vec<Change>) -> Result<(), KvError>
+    requires { AreMade (K.seen store.old) changes.items }
+    ensures done { OnOk result ((m : Contents) → (K.seen store.old).contents ≡ Some m
+        → (K.seen store.new).contents ≡ Some (after m changes.items)) }
+    ensures one_more { OnOk result (0 < length changes.items
+        → OneMore ((K.seen store.old).changes) ((K.seen store.new).changes)) }
+    ensures none { length changes.items ≡ 0 → (K.seen store.new).changes ≡ (K.seen store.old).changes }
+    ensures uncalled { length changes.items ≡ 0 → IsOk result × (store.new ≡ store.old) }
+    ensures quiet { OnErr result (IsQuiet (K.seen store.old) (K.seen store.new)) }
+    ensures frame { IsFrame (K.seen store.old) (K.seen store.new) }
+    ensures failed { result ≡ Err KvError.Failed → (K.seen store.old).faults < (K.seen store.new).faults }
+{
+    if changes.is_empty() {
+        return Ok(());
+    }
+    store.apply_owned(changes)
+}
+
 // Looks at each key as a text, by which the contract knows that a character begins at its first byte.
 fn are_texts(changes: &[Change])
     ensures { All (λ (c : ChangeOf). IsCharBoundary c.key 0) changes.now }

@@ -26,7 +26,7 @@ mod reading;
 mod records;
 mod writing;
 
-pub use applying::{apply, together};
+pub use applying::{apply, apply_owned, together};
 pub use array_homes::{
     Decided, MetaCause, OpeningRefusal, array_ref, chunk_key, decode, is_chunk_name, is_local,
     listed, local_number, metadata_change, metadata_key, mount_of,

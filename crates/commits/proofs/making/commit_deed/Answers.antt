@@ -22,4 +22,4 @@ returns-clause-kept g c =
     let seen = g.K.KvStore.seen in
     let next = seen c.commit.new.self.store in
     let later = c.commit.new.self.log in
-    subst (λ (st : StateOf g.row.K.Denot). KeepsByDeed (seen st.store) st.log c.args.owner c.args.deed c.args.changes.now next later) c.make_room.ensures.same c.commit.ensures.kept
+    subst (λ (st : StateOf g.row.K.Denot). KeepsByDeed (seen st.store) st.log c.args.owner c.args.deed c.args.changes.items next later) c.make_room.ensures.same c.commit.ensures.kept

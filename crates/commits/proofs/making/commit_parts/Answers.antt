@@ -50,7 +50,7 @@ keep_left-requires-clause-agrees g c =
         c.commit_deed.ensures.kept state.0 state.1.0
             (λ start told.
             let by = state.1.1 start told in
-            subst (IsRightBy start log c.args.owner deed) (sym (c.deref.ensures.value ∙ parts.2.changes))
+            subst (IsRightBy start log c.args.owner deed) (sym parts.2.changes)
             (plans_right state.0 (seen c.args.state.now.store) log c.args.owner deed parts.0 state.1.0 parts.2.keys parts.2.cells parts.1 start by.each by.legal by.counted)),
         subst (λ n. AllByRecursion (MayKeep state.0 later n) c.args.parts.left.items) (sym c.in-Ok.ensures.number)
             (subst (AllByRecursion (MayKeep state.0 later (length log.events + 1))) (sym parts.2.left)
@@ -72,17 +72,17 @@ returns-in-Ok-clause-kept g c plans are of opening agrees right =
     (c.commit_deed.ensures.kept opening agrees
     (λ start told.
     let by = right start told in
-    subst (IsRightBy start log c.args.owner deed) (sym (c.deref.ensures.value ∙ of.changes)) (plans_right opening (seen c.args.state.now.store) log c.args.owner deed plans agrees of.keys of.cells are start by.each by.legal by.counted)))
+    subst (IsRightBy start log c.args.owner deed) (sym of.changes) (plans_right opening (seen c.args.state.now.store) log c.args.owner deed plans agrees of.keys of.cells are start by.each by.legal by.counted)))
     (subst (λ n. AllByRecursion (MayKeep opening later n) c.args.parts.left.items) (sym c.in-Ok.ensures.number)
     (subst (AllByRecursion (MayKeep opening later (length log.events + 1))) (sym of.left)
     (may_left log later e (ap (λ (l : Log). l.events) c.in-Ok.ensures.after) (known_after-more log.events e) opening plans are.each (λ start told. (right start told).each))))
 
-pub returns-clause-kept : goal.returns-clause-kept
-returns-clause-kept g c plans are of opening agrees right =
+pub returns-in-Err-clause-kept : goal.returns-in-Err-clause-kept
+returns-in-Err-clause-kept g c plans are of opening agrees right =
     let seen = g.K.KvStore.seen in
     let log = c.args.state.now.log in
     let deed = deed_of c.args.mount c.args.commit c.args.parts in
     c.commit_deed.ensures.kept opening agrees
     (λ start told.
     let by = right start told in
-    subst (IsRightBy start log c.args.owner deed) (sym (c.deref.ensures.value ∙ of.changes)) (plans_right opening (seen c.args.state.now.store) log c.args.owner deed plans agrees of.keys of.cells are start by.each by.legal by.counted))
+    subst (IsRightBy start log c.args.owner deed) (sym of.changes) (plans_right opening (seen c.args.state.now.store) log c.args.owner deed plans agrees of.keys of.cells are start by.each by.legal by.counted))

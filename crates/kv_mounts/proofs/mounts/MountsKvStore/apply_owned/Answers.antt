@@ -8,18 +8,19 @@ use Rattle.kv_mounts.specs.Parts.{Part, AreOneMounts, names_of, begins}
 use Rattle.kv_mounts.specs.Union.{union_of, prefixes_of, change_count_of, standing_of}
 use Rattle.kv_mounts.proofs.UnionLaws.{after_changes}
 use Rattle.kv_mounts.proofs.Kept.{Changes, any_names, few_at, AreMounts-set, union_of-set, prefixes_of-set, names_of-kept, standing_of-opened, standing_either, change_count_of-set, one_more, err_weaker}
-use Rattle.kv_mounts.proofs.Together.{one_mount_at, not_empty}
-use Rattle.kv_mounts.proofs.mounts.MountsKvStore.apply.Goals as goal
+use Rattle.kv_mounts.proofs.Together.{one_mount_at, more_than_none}
+use Rattle.kv_mounts.proofs.mounts.MountsKvStore.apply_owned.Goals as goal
 
 pub unreachable-requires : goal.unreachable-requires
 unreachable-requires g c =
-    let key = c.items.result.now in
-    let first : Change = get_or c.args.changes.now 0 c.index-changes-0.result in
-    let some : 0 < length c.args.changes.now = omega (arith, not_empty c.args.changes.now (sym c.is_empty.ensures ∙ c.if-is_empty.false)) in
-    let none : list_any (λ (p : Part). begins p.name key) c.args.self.now ≡ false =
-    ap (λ (ps : List Part). list_any (λ (p : Part). begins p.name key) ps) (sym (c.as_slice.ensures.value ∙ c.self.view_is)) ∙ c.place_of.ensures.none c.in_default.is in
-    let taken : list_any (λ n. begins n first.key) (names_of c.args.self.now) ≡ true = c.requires.keys 0 c.index-changes-0.result some in
-    let wrong : true ≡ false = sym taken ∙ ap (λ (k : List ℕ). list_any (λ n. begins n k) (names_of c.args.self.now)) (sym c.items.ensures) ∙ any_names (λ n. begins n key) c.args.self.now ∙ none in
+    let found = c.place_of_first.ensures.none c.in_default.is in
+    let first : Change = found.0 in
+    let at : first ≡ get_or c.args.changes.items 0 first = found.1 ∙ ap (λ (cs : List Change). get_or cs 0 first) c.as_slice-2.ensures.value in
+    let some : 0 < length c.args.changes.items = omega (arith, more_than_none _ (sym c.is_empty.ensures ∙ c.if-is_empty.false), c.args.changes.ok) in
+    let none : list_any (λ (p : Part). begins p.name first.key) c.args.self.now ≡ false =
+    ap (λ (ps : List Part). list_any (λ (p : Part). begins p.name first.key) ps) (sym (c.as_slice.ensures.value ∙ c.self.view_is)) ∙ found.2 in
+    let taken : list_any (λ n. begins n (get_or c.args.changes.items 0 first).key) (names_of c.args.self.now) ≡ true = c.requires.keys 0 first some in
+    let wrong : true ≡ false = sym taken ∙ ap (λ (r : Change). list_any (λ n. begins n r.key) (names_of c.args.self.now)) (sym at) ∙ any_names (λ n. begins n first.key) c.args.self.now ∙ none in
     cc wrong
 
 pub apply-requires-clause-few : goal.apply-requires-clause-few
@@ -36,14 +37,15 @@ apply-requires-clause-one g c =
     let i = c.in-Some.place in
     let p = c.index_mut.result.now in
     let less : i < length old = omega (arith, c.in-Some.ensures.found.0, ap length c.as_slice.ensures.value) in
-    let first = c.index-changes-0.result in
-    let key : c.items.result.now ≡ first.key = c.items.ensures ∙ ap (λ (r : Change). r.key) (sym c.index-changes-0.is) in
+    let found = c.in-Some.ensures.found.1 in
+    let first : Change = found.0 in
+    let at : first ≡ get_or c.args.changes.items 0 first = found.1 ∙ ap (λ (cs : List Change). get_or cs 0 first) c.as_slice-2.ensures.value in
     let begun : begins p.name first.key ≡ true =
-    ap (begins p.name) (sym key) ∙ ap (λ (r : Part). begins r.name c.items.result.now) (c.index_mut.ensures.value ∙ ap (λ (ps : List Part). get_or ps i p) (sym c.as_slice.ensures.value)) ∙ c.in-Some.ensures.found.1 p in
-    let some : 0 < length c.args.changes.now = omega (arith, not_empty c.args.changes.now (sym c.is_empty.ensures ∙ c.if-is_empty.false)) in
-    let one : AreOneMounts p c.args.changes.now =
-    one_mount_at old i p first c.args.changes.now c.self.invariant less c.index_mut.ensures.value some c.index-changes-0.is begun
-    (ap (λ (ps : List Part). are_together (prefixes_of ps) c.args.changes.now 0) c.self.view_is ∙ c.requires.together) in
+    ap (λ (r : Part). begins r.name first.key) (c.index_mut.ensures.value ∙ ap (λ (ps : List Part). get_or ps i p) (sym c.as_slice.ensures.value)) ∙ found.2 p in
+    let some : 0 < length c.args.changes.items = omega (arith, more_than_none _ (sym c.is_empty.ensures ∙ c.if-is_empty.false), c.args.changes.ok) in
+    let one : AreOneMounts p c.args.changes.items =
+    one_mount_at old i p first c.args.changes.items c.self.invariant less c.index_mut.ensures.value some at begun
+    (ap (λ (ps : List Part). are_together (prefixes_of ps) c.args.changes.items 0) c.self.view_is ∙ c.requires.together) in
     one
 
 pub invariant_of-self : goal.invariant_of-self
@@ -66,17 +68,18 @@ returns-clause-done g c =
     let q = c.apply.new.self in
     let kept = c.apply.ensures.kept in
     let changes : Changes old i p q = record { there = less; is = c.index_mut.ensures.value; name = ap (λ (r : Part). r.name) kept; names = ap (λ (r : Part). r.names) kept; prefixes = ap (λ (r : Part). r.prefixes) kept } in
-    let first = c.index-changes-0.result in
-    let key : c.items.result.now ≡ first.key = c.items.ensures ∙ ap (λ (r : Change). r.key) (sym c.index-changes-0.is) in
+    let found = c.in-Some.ensures.found.1 in
+    let first : Change = found.0 in
+    let at : first ≡ get_or c.args.changes.items 0 first = found.1 ∙ ap (λ (cs : List Change). get_or cs 0 first) c.as_slice-2.ensures.value in
     let begun : begins p.name first.key ≡ true =
-    ap (begins p.name) (sym key) ∙ ap (λ (r : Part). begins r.name c.items.result.now) (c.index_mut.ensures.value ∙ ap (λ (ps : List Part). get_or ps i p) (sym c.as_slice.ensures.value)) ∙ c.in-Some.ensures.found.1 p in
-    let some : 0 < length c.args.changes.now = omega (arith, not_empty c.args.changes.now (sym c.is_empty.ensures ∙ c.if-is_empty.false)) in
-    let one : AreOneMounts p c.args.changes.now =
-    one_mount_at old i p first c.args.changes.now c.self.invariant less c.index_mut.ensures.value some c.index-changes-0.is begun
-    (ap (λ (ps : List Part). are_together (prefixes_of ps) c.args.changes.now 0) c.self.view_is ∙ c.requires.together) in
+    ap (λ (r : Part). begins r.name first.key) (c.index_mut.ensures.value ∙ ap (λ (ps : List Part). get_or ps i p) (sym c.as_slice.ensures.value)) ∙ found.2 p in
+    let some : 0 < length c.args.changes.items = omega (arith, more_than_none _ (sym c.is_empty.ensures ∙ c.if-is_empty.false), c.args.changes.ok) in
+    let one : AreOneMounts p c.args.changes.items =
+    one_mount_at old i p first c.args.changes.items c.self.invariant less c.index_mut.ensures.value some at begun
+    (ap (λ (ps : List Part). are_together (prefixes_of ps) c.args.changes.items 0) c.self.view_is ∙ c.requires.together) in
     on_ok_weaker c.apply.result
-    (λ h. subst (λ (ps : List Part). IfSome (union_of ps) (λ m. union_of (set old i q) ≡ Some (after m c.args.changes.now))) c.self.view_is
-    (after_changes old i p q c.args.changes.now c.self.invariant less c.index_mut.ensures.value changes.name one.below h))
+    (λ h. subst (λ (ps : List Part). IfSome (union_of ps) (λ m. union_of (set old i q) ≡ Some (after m c.args.changes.items))) c.self.view_is
+    (after_changes old i p q c.args.changes.items c.self.invariant less c.index_mut.ensures.value changes.name one.below h))
     c.apply.ensures.done
 
 pub returns-clause-err : goal.returns-clause-err
