@@ -21,3 +21,4 @@ pub use lists::has_few_lists;
 pub use ok::is_ok;
 pub use rendering::render;
 pub use spec_open::BuildCause;
+pub use transform_json::transform_has_few_lists;

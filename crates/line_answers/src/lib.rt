@@ -7,6 +7,6 @@
 mod causes;
 mod refusing;
 
-pub use answer_text::{Answer, Body};
+pub use answer_text::{Answer, Body, has_few_lists, transform_has_few_lists};
 pub use causes::{bad_metadata, damaged};
 pub use refusing::refusal;

@@ -23,7 +23,9 @@ ghost use Rattle.stack_driver.specs.declared.view.View.{View as ViewOf};
 
 use cells::Name;
 use kv_face::KvStore;
-use session_turns::{Body, Names, State, Txn, bound_with, bounds_in_turn, named};
+use session_turns::{
+    Body, Names, State, Txn, bound_with, bounds_in_turn, named, transform_has_few_lists,
+};
 use stack_driver::{RenewError, View, array_of, dtype, renew, transform_of};
 use std::alloc::{AllocError, Global};
 use std::sync::Wait;
@@ -162,6 +164,9 @@ fn bound(alloc: Global, names: &mut Names, name: &str, view: View) -> Body
 fn resolved_body(alloc: Global, name: &str, view: &View) -> Result<Body, AllocError>
     ensures { IfOk result (λ b. b ≡ Resolved name.now (look_of view.now).dtype (own_transform view.now)) }
 {
+    if !transform_has_few_lists(transform_of(view)) {
+        return Err(AllocError);
+    }
     let transform = transform_of(view).copy(alloc)?;
     let name = String::from_str(alloc, name)?;
     Ok(Body::Resolved {

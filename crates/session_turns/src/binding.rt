@@ -7,11 +7,11 @@ ghost use Rattle.stack_driver.specs.Views.{look_of, own_transform};
 
 use crate::names::{Names, bind};
 use cells::Name;
-use line_answers::Body;
+use line_answers::{Body, transform_has_few_lists};
 use stack_driver::{View, dtype, transform_of};
 use std::alloc::{AllocError, Global};
 
-/// Binds a name to a view, and answers that it is.
+/// Binds a name to a view, and answers that it is; want of memory where its transform takes too many lists to be written.
 pub fn bound(alloc: Global, names: &mut Names, name: &str, view: View) -> Body
     ensures { IsBoundAs (Viewed name.now (look_of view).dtype (own_transform view))
         (get_by_text names.old) name.now view (get_by_text names.new) result }
@@ -36,6 +36,9 @@ pub fn bound_with(alloc: Global, names: &mut Names, name: &str, view: View, body
 fn viewed_body(alloc: Global, name: &str, view: &View) -> Result<Body, AllocError>
     ensures { IfOk result (λ b. b ≡ Viewed name.now (look_of view.now).dtype (own_transform view.now)) }
 {
+    if !transform_has_few_lists(transform_of(view)) {
+        return Err(AllocError);
+    }
     let transform = transform_of(view).copy(alloc)?;
     let name = String::from_str(alloc, name)?;
     Ok(Body::Viewed {

@@ -15,7 +15,9 @@ mod turns;
 pub use asked::Asked;
 pub use binding::{bound, bound_with};
 pub use cell_faults::{counted, fault_body};
-pub use line_answers::{Answer, Body, bad_metadata, damaged, refusal};
+pub use line_answers::{
+    Answer, Body, bad_metadata, damaged, has_few_lists, refusal, transform_has_few_lists,
+};
 pub use names::{Names, named, unknown};
 pub use state_resizes::{Bounds, OpenError, Opened, ResizeError};
 pub use transactions::{

@@ -29,13 +29,15 @@ ghost use Rattle.transform_composition.specs.declared.error.ComposeError.TheVari
 ghost use Rattle.turn_book.specs.Passes.{IsIdle};
 
 use crate::writing::seen;
-use cells::{Index, List, Sizes, Words};
+use cells::{Dtype, Index, List, Sizes, Words};
 use downsample_view::down as downsampled;
 use history::Mode;
 use index_transform::size_of;
 use kv_face::KvStore;
 use line_meanings::DownWant;
-use session_turns::{Body, Gate, Names, ReadError, State, Txn, counted, damaged, fault_body};
+use session_turns::{
+    Body, Gate, Names, ReadError, State, Txn, counted, damaged, fault_body, has_few_lists,
+};
 use stack_driver::{View, dtype, transform_of};
 use std::alloc::{AllocError, Global};
 use std::sync::Wait;
@@ -284,13 +286,23 @@ fn fewer(alloc: Global, v: &View, want: &DownWant, words: &[u64]) -> Body
         want.factors.items(),
         want.method,
     ) {
-        Ok(d) => Body::Values {
-            origin: d.origin,
-            shape: d.shape,
-            dtype: dtype(v),
-            words: d.words,
-        },
+        Ok(d) => shown(d.origin, d.shape, dtype(v), d.words),
         Err(_) => Body::Memory,
+    }
+}
+
+// The answer with words, unless they have no cell and take too many lists to be written.
+fn shown(origin: Index, shape: Sizes, dtype: Dtype, words: Words) -> Body
+    ensures { (result ≡ printed.Values origin shape dtype words) ⊎ (result ≡ printed.Memory) }
+{
+    if !has_few_lists(shape.items()) {
+        return Body::Memory;
+    }
+    Body::Values {
+        origin,
+        shape,
+        dtype,
+        words,
     }
 }
 
@@ -298,12 +310,7 @@ fn whole(alloc: Global, v: &View, words: Words) -> Body
     ensures { (result ≡ body_of (values_body v.now None words)) ⊎ (result ≡ printed.Memory) }
 {
     match box_of(alloc, v) {
-        Ok(found) => Body::Values {
-            origin: found.origin,
-            shape: found.shape,
-            dtype: dtype(v),
-            words,
-        },
+        Ok(found) => shown(found.origin, found.shape, dtype(v), words),
         Err(_) => Body::Memory,
     }
 }

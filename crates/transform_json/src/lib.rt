@@ -16,4 +16,4 @@ mod write;
 
 pub use error::JsonError;
 pub use read::read_transform;
-pub use write::{write_domain, write_transform};
+pub use write::{transform_has_few_lists, write_domain, write_transform};

@@ -48,7 +48,7 @@ fn members_of_domain(alloc: Global, d: &Domain) -> Result<Map<String, Value>, Al
 ///
 /// # Errors
 /// An allocation failed; so it is, too, where an index array has more than 2^22 nested lists before a size of 0, of which
-/// a short line could ask for 2^42.
+/// a short line could ask for 2^42 (`transform_has_few_lists`).
 pub fn write_transform(alloc: Global, t: &Transform) -> Result<Value, AllocError>
     ensures value { IfOk result (λ v. view v ≡ transform_data t.now) }
     ensures plain { IfOk result (λ v. has_float (view v) ≡ false) }
@@ -278,7 +278,7 @@ fn indexed(
     ensures words { OnOk result (HasWords (OutMap.Indexed offset stride sizes.now entries.now)) }
     ensures few { OnOk result (cell_count (before_zero sizes.now) ≤ 4194304) }
 {
-    if !has_few_lists(sizes) {
+    if !are_few_lists(sizes) {
         return Err(AllocError);
     }
     let mut members = Map::new(alloc);
@@ -305,8 +305,39 @@ fn put_number(
     put(members, alloc, name, Value::from(number))
 }
 
+/// Whether each index array of a transform takes 2^22 nested lists at most before a size of 0. Else the transform isn't written.
+pub fn transform_has_few_lists(t: &Transform) -> bool
+    ensures few { IsTrue result → AllByRecursion HasFewLists t.now.maps }
+    ensures many { result ≡ false → ¬ (AllByRecursion HasFewLists t.now.maps) }
+{
+    have_few_lists(t.maps())
+}
+
+fn have_few_lists(maps: &[OutMap]) -> bool
+    ensures few { IsTrue result → AllByRecursion HasFewLists maps.now }
+    ensures many { result ≡ false → ¬ (AllByRecursion HasFewLists maps.now) }
+{
+    for one in maps {
+        if !takes_few_lists(one) {
+            return false;
+        }
+    }
+    true
+}
+
+fn takes_few_lists(one: &OutMap) -> bool
+    ensures few { IsTrue result → HasFewLists one.now }
+    ensures many { result ≡ false → ¬ (HasFewLists one.now) }
+{
+    match one {
+        OutMap::Indexed { sizes, .. } => are_few_lists(sizes.items()),
+        OutMap::Strided { .. } => true,
+        OutMap::Constant { .. } => true,
+    }
+}
+
 // Whether 2^22 lists at most stand before a size of 0.
-fn has_few_lists(sizes: &[u64]) -> bool
+fn are_few_lists(sizes: &[u64]) -> bool
     ensures { IsTrue result ↔ (cell_count (before_zero sizes.now) ≤ 4194304) }
 {
     count_cells(before_zero(sizes), MOST_ENTRIES).is_some()
