@@ -16,6 +16,7 @@ use Rattle.stack_driver.specs.declared.error.TargetError.{TargetError}
 use Rattle.stack_driver.specs.declared.view.View.{View, size_is-View, size-View, every_here-View}
 use Rattle.stack_driver.specs.declared.view.View.TheVariants as view
 use Rattle.stack_driver.proofs.Laws.{every_layer, every_base}
+use Rattle.stack_targets.specs.Axes.{LackIndex}
 use Rattle.stack_targets.specs.Landings.{Landing, Ground, ground_of, behind_leaves, last_landing, all_leaves, leaves_of, landing_of, IsLastLayer}
 use Rattle.stack_targets.proofs.Meeting.{agrees}
 
@@ -103,6 +104,29 @@ passed_one layers x k v h is hasnt found =
     ap (λ gs. last_landing 0 gs x found) (map_more ground_of layers k v h) ∙ last-more (map ground_of (take k layers)) (ground_of (get_or layers k v)) x found
     ∙ else_from (has_index (ground_of (get_or layers k v)).dims x) (behind_leaves (length (all_leaves (map ground_of (take k layers)))) (landing_of (get_or layers k v) x)) (last_landing 0 (map ground_of (take k layers)) x found)
     (ap (λ ds. has_index ds x) ((agrees (get_or layers k v)).dims) ∙ ap (λ w. has_index (look_of w).dims x) (sym is) ∙ hasnt)
+
+-- layers that don't have it leave what was found
+none_found : (before : ℕ) (layers : List View) (x : List ℤ) → ((k : ℕ) (d : View) → k < length layers → has_index (look_of (get_or layers k d)).dims x ≡ false)
+    → (found : Result Landing TargetError) → last_landing before (map ground_of layers) x found ≡ found
+none_found before [] x none found = refl
+none_found before (l ∷ ls) x none found =
+    ap (λ f. last_landing (before + length (leaves_of l)) (map ground_of ls) x f)
+    (else_from (has_index (ground_of l).dims x) (behind_leaves before (landing_of l x)) found (ap (λ ds. has_index ds x) (agrees l).dims ∙ none 0 l (omega arith)))
+    ∙ none_found (before + length (leaves_of l)) ls x (λ k d less. none (suc k) d (omega (arith, less))) found
+
+passed_behind : (before : ℕ) (layers : List View) (x : List ℤ) (n : ℕ) → ((k : ℕ) (d : View) → n ≤ k → k < length layers → has_index (look_of (get_or layers k d)).dims x ≡ false)
+    → (found : Result Landing TargetError) → last_landing before (map ground_of layers) x found ≡ last_landing before (map ground_of (take n layers)) x found
+passed_behind before [] x zero none found = refl
+passed_behind before [] x (suc n) none found = refl
+passed_behind before (l ∷ ls) x zero none found = none_found before (l ∷ ls) x (λ k d less. none k d (omega arith) less) found
+passed_behind before (l ∷ ls) x (suc n) none found =
+    passed_behind (before + length (leaves_of l)) ls x n (λ k d from inside. none (suc k) d (omega (arith, from)) (omega (arith, inside)))
+    (if has_index (ground_of l).dims x then behind_leaves before (landing_of l x) else found)
+
+-- layers from a place on that don't have it are passed
+pub passed_later : (layers : List View) (x : List ℤ) (n : ℕ) → LackIndex n layers x → (found : Result Landing TargetError)
+    → last_landing 0 (map ground_of layers) x found ≡ last_landing 0 (map ground_of (take n layers)) x found
+passed_later layers x n none found = passed_behind 0 layers x n none found
 
 -- where no domain has it no layer does
 pub none_lands : (x : List ℤ) → ((dims : List Bounds) → has_index dims x ≡ false) → (before : ℕ) (gs : List Ground) (found : Result Landing TargetError) → last_landing before gs x found ≡ found

@@ -6,5 +6,6 @@ pub mod Layers
 pub mod Reached
 pub mod Gathered
 pub mod Named
+pub mod AxisLaws
 pub mod NumberLaws
 pub mod Laws

@@ -43,7 +43,7 @@ inside-has_index (d ∷ ds) (x ∷ xs) k h =
     let p = both (is_member d x) (has_index ds xs) h in
     next_none (λ p. not (is_effective p.0 p.1)) k (d, x) (zip ds xs) (ap not (effective d x p.0)) (inside-has_index ds xs (k + 1) p.1)
 
-second_false : (a b : Bool) → b ≡ false → (a && b) ≡ false
+pub second_false : (a b : Bool) → b ≡ false → (a && b) ≡ false
 second_false true b isnt = isnt
 second_false false b isnt = refl
 

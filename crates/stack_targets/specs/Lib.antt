@@ -1,3 +1,4 @@
 pub mod Landings
 pub mod Buffers
+pub mod Axes
 pub mod Numberings

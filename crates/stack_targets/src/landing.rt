@@ -1,15 +1,17 @@
 // In which leaf a cell of a view lands, and at which index vector.
-ghost use Rattle.std.specs.Prelude.{◌≡◌, ◌≢◌, ◌<◌, false, true, None, Some, List, length, IsTrue, IfOk, IfErr, IfSome, OnOk};
+ghost use Rattle.std.specs.Prelude.{◌≡◌, ◌≢◌, ◌<◌, ◌≤◌, false, true, None, Some, List, length, IsTrue, IfOk, IfErr, IfSome, OnOk};
 ghost use Rattle.cells.specs.Shapes.{IsShape};
 ghost use Rattle.index_intervals.specs.Bounds.{Bounds};
 ghost use Rattle.index_transform.specs.Values.{value_at};
 ghost use Rattle.stack_driver.specs.Conditions.{IsView};
 ghost use Rattle.stack_driver.specs.Targets.{IsOutside, has_index, in_shape};
 ghost use Rattle.stack_driver.specs.Views.{look_of};
+ghost use Rattle.stack_targets.specs.Axes.{IsAxis, LackIndex};
 ghost use Rattle.stack_targets.specs.Landings.{IsInside, IsLastLayer, IsPut, first_landing, landing_of, leaves_of};
 ghost use Rattle.stack_targets.specs.Numberings.{numbering_of};
 
-use crate::numbering::{Numbering, below, first_leaf};
+use crate::axes::end_of;
+use crate::numbering::{Numbering, axis, below, first_leaf};
 use cells::LARGEST_RANK;
 use index_intervals::is_index;
 use index_transform::Transform;
@@ -37,7 +39,7 @@ pub(crate) fn land(
             let mut inner = [0i64; LARGEST_RANK];
             let (inner, _) = inner.split_at_mut(transform.maps().len());
             let layers = layers.items();
-            let Some(place) = covering(layers, transform, index, inner) else {
+            let Some(place) = covering(layers, axis(numbering), transform, index, inner) else {
                 return Err(TargetError::Uncovered);
             };
             match land(&layers[place], below(numbering, place), inner, numbers) {
@@ -51,10 +53,12 @@ pub(crate) fn land(
 // The last of a stack's layers that has the transform's value, which is put into the buffer.
 fn covering(
     layers: &[View],
+    axis: Option<usize>,
     transform: &Transform,
     index: &[i64],
     inner: &mut [i64],
 ) -> Option<usize>
+    requires axis { IfSome axis (IsAxis (length transform.now.maps) layers.now) }
     requires room { length inner.old ≡ length transform.now.maps }
     requires inside { IsTrue (has_index transform.now.domain.dims index.now) }
     ensures some { IfSome result (λ place. IsLastLayer layers.now (value_at transform.now index.now) (Some place)) }
@@ -64,7 +68,8 @@ fn covering(
     if !finite_values(transform, index, inner) {
         return None;
     }
-    last_with(layers, inner)
+    let end = end_of(layers, axis, inner);
+    last_with(layers, end, inner)
 }
 
 // Puts the numbers of a transform at an index vector of its domain into the buffer, as far as they are finite indices.
@@ -85,12 +90,14 @@ fn finite_values(transform: &Transform, index: &[i64], out: &mut [i64]) -> bool
     true
 }
 
-// The last of some layers whose domain has an index vector.
-fn last_with(layers: &[View], index: &[i64]) -> Option<usize>
+// The last of some layers whose domain has an index vector, where those behind an end don't have it.
+fn last_with(layers: &[View], end: usize, index: &[i64]) -> Option<usize>
+    requires end { end ≤ length layers.now }
+    requires behind { LackIndex end layers.now index.now }
     ensures { IsLastLayer layers.now index.now result }
 {
-    for behind in 0..layers.len() {
-        let place = layers.len() - 1 - behind;
+    for behind in 0..end {
+        let place = end - 1 - behind;
         if contains(&layers[place], index) {
             return Some(place);
         }

@@ -4,6 +4,7 @@
 //! told by its number, counted from left to right.
 #![tactic(auto)]
 
+mod axes;
 mod buffers;
 mod error;
 mod landing;

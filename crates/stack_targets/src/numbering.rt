@@ -1,9 +1,12 @@
 // How a view's leaves are numbered.
-ghost use Rattle.std.specs.Prelude.{◌≡◌, map, IfOk};
-ghost use Rattle.stack_targets.specs.Numberings.{first_in, firsts_from, layer_in, numbering_of, size_of, stack_of, total_from};
+ghost use Rattle.std.specs.Prelude.{◌≡◌, length, map, IfOk};
+ghost use Rattle.stack_targets.specs.Axes.{dims_of};
+ghost use Rattle.stack_targets.specs.Numberings.{axis_in, first_in, firsts_from, layer_in, numbering_of, size_of, stack_of, total_from};
 ghost use Rattle.stack_targets.specs.declared.numbering.Numbering.{out-Numbering};
 
+use crate::axes::axis_of;
 use cells::List;
+use index_transform::Transform;
 use stack_driver::View;
 use std::alloc::{AllocError, Global};
 
@@ -17,6 +20,8 @@ pub(crate) enum Numbering {
         leaves: u32,
         /// The number of each layer's first leaf.
         firsts: List<u32>,
+        /// The dimension along which the layers stand one behind another, if there is one.
+        axis: Option<usize>,
         /// The layers' own numbers.
         layers: List<Numbering>,
     },
@@ -30,7 +35,10 @@ pub(crate) fn number(alloc: Global, v: &View) -> Result<Numbering, AllocError>
     match v {
         View::Leaf { .. } => Ok(Numbering::Leaf),
         View::Cast { base, .. } => number(alloc, base.get()),
-        View::Stack { layers, .. } => stacked(alloc, number_all(alloc, layers.items())?),
+        View::Stack { layers, transform } => {
+            let layers = layers.items();
+            stacked(alloc, layers, transform, number_all(alloc, layers)?)
+        }
     }
 }
 
@@ -46,14 +54,21 @@ fn number_all(alloc: Global, layers: &[View]) -> Result<Vec<Numbering>, AllocErr
 }
 
 // The numbering of a stack, by those of its layers.
-fn stacked(alloc: Global, layers: Vec<Numbering>) -> Result<Numbering, AllocError>
-    ensures { IfOk result (λ n. n ≡ stack_of layers.items) }
+fn stacked(
+    alloc: Global,
+    layers: &[View],
+    transform: &Transform,
+    numberings: Vec<Numbering>,
+) -> Result<Numbering, AllocError>
+    ensures { IfOk result (λ n. n ≡ stack_of (length transform.now.maps) (map dims_of layers.now) numberings.items) }
 {
-    let (leaves, firsts) = firsts_of(alloc, &layers)?;
+    let axis = axis_of(layers, transform.maps().len());
+    let (leaves, firsts) = firsts_of(alloc, &numberings)?;
     Ok(Numbering::Stack {
         leaves,
         firsts: List::wrap(firsts),
-        layers: List::wrap(layers),
+        axis,
+        layers: List::wrap(numberings),
     })
 }
 
@@ -91,6 +106,16 @@ pub(crate) fn first_leaf(numbering: &Numbering, place: usize) -> u32
             Some(first) => *first,
             None => 0,
         },
+    }
+}
+
+/// The dimension along which a stack's layers stand one behind another, if there is one.
+pub(crate) fn axis(numbering: &Numbering) -> Option<usize>
+    ensures { result ≡ axis_in (out-Numbering numbering.now) }
+{
+    match numbering {
+        Numbering::Leaf => None,
+        Numbering::Stack { axis, .. } => *axis,
     }
 }
 

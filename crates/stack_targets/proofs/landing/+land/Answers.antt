@@ -1,5 +1,5 @@
 use Rattle.std.proofs.Common.{rules, ◌≡◌, ◌≢◌, ◌<◌, ◌∙◌, ◌+◌, List, Result, Ok, Err, None, length, sym, ap, subst, arith}
-use Rattle.std.specs.Prelude.{IsTrue, IfOk, IfErr}
+use Rattle.std.specs.Prelude.{IsTrue, IfOk, IfErr, IfSome}
 use Rattle.index_intervals.specs.Bounds.{Bounds}
 use Rattle.index_transform.specs.Values.{value_at}
 use Rattle.stack_driver.specs.Targets.{has_index}
@@ -9,12 +9,20 @@ use Rattle.stack_driver.specs.declared.view.View.{View, size-View}
 use Rattle.stack_driver.specs.declared.view.View.TheVariants as view
 use Rattle.stack_driver.specs.declared.error.TargetError.{TargetError}
 use Rattle.stack_driver.specs.declared.error.TargetError.TheVariants.{Uncovered, Memory}
+use Rattle.stack_targets.specs.Axes.{IsAxis}
 use Rattle.stack_targets.specs.Landings.{Landing, IsLastLayer, IsPut, behind_leaves, leaves_of}
 use Rattle.stack_targets.specs.Numberings.{numbering_of}
+use Rattle.stack_targets.proofs.AxisLaws.{axis_is}
 use Rattle.stack_targets.proofs.Layers.{leaf_node, base_view, base_smaller, layer_view, layer_smaller}
 use Rattle.stack_targets.proofs.Reached.{on-Leaf, on-Stack, dims-Cast, few-Cast, found, lands_there, leaf_below}
-use Rattle.stack_targets.proofs.NumberLaws.{base_here, below_here, first_here}
+use Rattle.stack_targets.proofs.NumberLaws.{axis_here, base_here, below_here, first_here}
 use Rattle.stack_targets.proofs.landing.+land.Goals as goal
+
+pub covering-requires-clause-axis : goal.covering-requires-clause-axis
+covering-requires-clause-axis t c =
+    let rank = length c.in-Stack.transform.maps in
+    subst (λ (ls : List View). IfSome c.axis.result (IsAxis rank ls)) (sym c.items-layers.ensures)
+    (axis_is rank c.in-Stack.layers c.axis.result (c.axis.ensures ∙ axis_here c.args.v.now c.in-Stack.layers c.in-Stack.transform c.args.numbering.now c.in-Stack.is c.requires.numbered))
 
 pub land_in_array-requires-clause-node : goal.land_in_array-requires-clause-node
 land_in_array-requires-clause-node t c = leaf_node c.in-Leaf.array c.in-Leaf.transform (subst IsView c.in-Leaf.is c.requires.view)

@@ -1,7 +1,8 @@
-use Rattle.std.proofs.Common.{◌≡◌, ℕ, ℤ, List, map, Option, Some, None, subst, rules}
+use Rattle.std.proofs.Common.{◌≡◌, ◌∙◌, ℕ, ℤ, List, map, Option, Some, None, sym, subst, rules}
 use Rattle.std.specs.Prelude.{IfSome}
 use Rattle.index_transform.specs.Values.{value_at}
 use Rattle.stack_driver.specs.declared.view.View.{View}
+use Rattle.stack_targets.specs.Axes.{IsAxis}
 use Rattle.stack_targets.specs.Landings.{ground_of, IsLastLayer}
 use Rattle.stack_targets.proofs.Layers.{none_lands}
 use Rattle.stack_targets.proofs.landing.covering.Goals as goal
@@ -9,6 +10,9 @@ use Rattle.stack_targets.proofs.landing.covering.Goals as goal
 pub returns-then-not-finite_values-clause-none : goal.returns-then-not-finite_values-clause-none
 returns-then-not-finite_values-clause-none c = λ same found.
     none_lands (value_at c.args.transform.now c.args.index.now) (c.finite_values.ensures.infinite (search rules)) 0 (map ground_of c.args.layers.now) found
+
+pub end_of-end-requires : goal.end_of-end-requires
+end_of-end-requires c = subst (λ n. IfSome c.args.axis (IsAxis n c.args.layers.now)) (sym (c.finite_values.auto.out ∙ c.requires.room)) c.requires.axis
 
 by_result : (layers : List View) (x y : List ℤ) (o : Option ℕ) → x ≡ y → IsLastLayer layers x o → IfSome o (λ place. IsLastLayer layers y (Some place))
 by_result layers x y None e h = tt

@@ -1,5 +1,6 @@
-use Rattle.std.proofs.Common.{◌≡◌, ◌∙◌, map, ap, subst}
+use Rattle.std.proofs.Common.{◌≡◌, ◌∙◌, length, map, ap, subst}
 use Rattle.std.specs.Prelude.{IfOk}
+use Rattle.stack_targets.specs.Axes.{dims_of}
 use Rattle.stack_targets.specs.Numberings.{numbering_of, stack_of}
 use Rattle.stack_targets.specs.declared.numbering.Numbering.{Numbering}
 use Rattle.stack_targets.proofs.NumberLaws.{here-Leaf, here-Cast, here-Stack}
@@ -15,4 +16,5 @@ number-returns-in-Cast t c =
 pub number-returns-in_ok-number_all-in-Stack : goal.number-returns-in_ok-number_all-in-Stack
 number-returns-in_ok-number_all-in-Stack t c =
     subst (λ (n : Numbering). IfOk c.stacked.result (λ m. m ≡ n))
-    (ap stack_of (c.in_ok-number_all-in-Stack.ensures ∙ ap (map numbering_of) c.items.ensures) ∙ here-Stack c.args.v.now c.in-Stack.layers c.in-Stack.transform c.in-Stack.is) c.stacked.ensures
+    ((λ i. stack_of (length c.in-Stack.transform.maps) (map dims_of (c.items-layers.ensures i)) ((c.in_ok-number_all-in-Stack.ensures ∙ ap (map numbering_of) c.items-layers.ensures) i))
+    ∙ here-Stack c.args.v.now c.in-Stack.layers c.in-Stack.transform c.in-Stack.is) c.stacked.ensures
