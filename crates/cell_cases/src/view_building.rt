@@ -27,8 +27,8 @@ pub(crate) fn built(alloc: Global, acts: &[Value]) -> Result<View, Refused>
     made.pop().ok_or(Refused::Line)
 }
 
-// The views after an act: `array` puts a whole array behind them, `stack` and the joins make one of all, and others change the
-// last.
+// The views after an act: `array` puts a whole array behind them, `again` copies of the last, `stack` and the joins make one of
+// all, and others change the last.
 fn after(alloc: Global, made: Vec<View>, act: &Value) -> Result<Vec<View>, Refused>
     requires { AllByRecursion IsView made.items }
     ensures { IfOk result (λ views. AllByRecursion IsView views.items) }
@@ -36,6 +36,9 @@ fn after(alloc: Global, made: Vec<View>, act: &Value) -> Result<Vec<View>, Refus
     if act.get("array").is_some() {
         let view = leaf(alloc, act)?;
         return with(made, view);
+    }
+    if let Some(times) = act.get("again") {
+        return again(alloc, made, times.as_u64().ok_or(Refused::Line)?);
     }
     if act.get("stack").is_some() {
         return stacked(alloc, made);
@@ -63,6 +66,32 @@ fn with(made: Vec<View>, view: View) -> Result<Vec<View>, Refused>
     let mut views = made;
     views.push(view)?;
     Ok(views)
+}
+
+// The views, and so many copies of the last behind them.
+fn again(alloc: Global, made: Vec<View>, times: u64) -> Result<Vec<View>, Refused>
+    requires { AllByRecursion IsView made.items }
+    ensures { IfOk result (λ views. AllByRecursion IsView views.items) }
+{
+    let mut views = made;
+    'copies: for _ in 0..times {
+        views = copied(alloc, views)?;
+    }
+    Ok(views)
+}
+
+// The views, and a copy of the last behind them.
+fn copied(alloc: Global, made: Vec<View>) -> Result<Vec<View>, Refused>
+    requires { AllByRecursion IsView made.items }
+    ensures { IfOk result (λ views. AllByRecursion IsView views.items) }
+{
+    let mut views = made;
+    let Some(view) = views.pop() else {
+        return Err(Refused::Line);
+    };
+    let another = copy(alloc, &view)?;
+    let views = with(views, view)?;
+    with(views, another)
 }
 
 fn stacked(alloc: Global, made: Vec<View>) -> Result<Vec<View>, Refused>
