@@ -1,4 +1,4 @@
-// Stacks of four layers over 1,000,000 cells.
+// Stacks over 1,000,000 cells, of four layers or of 256.
 ghost use Rattle.std.specs.Prelude.{IfOk};
 ghost use Rattle.std.specs.List.{AllByRecursion};
 ghost use Rattle.stack_driver.specs.Conditions.{IsView};
@@ -158,11 +158,40 @@ fn square(alloc: Global) -> Result<View, AllocError>
     stacked(alloc, layers)
 }
 
+// 256 layers one behind the other.
+fn many(alloc: Global) -> Result<View, AllocError>
+    ensures { IfOk result IsView }
+{
+    let mut layers = Vec::new(alloc);
+    for k in 0..256u32 {
+        let from = i64::from(k).wrapping_mul(3_906);
+        layers = with_layer(alloc, layers, &[from], &[3_906])?;
+    }
+    stacked(alloc, layers)
+}
+
+// 256 layers in a square, 16 times 16.
+fn grid(alloc: Global) -> Result<View, AllocError>
+    ensures { IfOk result IsView }
+{
+    let mut layers = Vec::new(alloc);
+    for k in 0..256u32 {
+        let from = [
+            i64::from(k / 16).wrapping_mul(62),
+            i64::from(k % 16).wrapping_mul(62),
+        ];
+        layers = with_layer(alloc, layers, &from, &[62, 62])?;
+    }
+    stacked(alloc, layers)
+}
+
 /// The number of the last cell's leaf in a stack by its name, whose targets were made so many times.
 pub(crate) fn bench(alloc: Global, view: &str, times: u32) -> Result<Option<u32>, AllocError> {
     match view {
         "row" => timed(alloc, &row(alloc)?, times),
         "square" => timed(alloc, &square(alloc)?, times),
+        "many" => timed(alloc, &many(alloc)?, times),
+        "grid" => timed(alloc, &grid(alloc)?, times),
         _ => Ok(None),
     }
 }
