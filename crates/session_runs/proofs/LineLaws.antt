@@ -18,6 +18,7 @@ use Rattle.session_openings.proofs.Laws.{refusal_told, passed_alone, names_then,
 use Rattle.session_openings.specs.Meanings.{refused_by}
 use Rattle.line_parts.specs.declared.error.LineError.{LineError}
 use Rattle.line_parts.specs.declared.error.LineError.TheVariants as line
+use Rattle.line_parts.specs.declared.SpecError.TheVariants as spec
 use Rattle.session_runs.specs.Session.{MayGoOn, IsLineTold}
 use Rattle.session_openings.specs.Turns.{IsRested, HasPassed}
 use Rattle.sessions.specs.Commits.{HasSoundTxn, IsCommitTold}
@@ -25,7 +26,6 @@ use Rattle.sessions.specs.Reads.{IsReadTold}
 use Rattle.session_openings.specs.Standing.{session_state, transaction_in, AreViews}
 use Rattle.session_openings.specs.Told.{IsToldAlone, IsToldBy, IsAnswerTo}
 use Rattle.sessions.proofs.Laws.{sound_later}
-use Rattle.spec_forms.specs.declared.error.SpecError.TheVariants as spec
 use Rattle.state_laws.specs.Agreement.{Opening}
 use Rattle.state_laws.specs.Outline.{outline}
 use Rattle.step_forms.specs.declared.error.StepsError.TheVariants as steps
