@@ -25,4 +25,5 @@ pub mod ByKeysLaws
 pub mod RowLaws
 pub mod ToldLaws
 pub mod AddedLaws
+pub mod CalmLaws
 pub mod Laws
