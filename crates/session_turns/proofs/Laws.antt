@@ -26,7 +26,7 @@ pub use Rattle.session_turns.proofs.AnswerLaws.{if_ok_map, if_ok_both, if_err_ma
 -- what refuses a view by the count of its cells, and by the first cell without a target
 pub use Rattle.session_turns.proofs.FaultLaws.{found_all, out_of_range_fault, uncovered_fault, counted_view, refused_by_count, refused_by_cell, counted_sound}
 -- laws of crates below, given on to those above
-pub use Rattle.transactions.proofs.Laws.{recorded_begun, recorded_later, recorded_read, recorded_written, txn_later}
+pub use Rattle.transactions.proofs.Laws.{IsCalm, may_calm, recorded_begun, recorded_later, recorded_read, recorded_written, txn_later}
 pub use Rattle.state_resizes.proofs.Laws.{body_of, resize_row}
 pub use Rattle.line_answers.proofs.Laws.{refusal_told}
 pub use Rattle.transactions.proofs.StagedLaws.{on_ok_any}

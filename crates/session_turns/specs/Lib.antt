@@ -3,6 +3,7 @@ pub mod Opening
 pub mod Asked
 pub mod Standing
 pub mod Told
+pub mod Failures
 -- names of crates below, given on to those above
 pub use Rattle.transactions.specs.Committing
 pub use Rattle.transactions.specs.Conditions
@@ -22,3 +23,4 @@ pub use Rattle.state_resizes.specs.Agreement
 pub use Rattle.state_resizes.specs.Outline
 pub use Rattle.state_resizes.specs.Fetches
 pub use Rattle.state_resizes.specs.Openings
+pub use Rattle.state_resizes.specs.Log

@@ -1,5 +1,5 @@
 -- A pass before and behind the turns of a line.
-use Rattle.std.specs.Prelude.{◌≡◌, ℕ, ◌+◌, List, ◌++◌, length, drop, Some, Result}
+use Rattle.std.specs.Prelude.{◌≡◌, ℕ, ◌+◌, List, ◌++◌, length, drop, Result}
 use mathlib.Core.List.{IsPrefix}
 use Rattle.history.specs.declared.event.Event.{Event}
 use Rattle.history.specs.History.{History}
@@ -36,9 +36,9 @@ pub record HasPassed (book : BookView Opening) (old new : PassView Event Opening
 abbrev pub added_by : PassView Event Opening → PassView Event Opening → List Numbered
 added_by old new = own_events old.number (length old.seen + 1) (drop (length old.seen) new.seen)
 
--- a resize in a turn, with its answer
+-- a resize in a turn, with its answer by each contents of the start, which are the store's where it told them
 pub record IsResizeTurn (book : BookView Opening) (old new : PassView Event Opening) (array : ℕ) (shape : List ℕ) (r : Result ℕ ResizeError) : Type 0 where
   pub before : History
   pub added : History
   pub turn : IsTurn book old new before added
-  pub answer : (start : Contents) → book.fixed.store.contents ≡ Some start → IsAnswer (fixed_by book.fixed start) (Some start) before old.number array shape r new.seen
+  pub answer : (start : Contents) → IsAnswer (fixed_by book.fixed start) book.fixed.store.contents before old.number array shape r new.seen

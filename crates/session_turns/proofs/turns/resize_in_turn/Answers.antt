@@ -35,5 +35,5 @@ returns g c =
       turn =
           is_turn c.args.book.now c.args.pass.now c.take-held.new.pass c.give.new.pass h later c.requires.pass (rw c.state.ensures.value c.take-held.ensures.pass) c.give.ensures.pass (rw c.state.ensures.value c.take-held.ensures.before)
           (rw c.state.ensures.value c.take-held.ensures.mine) adds (past_of fixed _ c.resize-resized.new.state.log (c.resize-resized.ensures.kept fixed (rw c.state.ensures.value c.take-held.ensures.agrees)));
-      answer = λ start told. rw c.give.ensures.pass (subst (λ t. IsAnswer (fixed_by fixed start) t h c.args.pass.now.number c.args.array c.args.shape.now c.resize-resized.result later) told (answer start));
+      answer = λ start. rw c.give.ensures.pass (answer start);
     }
