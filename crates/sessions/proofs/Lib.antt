@@ -10,4 +10,6 @@ pub mod SoundLaws
 pub mod EndLaws
 pub mod ReadRows
 pub mod ReadLaws
+pub mod Failures
+pub mod PlainLines
 pub mod Laws

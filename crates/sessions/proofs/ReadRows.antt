@@ -130,7 +130,7 @@ module _ (book : BookView Opening) (old new : PassView Event Opening) (rested : 
       turned = turned;
     }
 
-    failed_own : added_by old new ≡ fault_at (length before + 1) old.number mount
+    pub failed_own : added_by old new ≡ fault_at (length before + 1) old.number mount
     failed_own = own_of_turn book old new before (fault old.number mount ∷ []) rested failed_turn
 
 -- the transaction that stands behind a read, where one stood

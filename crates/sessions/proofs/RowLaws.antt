@@ -14,7 +14,7 @@ use Rattle.session_turns.specs.Told.{IsToldBy}
 use Rattle.session_turns.specs.Turns.{IsRested, added_by, IsResizeTurn}
 use Rattle.session_turns.proofs.Laws.{own_of_turn, same_rest, resize_row, body_of as resize_body}
 use Rattle.session_turns.specs.Agreement.{Opening}
-use Rattle.session_turns.specs.Answers.{fixed_by}
+use Rattle.session_turns.specs.Answers.{IsAnswer, fixed_by}
 use Rattle.session_turns.specs.declared.ResizeError.{ResizeError}
 use Rattle.session_turns.specs.declared.ResizeError.TheVariants as error
 use Rattle.stack_driver.specs.References.{Reference}
@@ -36,7 +36,7 @@ pub told_resized : (book : BookView Opening) (before_pass new : PassView Event O
 told_resized book pass new names t line name shape r answer rested act turn start is =
     let fixed = fixed_by book.fixed start in
     let s = session_state names (length pass.seen) t in
-    let row = resize_row fixed pass.number turn.before new.seen s line r shape answer (turn.answer start is) in
+    let row = resize_row fixed pass.number turn.before new.seen s line r shape answer (subst (λ told. IsAnswer fixed told turn.before pass.number r.number shape answer new.seen) is (turn.answer start)) in
     let own : row.own ≡ turn.added = same_rest turn.before row.own turn.added (sym row.added ∙ turn.turn.later) in
     let numbers : numbered (length turn.before + 1) row.own ≡ added_by pass new = ap (numbered (length turn.before + 1)) own ∙ sym (own_of_turn book pass new turn.before turn.added rested turn.turn) in
     record {

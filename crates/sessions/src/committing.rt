@@ -2,7 +2,8 @@
 ghost use Rattle.std.specs.Prelude.{◌≡◌, None, Some, Err};
 ghost use Rattle.session_turns.specs.CommitAnswers as commit_answers;
 ghost use Rattle.session_turns.specs.Bodies.{body_of};
-ghost use Rattle.session_turns.specs.Turns.{IsRested, HasPassed};
+ghost use Rattle.session_turns.specs.Failures.{TellsFailures};
+ghost use Rattle.session_turns.specs.Turns.{IsRested, HasPassed, added_by};
 ghost use Rattle.sessions.specs.Commits.{HasSoundTxn, IsCommittedAs, IsCommitTold};
 ghost use Rattle.turn_book.specs.Passes.{IsIdle};
 
@@ -25,6 +26,7 @@ pub fn commit<K: KvStore, R: Wait, G: Gate>(
     requires pass { IsRested book.now pass.old }
     requires txn { HasSoundTxn book.now.fixed pass.old.seen txn.old }
     ensures told { IsCommitTold book.now pass.old pass.new txn.old txn.new result }
+    ensures failures { TellsFailures (added_by pass.old pass.new) result }
     ensures passed { HasPassed book.now pass.old pass.new }
     ensures txn { HasSoundTxn book.now.fixed pass.new.seen txn.new }
 {

@@ -16,7 +16,8 @@ ghost use Rattle.session_turns.specs.Bodies.{body_of};
 ghost use Rattle.line_meanings.specs.Form.{HasFactors, MayHaveFactors};
 ghost use Rattle.line_meanings.specs.Changes.{changes_of};
 ghost use Rattle.line_meanings.specs.Numbers.{downsampling, downsampling_of};
-ghost use Rattle.session_turns.specs.Turns.{IsRested, HasPassed};
+ghost use Rattle.session_turns.specs.Failures.{TellsFailures};
+ghost use Rattle.session_turns.specs.Turns.{IsRested, HasPassed, added_by};
 ghost use Rattle.sessions.specs.Commits.{HasSoundTxn};
 ghost use Rattle.sessions.specs.Reads.{HasRank, IsAnsweredRead, IsReadTold, IsUnread, IsViewFault};
 ghost use Rattle.session_turns.specs.Standing.{transaction_in, AreViews};
@@ -68,6 +69,7 @@ pub fn read<K: KvStore, R: Wait, G: Gate>(
     requires txn { HasSoundTxn book.now.fixed pass.old.seen txn.old }
     ensures told { IsReadTold book.now pass.old pass.new (get_by_text names.now) txn.old txn.new line
         (reading name.now (changes_of None steps.now) (downsampling_of down.now)) result }
+    ensures failures { TellsFailures (added_by pass.old pass.new) result }
     ensures passed { HasPassed book.now pass.old pass.new }
     ensures txn { HasSoundTxn book.now.fixed pass.new.seen txn.new }
 {
@@ -170,6 +172,7 @@ fn answered<K: KvStore, R: Wait, G: Gate>(
         → act_of names (transaction_in txn.old) asked
         ≡ without (cell_fault v.now) (Ok (reads v.now (downsampling_of down.now)))
         → IsReadTold book.now pass.old pass.new names txn.old txn.new line asked result }
+    ensures failures { TellsFailures (added_by pass.old pass.new) result }
     ensures passed { HasPassed book.now pass.old pass.new }
     ensures txn { HasSoundTxn book.now.fixed pass.new.seen txn.new }
 {
@@ -199,6 +202,7 @@ fn read_alone<K: KvStore, R: Wait, G: Gate>(
     ensures told { (names : NamesOf) (asked : Line)
         → act_of names None asked ≡ without (cell_fault v.now) (Ok (reads v.now (downsampling_of down.now)))
         → IsReadTold book.now pass.old pass.new names None None line asked result }
+    ensures failures { TellsFailures (added_by pass.old pass.new) result }
     ensures passed { HasPassed book.now pass.old pass.new }
 {
     let mode = Mode {

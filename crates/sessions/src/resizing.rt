@@ -13,7 +13,8 @@ ghost use Rattle.session_turns.specs.Bodies.{body_of};
 ghost use Rattle.sessions.specs.Bodies.{resized_answer};
 ghost use Rattle.session_turns.specs.Standing.{session_state, transaction_in};
 ghost use Rattle.session_turns.specs.Told.{IsAnswerTo, IsToldBy};
-ghost use Rattle.session_turns.specs.Turns.{IsRested, HasPassed};
+ghost use Rattle.session_turns.specs.Failures.{TellsFailures};
+ghost use Rattle.session_turns.specs.Turns.{IsRested, HasPassed, added_by};
 ghost use Rattle.stack_driver.specs.References.{Reference};
 ghost use Rattle.stack_driver.specs.Renewed.{array_of};
 ghost use Rattle.session_turns.specs.Outline.{outline};
@@ -45,6 +46,7 @@ pub fn resize<K: KvStore, R: Wait>(
     ensures told { (line : ℕ) → IsToldBy book.now pass.old pass.new
         (session_state (get_by_text names.now) (length pass.old.seen) txn.now) line (resizing name.now shape.now)
         (get_by_text names.now) (transaction_in txn.now) result }
+    ensures failures { TellsFailures (added_by pass.old pass.new) result }
     ensures passed { HasPassed book.now pass.old pass.new }
 {
     match array_asked(alloc, names, txn, name, shape) {

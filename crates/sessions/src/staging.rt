@@ -15,7 +15,8 @@ ghost use Rattle.indexmap.specs.IndexMap.{get_by_text};
 ghost use Rattle.line_meanings.specs.Changes.{changes_of};
 ghost use Rattle.line_meanings.specs.Numbers.{values_of};
 ghost use Rattle.serde_json.specs.View.{view as data_in};
-ghost use Rattle.session_turns.specs.Turns.{IsRested, HasPassed};
+ghost use Rattle.session_turns.specs.Failures.{TellsFailures};
+ghost use Rattle.session_turns.specs.Turns.{IsRested, HasPassed, added_by};
 ghost use Rattle.sessions.specs.Commits.{HasSoundTxn};
 ghost use Rattle.session_turns.specs.Standing.{session_state, transaction_in, AreViews};
 ghost use Rattle.session_turns.specs.Told.{IsToldAlone, IsToldBy};
@@ -58,6 +59,7 @@ pub fn write<K: KvStore, R: Wait, G: Gate>(
         (session_state (get_by_text names.now) (length pass.old.seen) txn.old) line
         (writing name.now (changes_of None steps.now) (values_of (data_in values))) (get_by_text names.now)
         (transaction_in txn.new) result }
+    ensures failures { TellsFailures (added_by pass.old pass.new) result }
     ensures passed { HasPassed book.now pass.old pass.new }
     ensures txn { result ≢ printed.Memory → HasSoundTxn book.now.fixed pass.new.seen txn.new }
 {

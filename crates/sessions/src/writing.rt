@@ -22,7 +22,8 @@ ghost use Rattle.line_meanings.specs.Changes.{changes_of};
 ghost use Rattle.line_meanings.specs.Numbers.{values_of};
 ghost use Rattle.script_lines.specs.NestedWords.{words_of};
 ghost use Rattle.serde_json.specs.View.{view as data_in};
-ghost use Rattle.session_turns.specs.Turns.{IsRested, HasPassed};
+ghost use Rattle.session_turns.specs.Failures.{TellsFailures};
+ghost use Rattle.session_turns.specs.Turns.{IsRested, HasPassed, added_by};
 ghost use Rattle.sessions.specs.Commits.{HasSoundTxn};
 ghost use Rattle.session_turns.specs.Standing.{session_state, AreViews};
 ghost use Rattle.session_turns.specs.Told.{IsAnswerTo, IsToldBy};
@@ -82,6 +83,7 @@ pub(crate) fn write_alone<K: KvStore, R: Wait, G: Gate>(
         (session_state (get_by_text names.now) (length pass.old.seen) None) line
         (writing name.now (changes_of None steps.now) (values_of (data_in values)))
         (get_by_text names.now) None result }
+    ensures failures { TellsFailures (added_by pass.old pass.new) result }
     ensures passed { HasPassed book.now pass.old pass.new }
 {
     match taken_write(alloc, names, name, steps, values) {
@@ -262,6 +264,7 @@ fn written<K: KvStore, R: Wait, G: Gate>(
         → act_of names None asked ≡ without (cell_fault w.view) (Ok (write_act None w.view w.words))
         → IsToldBy book.now pass.old pass.new (session_state names
         (length pass.old.seen) None) line asked names None result }
+    ensures failures { TellsFailures (added_by pass.old pass.new) result }
     ensures passed { HasPassed book.now pass.old pass.new }
 {
     let cells = w.words.items().len() as u64;

@@ -1,7 +1,10 @@
-use Rattle.std.proofs.Common.{None, sym, subst}
+use Rattle.std.proofs.Common.{None, ap, sym, subst}
 use Rattle.session_turns.specs.declared.Body.TheVariants.{NoTransaction}
 use Rattle.sessions.specs.Commits.{HasSoundTxn, IsCommitTold}
 use Rattle.sessions.proofs.CommitRows.{commit_without, committed_sound, committed_told}
+use Rattle.session_turns.proofs.Laws.{none_added}
+use Rattle.session_turns.specs.Failures.{failures_of}
+use Rattle.sessions.proofs.Failures.{committed_tells}
 use Rattle.sessions.proofs.committing.commit.Goals as goal
 
 pub returns-in-Some-clause-told : goal.returns-in-Some-clause-told
@@ -21,3 +24,10 @@ returns-in-None-clause-told g c =
     let old = c.args.pass.now in
     subst (λ o. IsCommitTold c.args.book.now old old o c.take.new.self NoTransaction) c.in-None.ensures.value
     (subst (λ o. IsCommitTold c.args.book.now old old None o NoTransaction) (sym c.in-None.ensures.after) (commit_without c.args.book.now old))
+
+pub returns-in-Some-clause-failures : goal.returns-in-Some-clause-failures
+returns-in-Some-clause-failures g c =
+    committed_tells c.args.book.now c.args.pass.now c.committed.new.pass c.in-Some.t c.committed.new.txn c.committed.result c.requires.pass c.committed.ensures
+
+pub returns-in-None-clause-failures : goal.returns-in-None-clause-failures
+returns-in-None-clause-failures g c = ap failures_of (none_added c.args.pass.now)

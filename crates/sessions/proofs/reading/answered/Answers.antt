@@ -2,6 +2,7 @@ use Rattle.std.proofs.Common.{subst}
 use Rattle.line_meanings.specs.Numbers.{downsampling_of}
 use Rattle.sessions.specs.Commits.{HasSoundTxn}
 use Rattle.sessions.proofs.ReadRows.{inside_told, read_sound}
+use Rattle.sessions.proofs.Failures.{read_tells}
 use Rattle.sessions.proofs.reading.answered.Goals as goal
 
 pub returns-in-Some-clause-told : goal.returns-in-Some-clause-told
@@ -12,3 +13,7 @@ pub returns-in-Some-clause-txn : goal.returns-in-Some-clause-txn
 returns-in-Some-clause-txn g c =
     read_sound c.args.book.now c.args.pass.now c.read_in.new.pass c.in-Some.t c.read_in.new.t c.args.v.now (downsampling_of c.args.down.now) c.read_in.result c.requires.pass c.requires.view
     (subst (HasSoundTxn c.args.book.now.fixed c.args.pass.now.seen) c.in-Some.is c.requires.txn) c.read_in.ensures.txn c.read_in.ensures.answer
+
+pub returns-in-Some-clause-failures : goal.returns-in-Some-clause-failures
+returns-in-Some-clause-failures g c =
+    read_tells c.args.book.now c.args.pass.now c.read_in.new.pass c.requires.pass c.in-Some.t c.read_in.new.t c.args.v.now (downsampling_of c.args.down.now) c.read_in.result c.read_in.ensures.answer

@@ -6,6 +6,11 @@ use Rattle.session_turns.specs.Standing.{session_state, transaction_in}
 use Rattle.session_turns.specs.Told.{IsToldBy}
 use Rattle.sessions.proofs.RowLaws.{told_resized}
 use Rattle.session_turns.proofs.Laws.{told_without}
+use Rattle.history.specs.Acts.{act_of}
+use Rattle.serial_runs.proofs.Laws.{act_of-refused}
+use Rattle.session_turns.specs.Failures.{TellsFailures}
+use Rattle.session_turns.specs.Turns.{added_by}
+use Rattle.sessions.proofs.Failures.{refused_tells, resize_tells}
 use Rattle.sessions.proofs.resizing.resize.Goals as goal
 
 pub resize_in_turn-requires-clause-asked : goal.resize_in_turn-requires-clause-asked
@@ -24,3 +29,16 @@ returns-in-Ok-clause-told g c = λ line.
 pub returns-in-Err-clause-told : goal.returns-in-Err-clause-told
 returns-in-Err-clause-told g c = λ line.
     told_without c.args.book.now c.args.pass.now (session_state (get_by_text c.args.names.now) (length c.args.pass.now.seen) c.args.txn.now) line (resizing c.args.name.now c.args.shape.now) c.in-Err.body c.in-Err.ensures.err
+
+pub returns-in-Ok-clause-failures : goal.returns-in-Ok-clause-failures
+returns-in-Ok-clause-failures g c =
+    let old = c.args.pass.now in
+    let new = c.resize_in_turn.new.pass in
+    subst (TellsFailures (added_by old new)) (sym c.resized_body.ensures) (resize_tells c.args.book.now old new c.in-Ok.array c.args.shape.now c.requires.pass c.resize_in_turn.result c.resize_in_turn.ensures)
+
+pub returns-in-Err-clause-failures : goal.returns-in-Err-clause-failures
+returns-in-Err-clause-failures g c =
+    let names = get_by_text c.args.names.now in
+    let t = transaction_in c.args.txn.now in
+    let line = resizing c.args.name.now c.args.shape.now in
+    refused_tells c.args.pass.now (act_of names t line) c.in-Err.body (act_of-refused names t line) c.in-Err.ensures.err

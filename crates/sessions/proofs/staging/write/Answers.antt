@@ -1,7 +1,24 @@
-use Rattle.std.proofs.Common.{subst}
+use Rattle.std.proofs.Common.{length, Some, None, subst}
 use Rattle.sessions.specs.Commits.{HasSoundTxn}
+use Rattle.history.specs.Lines.{writing}
+use Rattle.indexmap.specs.IndexMap.{get_by_text}
+use Rattle.line_meanings.specs.Changes.{changes_of}
+use Rattle.line_meanings.specs.Numbers.{values_of}
+use Rattle.serde_json.specs.View.{view}
+use Rattle.session_turns.specs.Standing.{session_state}
+use Rattle.session_turns.specs.Txn.{transaction_of}
+use Rattle.sessions.proofs.PlainLines.{alone_tells, plain_stage}
 use Rattle.sessions.proofs.staging.write.Goals as goal
 
 pub returns-in-Some-clause-txn : goal.returns-in-Some-clause-txn
 returns-in-Some-clause-txn g c =
     c.stage.ensures.txn c.args.book.now.fixed c.args.pass.now.seen c.requires.known (subst (HasSoundTxn c.args.book.now.fixed c.args.pass.now.seen) c.in-Some.is c.requires.txn)
+
+pub returns-in-Some-clause-failures : goal.returns-in-Some-clause-failures
+returns-in-Some-clause-failures g c =
+    let names = get_by_text c.args.names.now in
+    let seen = length c.args.pass.now.seen in
+    let changes = changes_of None c.args.steps.now in
+    let values = values_of (view c.args.values) in
+    alone_tells c.args.pass.now (session_state names seen (Some c.in-Some.t)) c.args.line (writing c.args.name.now changes values) names (Some (transaction_of c.stage.new.t)) c.stage.result
+    (plain_stage names (transaction_of c.in-Some.t) c.args.name.now changes values) (c.stage.ensures.told seen c.args.line)

@@ -7,6 +7,7 @@ use Rattle.session_turns.proofs.Laws.{told_without}
 use Rattle.sessions.proofs.CommitRows.{commit_passed}
 use Rattle.sessions.proofs.WriteLaws.{written_told}
 use Rattle.sessions.proofs.writing.written.Goals as goal
+use Rattle.sessions.proofs.Failures.{fault_tells, written_tells}
 use Rattle.session_turns.specs.Txn.{transaction_of}
 
 pub committed-requires-clause-sound : goal.committed-requires-clause-sound
@@ -25,3 +26,11 @@ returns-in-Err-clause-told g c names asked act =
 pub returns-in-Ok-clause-passed : goal.returns-in-Ok-clause-passed
 returns-in-Ok-clause-passed g c =
     commit_passed c.args.book.now c.args.pass.now c.committed.new.pass (transaction_of c.in-Ok.t) c.committed.ensures.result c.requires.pass c.committed.ensures.committed
+
+pub returns-in-Ok-clause-failures : goal.returns-in-Ok-clause-failures
+returns-in-Ok-clause-failures g c = written_tells c.args.book.now c.args.pass.now c.committed.new.pass (transaction_of c.in-Ok.t) _ c.committed.result c.requires.pass c.committed.ensures
+
+pub returns-in-Err-clause-failures : goal.returns-in-Err-clause-failures
+returns-in-Err-clause-failures g c =
+    let next : Asked = Ok (writes c.args.w.view c.args.w.words) in
+    fault_tells c.args.pass.now c.args.w.view next c.in-Err.body tt (c.in-Err.ensures.err next)
