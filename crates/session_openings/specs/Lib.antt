@@ -6,6 +6,7 @@ pub mod Opened
 -- names of crates below, given on to those above
 pub use Rattle.session_turns.specs.Standing
 pub use Rattle.session_turns.specs.Told
+pub use Rattle.session_turns.specs.Failures
 pub use Rattle.session_turns.specs.Turns
 pub use Rattle.session_turns.specs.Txn
 pub use Rattle.session_turns.specs.Answers
