@@ -1,4 +1,5 @@
 pub mod EndRows
+pub mod Failing
 pub mod StepLaws
 pub mod LineLaws
 pub mod ScriptLaws

@@ -22,7 +22,9 @@ use Rattle.kv_face.specs.Store.{Contents}
 use Rattle.session_openings.specs.Bodies.{body_of, answer_of}
 use Rattle.session_runs.specs.Session.{SessionSeen, numbers_from, MayGoOn, IsLineTold, IsOngoing, IsRunTo, IsSessionOn}
 use Rattle.session_runs.proofs.EndRows.{IsWanting, answer_wants}
-use Rattle.session_openings.specs.Turns.{IsRested, HasPassed}
+use Rattle.session_runs.proofs.Failing.{failed_next}
+use Rattle.session_openings.specs.Failures.{TellsFailures, failures_by, failures_of}
+use Rattle.session_openings.specs.Turns.{IsRested, HasPassed, added_by}
 use Rattle.sessions.specs.Commits.{HasSoundTxn}
 use Rattle.session_openings.specs.Standing.{session_state, transaction_in}
 use Rattle.session_openings.specs.Told.{IsTold}
@@ -171,12 +173,13 @@ numbers_blank n (Some l ∷ lines) = ap (λ ns. n ∷ ns) (numbers_blank (n + 1)
 -- a session that is given one line more
 pub session_next : (book : BookView Opening) (was now : SessionSeen) (lines : List (Option Line)) (line : ℕ) (asked : Line) (answer : Body) → was.ended ≡ false → HasPassed book was.pass now.pass
     → IsLineTold book was.pass now.pass was.names was.txn line asked now.names now.txn answer → now.log ≡ was.log ++ record { line = line; body = answer } ∷ [] → (now.ended ≡ true → answer ≡ printed.Memory) → (answer ≡ printed.Memory → now.ended ≡ true)
-    → (now.ended ≡ false → MayGoOn book now.pass now.names now.txn) → line ≡ length lines + 1 → IsSessionOn book was lines → IsSessionOn book now (lines ++ Some asked ∷ [])
-session_next book was now lines line asked answer going passed told logged only all fit at on = record {
+    → (now.ended ≡ false → MayGoOn book now.pass now.names now.txn) → TellsFailures (added_by was.pass now.pass) answer → line ≡ length lines + 1 → IsSessionOn book was lines → IsSessionOn book now (lines ++ Some asked ∷ [])
+session_next book was now lines line asked answer going passed told logged only all fit tells at on = record {
   rested = passed.rested;
   answered =
       ap (map (λ (a : Answer). a.line)) logged ∙ map-append (λ (a : Answer). a.line) was.log (record { line = line; body = answer } ∷ []) ∙ ap (λ ns. ns ++ line ∷ []) on.answered
       ∙ sym (numbers_more 1 line lines asked (at ∙ omega arith));
+  failed = failed_next book was.pass now.pass was.log now.log (record { line = line; body = answer }) passed logged tells on.failed;
   told = λ start is. by start is now.ended refl;
   fit = fit;
 }
@@ -197,6 +200,7 @@ pub session_blank : (book : BookView Opening) (s : SessionSeen) (lines : List (O
 session_blank book s lines going on = record {
   rested = on.rested;
   answered = on.answered ∙ sym (numbers_blank 1 lines);
+  failed = on.failed;
   told = λ start is.
       let run = on.told start is in record {
         answers = run.answers;
@@ -214,6 +218,7 @@ pub session_first : (book : BookView Opening) (s : SessionSeen) → IsRested boo
 session_first book s rested none unbound idle silent = record {
   rested = rested;
   answered = ap (map (λ (a : Answer). a.line)) silent;
+  failed = ap failures_by silent ∙ sym (ap (λ h. failures_of (own_events s.pass.number 1 h)) none);
   told = λ start is. record {
     answers = [];
     printed = silent;
@@ -235,6 +240,7 @@ pub session_stops : (book : BookView Opening) (was now : SessionSeen) (lines : L
 session_stops book was now lines pass_is log_is ended on = record {
   rested = subst (IsRested book) (sym pass_is) on.rested;
   answered = ap (map (λ (a : Answer). a.line)) log_is ∙ on.answered;
+  failed = ap failures_by log_is ∙ on.failed ∙ ap (λ (p : PassView Event Opening). failures_of (own_events p.number 1 p.seen)) (sym pass_is);
   told = λ start is.
       let run = on.told start is in record {
         answers = run.answers;

@@ -2,6 +2,7 @@ pub mod Session
 pub mod Scripts
 -- names of crates below, given on to those above
 pub use Rattle.session_openings.specs.Turns
+pub use Rattle.session_openings.specs.Failures
 pub use Rattle.session_openings.specs.Answers
 pub use Rattle.session_openings.specs.Meanings
 pub use Rattle.session_openings.specs.Txn

@@ -10,10 +10,12 @@ use Rattle.history.specs.Bound.{AreKnownNames}
 use Rattle.history.specs.Commit.{Fixed, Transaction}
 use Rattle.history.specs.Legal.{IsMount}
 use Rattle.history.specs.Lines.{Line}
+use Rattle.history.specs.Own.{own_events}
 use Rattle.history.specs.Sessions.{Names, SessionState, at_first}
 use Rattle.history.specs.Steps.{IsSessionRun, is_memory}
 use Rattle.kv_face.specs.Store.{Contents}
 use Rattle.session_openings.specs.Bodies.{answer_of}
+use Rattle.session_openings.specs.Failures.{failures_by, failures_of}
 use Rattle.session_openings.specs.Turns.{IsRested}
 use Rattle.sessions.specs.Commits.{HasSoundTxn}
 use Rattle.session_openings.specs.Standing.{session_state, transaction_in, AreViews}
@@ -78,10 +80,11 @@ numbers_from n [] = []
 numbers_from n (None ∷ lines) = numbers_from (n + 1) lines
 numbers_from n (Some line ∷ lines) = n ∷ numbers_from (n + 1) lines
 
--- a session that was given these lines: each that isn't blank has its answer; where the store told its contents at the start, its log is that of a run; and where it hasn't ended it
--- may be given more
+-- a session that was given these lines: each that isn't blank has its answer, and the failed calls that its answers tell are those among its
+-- events; where the store told its contents at the start, its log is that of a run; and where it hasn't ended it may be given more
 pub record IsSessionOn (book : BookView Opening) (s : SessionSeen) (lines : List (Option Line)) : Type 0 where
   pub rested : IsRested book s.pass
   pub answered : map (λ (a : Answer). a.line) s.log ≡ numbers_from 1 lines
+  pub failed : failures_by s.log ≡ failures_of (own_events s.pass.number 1 s.pass.seen)
   pub told : (start : Contents) → book.fixed.store.contents ≡ Some start → IsRunTo (fixed_by book.fixed start) s lines
   pub fit : s.ended ≡ false → MayGoOn book s.pass s.names s.txn

@@ -6,7 +6,8 @@ ghost use Rattle.session_openings.specs.Refusals.{refusal_body};
 ghost use Rattle.line_forms.specs.Form.{form_of, IsSound};
 ghost use Rattle.session_openings.specs.Meanings.{line_of, line_of_bytes};
 ghost use Rattle.session_runs.specs.Session.{HasMounts, MayGoOn, IsLineTold};
-ghost use Rattle.session_openings.specs.Turns.{HasPassed};
+ghost use Rattle.session_openings.specs.Failures.{TellsFailures};
+ghost use Rattle.session_openings.specs.Turns.{HasPassed, added_by};
 
 use crate::commands::{joined, opened, resized, resolved, shown, viewed, written};
 use cells::Name;
@@ -37,6 +38,7 @@ pub(crate) fn answered<K: KvStore, R: Wait, G: Gate>(
     requires mounts { HasMounts book.now mounts.now }
     ensures told { IsLineTold book.now pass.old pass.new (get_by_text names.old) txn.old line
         (line_of_bytes mounts.now bytes.now) (get_by_text names.new) txn.new result }
+    ensures failures { TellsFailures (added_by pass.old pass.new) result }
     ensures passed { HasPassed book.now pass.old pass.new }
     ensures on { result ≢ printed.Memory → MayGoOn book.now pass.new (get_by_text names.new) txn.new }
 {
@@ -75,6 +77,7 @@ fn obeyed<K: KvStore, R: Wait, G: Gate>(
     requires sound { IsSound mounts.now command }
     ensures told { IsLineTold book.now pass.old pass.new (get_by_text names.old) txn.old line
         (line_of (form_of command)) (get_by_text names.new) txn.new result }
+    ensures failures { TellsFailures (added_by pass.old pass.new) result }
     ensures passed { HasPassed book.now pass.old pass.new }
     ensures on { result ≢ printed.Memory → MayGoOn book.now pass.new (get_by_text names.new) txn.new }
 {

@@ -13,7 +13,8 @@ ghost use Rattle.session_openings.specs.Numbers.{values_of, downsampling_of};
 ghost use Rattle.session_openings.specs.MeaningOpenings.{leaves_of, build_of};
 ghost use Rattle.serde_json.specs.View.{view as data_in};
 ghost use Rattle.session_openings.specs.Wanted.{MayOpen};
-ghost use Rattle.session_openings.specs.Turns.{IsRested, HasPassed};
+ghost use Rattle.session_openings.specs.Failures.{TellsFailures};
+ghost use Rattle.session_openings.specs.Turns.{IsRested, HasPassed, added_by};
 ghost use Rattle.sessions.specs.Commits.{HasSoundTxn};
 ghost use Rattle.sessions.specs.Reads.{IsReadTold};
 ghost use Rattle.session_openings.specs.Standing.{session_state, transaction_in, AreViews};
@@ -51,6 +52,7 @@ pub(crate) fn opened<K: KvStore, R: Wait>(
     ensures told { (line : ℕ) → IsToldBy book.now pass.old pass.new
         (session_state (get_by_text names.old) (length pass.old.seen) txn.now) line
         (opening name (leaves_of plan) (build_of plan)) (get_by_text names.new) (transaction_in txn.now) result }
+    ensures failures { TellsFailures (added_by pass.old pass.new) result }
     ensures passed { HasPassed book.now pass.old pass.new }
     ensures views { AreViews (get_by_text names.new) }
     ensures known { AreKnownNames pass.new.seen (get_by_text names.new) }
@@ -140,6 +142,7 @@ pub(crate) fn shown<K: KvStore, R: Wait, G: Gate>(
     requires txn { HasSoundTxn book.now.fixed pass.old.seen txn.old }
     ensures told { IsReadTold book.now pass.old pass.new (get_by_text names.now) txn.old txn.new line
         (reading name (changes_of None steps) (downsampling_of down)) result }
+    ensures failures { TellsFailures (added_by pass.old pass.new) result }
     ensures passed { HasPassed book.now pass.old pass.new }
     ensures txn { HasSoundTxn book.now.fixed pass.new.seen txn.new }
 {
@@ -181,6 +184,7 @@ pub(crate) fn written<K: KvStore, R: Wait, G: Gate>(
         (session_state (get_by_text names.now) (length pass.old.seen) txn.old) line
         (writing name (changes_of None steps) (values_of (data_in values))) (get_by_text names.now)
         (transaction_in txn.new) result }
+    ensures failures { TellsFailures (added_by pass.old pass.new) result }
     ensures passed { HasPassed book.now pass.old pass.new }
     ensures txn { result ≢ printed.Memory → HasSoundTxn book.now.fixed pass.new.seen txn.new }
 {
@@ -216,6 +220,7 @@ pub(crate) fn resized<K: KvStore, R: Wait>(
     ensures told { (line : ℕ) → IsToldBy book.now pass.old pass.new
         (session_state (get_by_text names.now) (length pass.old.seen) txn.now) line (resizing name shape)
         (get_by_text names.now) (transaction_in txn.now) result }
+    ensures failures { TellsFailures (added_by pass.old pass.new) result }
     ensures passed { HasPassed book.now pass.old pass.new }
 {
     resize(
@@ -246,6 +251,7 @@ pub(crate) fn resolved<K: KvStore, R: Wait>(
     ensures told { (line : ℕ) → IsToldBy book.now pass.old pass.new
         (session_state (get_by_text names.old) (length pass.old.seen) txn.now) line (resolving name)
         (get_by_text names.new) (transaction_in txn.now) result }
+    ensures failures { TellsFailures (added_by pass.old pass.new) result }
     ensures passed { HasPassed book.now pass.old pass.new }
     ensures views { AreViews (get_by_text names.new) }
     ensures known { AreKnownNames pass.new.seen (get_by_text names.new) }

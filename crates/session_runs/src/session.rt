@@ -6,7 +6,8 @@ ghost use Rattle.history.specs.Lines.{Line};
 ghost use Rattle.session_openings.specs.Meanings.{line_of_bytes};
 ghost use Rattle.indexmap.specs.IndexMap.{get_by_text};
 ghost use Rattle.session_runs.specs.Session.{HasMounts, MayGoOn, IsSessionOn, session_with};
-ghost use Rattle.session_openings.specs.Turns.{HasPassed, IsRested};
+ghost use Rattle.session_openings.specs.Failures.{TellsFailures};
+ghost use Rattle.session_openings.specs.Turns.{HasPassed, IsRested, added_by};
 ghost use Rattle.state_laws.specs.Agreement.{Opening};
 ghost use Rattle.turn_book.specs.Passes.{BookView};
 
@@ -76,6 +77,9 @@ impl<K: KvStore> Session<K> {
         ensures log { OnOk result ((body : BodyOf)
             × (self.new.log.items ≡ self.old.log.items ++ record { line = line; body = body } ∷ [])
             × (body ≡ printed.Memory → self.new.ended ≡ true) × (self.new.ended ≡ true → body ≡ printed.Memory)) }
+        ensures failures { OnOk result ((body : BodyOf)
+            × (self.new.log.items ≡ self.old.log.items ++ record { line = line; body = body } ∷ [])
+            × TellsFailures (added_by self.old.pass self.new.pass) body) }
         ensures passed { HasPassed book.now self.old.pass self.new.pass }
         ensures on { self.new.ended ≡ false → MayGoOn book.now self.new.pass (get_by_text self.new.names) self.new.txn }
         ensures ended { OnErr result (self.new.ended ≡ true) }

@@ -1,10 +1,15 @@
-use Rattle.std.proofs.Common.{rules, ◌≡◌, true, false, refl, sym, ap, subst, ◌∙◌}
+use Rattle.std.proofs.Common.{length, sym, subst}
 use Rattle.indexmap.specs.IndexMap.{get_by_text}
+use Rattle.history.specs.Lines.{viewing, joining, beginning, aborting}
 use Rattle.line_forms.specs.Form.{form_of}
+use Rattle.session_openings.specs.Changes.{changes_of}
+use Rattle.session_openings.specs.Joins.{join_of}
 use Rattle.session_openings.specs.Meanings.{line_of}
 use Rattle.session_runs.specs.Session.{IsLineTold}
 use Rattle.session_runs.proofs.LineLaws.{line_alone, line_by, goes_by, goes_with, goes_alone}
 use Rattle.session_openings.proofs.Laws.{names_then}
+use Rattle.session_openings.specs.Standing.{session_state, transaction_in}
+use Rattle.sessions.proofs.Laws.{alone_tells, plain_view, plain_join, plain_begin, plain_abort}
 use Rattle.session_runs.proofs.answering.obeyed.Goals as goal
 
 pub returns-in-Open-clause-told : goal.returns-in-Open-clause-told
@@ -76,3 +81,19 @@ returns-in-Resolve-clause-told g c =
 
 pub returns-in-Resolve-clause-on : goal.returns-in-Resolve-clause-on
 returns-in-Resolve-clause-on g c = λ other. goes_by c.args.book.now c.args.pass.now c.resolved.new.pass (get_by_text c.args.names.now) (get_by_text c.resolved.new.names) c.args.txn.now c.requires.on c.resolved.ensures.passed c.resolved.ensures.views c.resolved.ensures.known
+
+pub returns-in-View-clause-failures : goal.returns-in-View-clause-failures
+returns-in-View-clause-failures g c =
+    alone_tells c.args.pass.now (session_state (get_by_text c.args.names.now) (length c.args.pass.now.seen) c.args.txn.now) c.args.line (viewing c.in-View.name c.in-View.of (changes_of c.in-View.transform c.in-View.steps)) (get_by_text c.viewed.new.names) (transaction_in c.args.txn.now) c.viewed.result (plain_view (get_by_text c.args.names.now) (transaction_in c.args.txn.now) c.in-View.name c.in-View.of (changes_of c.in-View.transform c.in-View.steps)) (c.viewed.ensures.told (length c.args.pass.now.seen) c.args.line c.args.txn.now)
+
+pub returns-in-Join-clause-failures : goal.returns-in-Join-clause-failures
+returns-in-Join-clause-failures g c =
+    alone_tells c.args.pass.now (session_state (get_by_text c.args.names.now) (length c.args.pass.now.seen) c.args.txn.now) c.args.line (joining c.in-Join.name c.in-Join.layers (join_of c.in-Join.form) (changes_of c.in-Join.transform c.in-Join.steps)) (get_by_text c.joined.new.names) (transaction_in c.args.txn.now) c.joined.result (plain_join (get_by_text c.args.names.now) (transaction_in c.args.txn.now) c.in-Join.name c.in-Join.layers (join_of c.in-Join.form) (changes_of c.in-Join.transform c.in-Join.steps)) (c.joined.ensures.told (length c.args.pass.now.seen) c.args.line c.args.txn.now)
+
+pub returns-in-Begin-clause-failures : goal.returns-in-Begin-clause-failures
+returns-in-Begin-clause-failures g c =
+    alone_tells c.args.pass.now (session_state (get_by_text c.args.names.now) (length c.args.pass.now.seen) c.args.txn.now) c.args.line (beginning (record { atomic = c.in-Begin.atomic; repeatable_read = c.in-Begin.repeatable_read })) (get_by_text c.args.names.now) (transaction_in c.begin.new.txn) c.begin.result (plain_begin (get_by_text c.args.names.now) (transaction_in c.args.txn.now) (record { atomic = c.in-Begin.atomic; repeatable_read = c.in-Begin.repeatable_read })) (c.begin.ensures.told (get_by_text c.args.names.now) (length c.args.pass.now.seen))
+
+pub returns-in-Abort-clause-failures : goal.returns-in-Abort-clause-failures
+returns-in-Abort-clause-failures g c =
+    alone_tells c.args.pass.now (session_state (get_by_text c.args.names.now) (length c.args.pass.now.seen) c.args.txn.now) c.args.line aborting (get_by_text c.args.names.now) (transaction_in c.abort.new.txn) c.abort.result (plain_abort (get_by_text c.args.names.now) (transaction_in c.args.txn.now)) (c.abort.ensures.told (get_by_text c.args.names.now) (length c.args.pass.now.seen))

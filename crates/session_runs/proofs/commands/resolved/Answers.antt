@@ -1,0 +1,18 @@
+use Rattle.std.proofs.Common.{◌∙◌, [], length, sym, ap}
+use Rattle.std.specs.FinMap as finmap
+use Rattle.history.specs.Commit.{Fixed}
+use Rattle.history.specs.Lines.{resolving}
+use Rattle.indexmap.specs.IndexMap.{get_by_text}
+use Rattle.session_openings.specs.Failures.{failures_of}
+use Rattle.session_openings.specs.Standing.{session_state, transaction_in}
+use Rattle.sessions.proofs.Laws.{plain_resolve, told_tells_none}
+use Rattle.session_runs.proofs.commands.resolved.Goals as goal
+
+pub returns-clause-failures : goal.returns-clause-failures
+returns-clause-failures g c =
+    let old = c.args.pass.now in
+    let names = get_by_text c.args.names.now in
+    let fixed : Fixed = record { start = finmap.empty; prefixes = [] } in
+    ap failures_of c.resolve.ensures.none
+    ∙ sym (told_tells_none fixed old.number c.resolve.new.pass.seen (session_state names (length old.seen) c.args.txn.now) 0 (resolving c.items.result.now) (get_by_text c.resolve.new.names) (transaction_in c.args.txn.now) c.resolve.result []
+    (plain_resolve names (transaction_in c.args.txn.now) c.items.result.now) (c.resolve.ensures.anywhere fixed 0))
