@@ -18,7 +18,8 @@ use Rattle.session_runs.specs.Bodies.{answer_of}
 use Rattle.serial_runs.specs.Runs.{Script, IsLog}
 use Rattle.session_runs.specs.Scripts.{asked_by}
 use Rattle.session_runs.specs.Session.{IsRunTo}
-use Rattle.session_runs.proofs.Laws.{own-none, drop_front, same_rest}
+use Rattle.session_runs.specs.Failures.{failures_by, failures_of}
+use Rattle.session_runs.proofs.Laws.{own-append, own-none, drop_front, same_rest}
 use Rattle.session_workers.specs.Workers.{IsSessionLog, AreSessionLogs}
 use Rattle.session_workers.specs.Runs.{ArePrinted}
 use Rattle.session_workers.proofs.Chosen.{AreChosen, choose, got, below, got_map, mapped_by}
@@ -65,6 +66,18 @@ module _ (book : BookView Opening) (mounts : List (List ℕ)) (start : Contents)
           },
         ),
       )
+
+-- the failed calls that a log tells are those among its session's events
+pub log_failed : (book : BookView Opening) (mounts : List (List ℕ)) (history : History) (k : ℕ) (script : List ℕ) (log : List Answer) → IsSessionLog book mounts history k script log → failures_by log ≡ failures_of (own_events k 1 history)
+log_failed book mounts history k script log is =
+    let seen = is.session.pass.seen in
+    let rest = is.seen.0 in
+    let parts : seen ++ rest ≡ history = is.seen.1 in
+    let own : entries_of owner_of k seen ≡ is.session.pass.mine = subst (λ n. entries_of owner_of n seen ≡ is.session.pass.mine) is.number_is is.run.on.rested.own in
+    let none : entries_of owner_of k rest ≡ [] = no_other k seen rest (ap (entries_of owner_of k) parts ∙ is.own ∙ sym own) in
+    let same : own_events k 1 history ≡ own_events k 1 seen =
+    ap (own_events k 1) (sym parts) ∙ own-append k 1 seen rest ∙ ap (λ os. own_events k 1 seen ++ os) (own-none k (1 + length seen) rest none) ∙ append-nil (own_events k 1 seen) in
+    subst (λ l. failures_by l ≡ failures_of (own_events k 1 history)) is.log_is (is.run.on.failed ∙ ap (λ n. failures_of (own_events n 1 seen)) is.number_is ∙ ap failures_of (sym same))
 
 -- logs of sessions are printed ones of a run
 pub run_logs : (opening : Opening) (start : Contents) → opening.store.contents ≡ Some start → (mounts scripts : List (List ℕ)) (history : History) (logs : List (List Answer)) → AreSessionLogs opening mounts scripts history logs

@@ -25,7 +25,7 @@ use Rattle.serial_runs.proofs.Laws.{logs_foreign, run_alike, serial}
 use Rattle.session_workers.specs.Workers.{AreSessionLogs, AreWhole, asked_by, numbers_from}
 use Rattle.session_workers.specs.Runs.{ArePrinted}
 use Rattle.session_workers.proofs.Joined.{joined}
-use Rattle.session_workers.proofs.Logs.{run_logs}
+use Rattle.session_workers.proofs.Logs.{run_logs, log_failed}
 use Rattle.session_workers.proofs.Mounts.{of_mount}
 use Rattle.state_laws.specs.Agreement.{Opening, Agrees, IsTrueTo, is_fault}
 use Rattle.state_laws.specs.Log.{Log}
@@ -183,6 +183,7 @@ module _ (scripts : List (List ℕ)) (old mid new : List Part) (limit : ℕ) (lo
     numbered = λ k script log here at. let one = ended.each k script log here at in
         subst (λ l. IsPrefix (map (λ (a : Answer). a.line) l) (numbers_from 1 (asked_by (names_of old) script))) one.log_is
         (answered_first (asked_by (names_of old) script) one.run.given one.run.left (map (λ (a : Answer). a.line) one.session.log) one.run.parts one.run.on.answered);
+    failed = λ k script answers here at. log_failed ended.book (names_of old) log.events k script answers (ended.each k script answers here at);
     owners = ended.owners;
     back = back are;
     told = printed_run;

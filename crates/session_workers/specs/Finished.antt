@@ -5,10 +5,12 @@ use mathlib.Core.List.{IsPrefix}
 use Rattle.answer_text.specs.declared.answer.Answer.{Answer}
 use Rattle.history.specs.History.{History}
 use Rattle.history.specs.declared.event.Event.{Event}
+use Rattle.history.specs.Own.{own_events}
 use Rattle.kv_face.specs.Store.{Contents, opened}
 use Rattle.kv_mounts.specs.Finish.{failed_places}
 use Rattle.kv_mounts.specs.Parts.{Part, AreMounts, names_of}
 use Rattle.kv_mounts.specs.Union.{faults_of, has_failed, prefixes_of, union_of}
+use Rattle.session_runs.specs.Failures.{failures_by, failures_of}
 use Rattle.session_workers.specs.MountRuns.{IsPrintedRun, IsEmptyMount, IsSerialRun, IsSingleRun}
 use Rattle.state_laws.specs.Agreement.{is_fault}
 -- what a script asks, and that a log has its answers
@@ -42,6 +44,9 @@ pub record IsRun (scripts : List (List ℕ)) (old new : List Part) (history : Hi
   -- and at every end the lines that have answers are the first ones
   pub numbered : (k : ℕ) (script : List ℕ) (log : List Answer) → slice_get scripts k ≡ Some script → slice_get logs k ≡ Some log
       → IsPrefix (map (λ (a : Answer). a.line) log) (numbers_from 1 (asked_by (names_of old) script))
+  -- the failed calls that a log tells are those among its session's events, each once and in order: none is told that didn't happen, and none is left out
+  pub failed : (k : ℕ) (script : List ℕ) (log : List Answer) → slice_get scripts k ≡ Some script → slice_get logs k ≡ Some log
+      → failures_by log ≡ failures_of (own_events k 1 history)
   pub owners : AllByRecursion (λ (e : Event). e.owner < length scripts) history
   pub back : AreBack old new history unfinished
   -- where the stores told their contents, the history is legal, the logs are those of sessions that ran the scripts over it, and the stores hold what it
