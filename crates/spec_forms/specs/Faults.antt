@@ -6,11 +6,10 @@ use Rattle.want_forms.specs.Asking.{comes_before}
 use Rattle.spec_forms.specs.declared.error.SpecError.{SpecError}
 use Rattle.spec_forms.specs.declared.error.SpecError.TheVariants as spec
 
--- a path below another; an empty path is the whole value
+-- a path in the value at a path: behind a slash, also where it is empty, as that of a member with no name; that of the whole value is empty
 abbrev pub joined : List ℕ → List ℕ → List ℕ
 joined [] inner = inner
-joined (b ∷ path) [] = b ∷ path
-joined (b ∷ path) (c ∷ inner) = (b ∷ path) ++ 47 ∷ c ∷ inner
+joined (b ∷ path) inner = (b ∷ path) ++ 47 ∷ inner
 
 -- a fault at a path
 abbrev pub fault_at : List ℕ → Fault → SpecError

@@ -1,7 +1,7 @@
 -- The members that Specs share.
-use Rattle.std.specs.Prelude.{ℕ, List, codes, Bool, true, false, not, Option, Some, None, Result, Ok, Err, if◌then◌else◌}
+use Rattle.std.specs.Prelude.{ℕ, List, codes, Bool, true, false, not, Option, Some, None, Result, Ok, Err, is_some, if◌then◌else◌}
 use Rattle.serde_json.specs.Data.{Data}
-use Rattle.serde_json.specs.Find.{get, as_str, as_bool}
+use Rattle.serde_json.specs.Find.{get, as_str, as_bool, as_object}
 use Rattle.cells.specs.DtypeNames.{dtype_named}
 use Rattle.cells.specs.declared.dtype.Dtype.{Dtype}
 use Rattle.want_forms.specs.FormWants.{same_dtype}
@@ -68,16 +68,20 @@ abbrev pub agreeing : Option Dtype → Result (Option Dtype) Fault → Result (O
 agreeing named (Err fault) = Err fault
 agreeing named (Ok own) = if agrees named own then Ok own else Err Bad
 
--- a transform at a path, or its first fault below it
-abbrev pub placed : List ℕ → Result DomainAndMaps JsonError → Result (Option DomainAndMaps) SpecError
-placed path (Ok t) = Ok (Some t)
-placed path (Err (json.BadMember inner)) = Err (spec.BadSpec (joined path inner))
-placed path (Err json.Memory) = Err spec.Memory
+-- where the value at a path is at fault, by a path in it; a value that is no object is at fault itself
+abbrev pub fault_in : List ℕ → Data → List ℕ → List ℕ
+fault_in path d inner = if is_some (as_object d) then joined path inner else path
+
+-- a transform that the value at a path is, or its first fault
+abbrev pub placed : List ℕ → Data → Result DomainAndMaps JsonError → Result (Option DomainAndMaps) SpecError
+placed path d (Ok t) = Ok (Some t)
+placed path d (Err (json.BadMember inner)) = Err (spec.BadSpec (fault_in path d inner))
+placed path d (Err json.Memory) = Err spec.Memory
 
 -- a transform that may be left out
 unfoldable pub transform_at : List ℕ → Option Data → Result (Option DomainAndMaps) SpecError
 transform_at path None = Ok None
-transform_at path (Some d) = placed path (transform_of d)
+transform_at path (Some d) = placed path d (transform_of d)
 
 -- a member that every Spec may have, and which may say false alone
 unfoldable pub false_at : List ℕ → List ℕ → Option (List ℕ) → Data → Result (Unit {0}) SpecError

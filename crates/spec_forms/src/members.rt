@@ -5,11 +5,11 @@ ghost use Rattle.serde_json.specs.View.{view};
 ghost use Rattle.transform_json.specs.Transforms.{transform_of};
 ghost use Rattle.transform_json.specs.declared.error.JsonError.TheVariants as json;
 ghost use Rattle.spec_forms.specs.Faults.{joined, in_turn};
-ghost use Rattle.spec_forms.specs.Members.{judged_absent, said, judged_false, flag_of, judged_flag, known, dtype_of, judged_dtype, required, agrees, agreeing, placed, transform_at, tail_at, false_at};
+ghost use Rattle.spec_forms.specs.Members.{judged_absent, said, judged_false, flag_of, judged_flag, known, dtype_of, judged_dtype, required, agrees, agreeing, fault_in, placed, transform_at, tail_at, false_at};
 ghost use Rattle.spec_forms.specs.declared.error.SpecError.{SpecError};
 
 use crate::error::SpecError;
-use crate::places::{joined, judged_in_turn, none_before, none_left};
+use crate::places::{fault_at, joined, judged_in_turn, none_before, none_left, own_fault};
 use cells::{Dtype, Name};
 use index_transform::Transform;
 use meta_forms::Fault;
@@ -93,28 +93,29 @@ fn transform_at(
         None => Ok(None),
         Some(value) => match read_transform(alloc, value) {
             Ok(transform) => Ok(Some(transform)),
-            Err(error) => Err(below(alloc, path, error)),
+            Err(error) => Err(below(alloc, path, value, error)),
         },
     }
 }
 
 // The fault of a transform, as one of the Spec that it stands in.
-fn below(alloc: Global, path: &str, error: JsonError) -> SpecError
-    ensures { result ≢ SpecError.Memory → placed path.now (Err error) ≡ Err result }
+fn below(alloc: Global, path: &str, value: &Value, error: JsonError) -> SpecError
+    ensures { result ≢ SpecError.Memory → placed path.now (view value.now) (Err error) ≡ Err result }
 {
     match error {
-        JsonError::BadMember { path: inner } => bad_below(alloc, path, inner.items()),
+        JsonError::BadMember { path: inner } => bad_in(alloc, path, value, inner.items()),
         JsonError::Memory => SpecError::Memory,
     }
 }
 
-/// That what stands at a path is a fault.
-pub(crate) fn bad_below(alloc: Global, path: &str, inner: &str) -> SpecError
-    ensures { result ≢ SpecError.Memory → result ≡ SpecError.BadSpec (joined path.now inner.now) }
+// That an object is at fault at a path in it, or another value itself.
+fn bad_in(alloc: Global, path: &str, value: &Value, inner: &str) -> SpecError
+    ensures { result ≢ SpecError.Memory → result ≡ SpecError.BadSpec (fault_in path.now (view value.now) inner.now) }
 {
-    match joined(alloc, path, inner) {
-        Ok(path) => SpecError::BadSpec { path },
-        Err(_) => SpecError::Memory,
+    if value.as_object().is_some() {
+        fault_at(alloc, path, inner, Fault::Bad)
+    } else {
+        own_fault(alloc, path, Fault::Bad)
     }
 }
 

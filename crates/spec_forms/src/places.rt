@@ -10,20 +10,17 @@ use meta_forms::Fault;
 use std::alloc::{AllocError, Global};
 use want_forms::comes_before;
 
-/// A path below another.
+/// A path in the value at a path: behind a slash, also where it is empty, as that of a member with no name.
 pub fn joined(alloc: Global, path: &str, inner: &str) -> Result<Name, AllocError>
     ensures { IfOk result (λ name. name ≡ joined path.now inner.now) }
 {
     if path.is_empty() {
         return Ok(Name::wrap(String::from_str(alloc, inner)?));
     }
-    if inner.is_empty() {
-        return Ok(Name::wrap(String::from_str(alloc, path)?));
-    }
     Ok(Name::wrap(format!(in alloc; "{path}/{inner}")?))
 }
 
-/// The fault of a member of the value at a path; that of the value itself where the member's name is empty.
+/// The fault of a member of the value at a path.
 pub(crate) fn fault_at(alloc: Global, path: &str, name: &str, fault: Fault) -> SpecError
     ensures { result ≢ SpecError.Memory → result ≡ fault_at (joined path.now name.now) fault }
 {
