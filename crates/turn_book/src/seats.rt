@@ -17,8 +17,9 @@ use std::alloc::Global;
 use std::hint;
 use std::sync::Wait;
 
-// How often the turn is asked for before its seat waits. A turn is often over sooner than a thread sleeps and is woken.
-const TRIES: u32 = 100;
+// How often the turn is asked for before its seat waits: for about as long as a thread takes to fall asleep and be woken, since a turn is often
+// over sooner.
+const TRIES: u32 = 400;
 
 // Asks for the turn for a short while, and says whether it is this seat's.
 fn try_turn<S: Book>(
