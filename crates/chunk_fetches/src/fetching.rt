@@ -12,9 +12,10 @@ ghost use Rattle.chunk_fetches.specs.Fetching.{IsFetchError, IsDecodeRefusal, as
 ghost use Rattle.chunk_fetches.specs.Fetched.{AreFetched, AreFetchedAt, kept_from};
 ghost use Rattle.chunk_fetches.specs.Looking.{AreLookedAt, AreChunks, AreFresh};
 ghost use Rattle.chunk_fetches.specs.Sources.{is_new, new_pieces};
-ghost use Rattle.chunk_fetches.specs.Turns.{HasPassed, HasTurned};
+ghost use Rattle.chunk_fetches.specs.Turns.{HasPassed};
 ghost use Rattle.chunk_fetches.specs.Kept.{chunk_at};
 ghost use Rattle.chunk_fetches.specs.declared.error.ReadError.TheVariants as read_error;
+ghost use Rattle.chunk_fetches.specs.declared.looked.Fresh.{Fresh as FreshOf};
 ghost use Rattle.chunk_fetches.specs.declared.source.Source.{Source as SourceOf};
 ghost use Rattle.turn_book.specs.Passes.{IsIdle};
 
@@ -34,7 +35,7 @@ use transaction_cells::Piece;
 use turn_book::{Pass, TurnBook};
 
 /// Fetches the chunks that are to be fetched for a view's pieces. They are looked at in one turn, decoded outside of it, and handed to the
-/// state in another. No turn is taken where there are none.
+/// state in another, where the state didn't keep them all. No turn is taken where there are none.
 ///
 /// # Errors
 /// `StoreFailed`; `Damaged` for the first chunk whose bytes are none of its array; `Memory`.
@@ -111,13 +112,25 @@ fn decoded<K: KvStore, R: Wait, G: Gate>(
     requires mark { mark ≡ length pass.old.seen }
     ensures fetched { IfOk result (λ fetched.
         AreFetchedAt book.now.fixed pass.new.seen mark (new_pieces sources.now pieces.now) fetched.items) }
-    ensures ok { OnOk result (HasTurned book.now pass.old pass.new []) }
+    ensures ok { OnOk result (HasPassed book.now pass.old pass.new []) }
     ensures refused { IfErr result (IsDecodeRefusal book.now pass.old pass.new (new_pieces sources.now pieces.now)) }
 {
     match decode_all(alloc, rt, gate, pass.number(), looks) {
         Ok(fresh) => settled(alloc, rt, book, pass, pieces, sources, fresh, mark),
         Err(e) => Err(e),
     }
+}
+
+// Whether one of the chunks was decoded for this read.
+fn has_decoded(fresh: &[Fresh]) -> bool
+    ensures { result ≡ list_any (λ (f : FreshOf). f.is_new) fresh.now }
+{
+    for f in fresh {
+        if f.is_new {
+            return true;
+        }
+    }
+    false
 }
 
 fn settled<K: KvStore, R: Wait>(
@@ -140,9 +153,12 @@ fn settled<K: KvStore, R: Wait>(
     requires mark { mark ≡ length pass.old.seen }
     ensures fetched { IfOk result (λ fetched.
         AreFetchedAt book.now.fixed pass.new.seen mark (new_pieces sources.now pieces.now) fetched.items) }
-    ensures turned { HasTurned book.now pass.old pass.new [] }
+    ensures passed { HasPassed book.now pass.old pass.new [] }
     ensures refused { IfErr result (λ e. e ≡ read_error.Memory) }
 {
+    if !has_decoded(&fresh) {
+        return kept(alloc, pieces, sources, fresh, mark);
+    }
     match settle_in_turn(rt, book, pass, pieces, sources, &fresh) {
         Ok(()) => kept(alloc, pieces, sources, fresh, mark),
         Err(_) => Err(ReadError::Memory),

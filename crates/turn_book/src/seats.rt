@@ -19,7 +19,7 @@ use std::sync::Wait;
 
 // How often the turn is asked for before its seat waits: for about as long as a thread takes to fall asleep and be woken, since a turn is often
 // over sooner.
-const TRIES: u32 = 400;
+const TRIES: u32 = 2000;
 
 // Asks for the turn for a short while, and says whether it is this seat's.
 fn try_turn<S: Book>(
