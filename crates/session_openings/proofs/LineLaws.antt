@@ -20,8 +20,8 @@ use Rattle.history.specs.Viewing.{opened_body}
 use Rattle.kv_face.specs.Store.{Contents}
 use Rattle.session_turns.specs.Bodies.{body_of}
 use Rattle.session_turns.specs.Causes.{build_cause}
-use Rattle.line_meanings.specs.Openings.{leaf_of, node_of, leaves_from, leaves_of, build_cause_of, by_built, build_of}
-use Rattle.line_meanings.proofs.Laws.{build_within}
+use Rattle.session_turns.specs.MeaningOpenings.{leaf_of, node_of, leaves_from, leaves_of, build_cause_of, by_built, build_of}
+use Rattle.session_turns.proofs.Laws.{build_within}
 use Rattle.session_openings.specs.Events.{IsArrayOpened, TellsOpenings, failure_in, AreTold}
 use Rattle.session_openings.specs.Opened.{IsUnbuilt, IsBuiltBy, IsBoundToPlan, IsBoundOrNot, IsLineOpened}
 use Rattle.session_openings.specs.Openings.{AreAllOpened, IsLeafRefused}

@@ -6,7 +6,7 @@ use Rattle.session_turns.specs.declared.Body.{Body}
 use Rattle.history.specs.declared.event.Event.{Event}
 use Rattle.history.specs.Answers.{Text}
 use Rattle.history.specs.Lines as history
-use Rattle.line_meanings.specs.Openings.{leaf_of, node_of, leaves_from}
+use Rattle.session_turns.specs.MeaningOpenings.{leaf_of, node_of, leaves_from}
 use Rattle.session_openings.specs.Openings.{AreAllOpened, OpensOne, IsLeafRefused, RefusesOne}
 use Rattle.session_openings.specs.declared.leaves.Wanted.{Wanted}
 use Rattle.session_openings.specs.Wanted.{wanted_leaf, MayBeAsked}

@@ -6,7 +6,7 @@ use Rattle.std.proofs.lemmas.Bool.Decides.{nat_tests}
 use Rattle.history.specs.Answers as old
 use Rattle.history.specs.Answers.{Text}
 use Rattle.history.specs.Legal.{IsMount}
-use Rattle.line_meanings.specs.Openings.{leaf_of, leaves_from, leaves_of, by_built, build_of}
+use Rattle.session_turns.specs.MeaningOpenings.{leaf_of, leaves_from, leaves_of, by_built, build_of}
 use Rattle.session_openings.specs.Wanted.{MayBeAsked, MayOpen}
 use Rattle.spec_forms.specs.Leaves.{IsSoundLeaf}
 use Rattle.spec_forms.specs.declared.leaf.SpecLeaf.{SpecLeaf}

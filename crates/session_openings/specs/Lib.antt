@@ -10,11 +10,11 @@ pub use Rattle.session_turns.specs.Failures
 pub use Rattle.session_turns.specs.Turns
 pub use Rattle.session_turns.specs.Txn
 pub use Rattle.session_turns.specs.Answers
-pub use Rattle.line_meanings.specs.Changes
-pub use Rattle.line_meanings.specs.Joins
-pub use Rattle.line_meanings.specs.Meanings
-pub use Rattle.line_meanings.specs.Numbers
-pub use Rattle.line_meanings.specs.Openings as MeaningOpenings
+pub use Rattle.session_turns.specs.Changes
+pub use Rattle.session_turns.specs.Joins
+pub use Rattle.session_turns.specs.Meanings
+pub use Rattle.session_turns.specs.Numbers
+pub use Rattle.session_turns.specs.MeaningOpenings
 pub use Rattle.session_turns.specs.Bodies
 pub use Rattle.session_turns.specs.Refusals
 pub use Rattle.session_turns.specs.TxnTurns

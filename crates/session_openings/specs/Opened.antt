@@ -13,7 +13,7 @@ use Rattle.history.specs.Sessions.{Names, bind}
 use Rattle.history.specs.Steps.{IsRow}
 use Rattle.kv_face.specs.Store.{Contents}
 use Rattle.session_turns.specs.Bodies.{body_of}
-use Rattle.line_meanings.specs.Openings.{leaves_of, build_of}
+use Rattle.session_turns.specs.MeaningOpenings.{leaves_of, build_of}
 use Rattle.session_openings.specs.Events.{AreTold}
 use Rattle.session_turns.specs.Turns.{HasPassed, added_by}
 use Rattle.session_turns.specs.Standing.{session_state, transaction_in}

@@ -6,7 +6,7 @@ ghost use Rattle.history.specs.Answers.{Text};
 ghost use Rattle.history.specs.Leaves.{location_of_leaf};
 ghost use Rattle.history.specs.Lines.{member_of_node};
 ghost use Rattle.session_turns.specs.Bodies.{body_of};
-ghost use Rattle.line_meanings.specs.Openings.{leaf_of, node_of};
+ghost use Rattle.session_turns.specs.MeaningOpenings.{leaf_of, node_of};
 ghost use Rattle.session_openings.specs.Wanted.{wanted_leaf, cause_in};
 ghost use Rattle.session_turns.specs.Asked.{asked_leaf};
 ghost use Rattle.session_turns.specs.Opening.{open_answer, IsUnseen};

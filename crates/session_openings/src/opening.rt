@@ -8,7 +8,7 @@ ghost use Rattle.history.specs.Legal.{IsMount};
 ghost use Rattle.history.specs.Lines.{opening, given, stored};
 ghost use Rattle.indexmap.specs.IndexMap.{get_by_text};
 ghost use Rattle.session_turns.specs.Bodies.{body_of};
-ghost use Rattle.line_meanings.specs.Openings.{leaf_of, node_of, leaves_from, leaves_of, build_of};
+ghost use Rattle.session_turns.specs.MeaningOpenings.{leaf_of, node_of, leaves_from, leaves_of, build_of};
 ghost use Rattle.session_openings.specs.Events.{AreTold};
 ghost use Rattle.session_openings.specs.Opened.{IsBoundOrNot, IsBuiltBy, IsLineOpened};
 ghost use Rattle.session_openings.specs.Openings.{AreAllOpened, OpensOne, IsLeafRefused, RefusesOne, HasRoom};

@@ -1,6 +1,6 @@
 -- Rows of lines that may take a turn, and take none.
 use Rattle.std.proofs.Common.{ℕ, Option, sym, subst}
-use Rattle.line_answers.specs.declared.Body.{Body}
+use Rattle.line_acts.specs.declared.Body.{Body}
 use Rattle.history.specs.declared.event.Event.{Event}
 use Rattle.history.specs.Acts.{act_of}
 use Rattle.history.specs.Commit.{Transaction}

@@ -17,16 +17,10 @@ pub use Rattle.session_turns.proofs.NameLaws.{view_then, names_then, renewed_kno
 pub use Rattle.session_turns.proofs.ToldLaws.{told_wanting, told_refused, told_bound}
 -- so is a refusal of a line that may take turns, where it takes none
 pub use Rattle.session_turns.proofs.AloneLaws.{told_alone, told_without}
--- what every name's view keeps, names keep once one of them is bound to a view that does
-pub use Rattle.session_turns.proofs.ToldLaws.{kept_bound}
--- what is asked outside of a transaction, and of a name that isn't bound; an answer to what is the same
-pub use Rattle.session_turns.proofs.ToldLaws.{refusal, outside_some, outside_none, named_none, answer_at}
--- what holds of an answer, by what holds of another
-pub use Rattle.session_turns.proofs.AnswerLaws.{if_ok_map, if_ok_both, if_err_map, changed_known}
--- what refuses a view by the count of its cells, and by the first cell without a target
-pub use Rattle.session_turns.proofs.FaultLaws.{found_all, out_of_range_fault, uncovered_fault, counted_view, refused_by_count, refused_by_cell, counted_sound}
+-- what is asked outside of a transaction
+pub use Rattle.session_turns.proofs.ToldLaws.{outside_some, outside_none}
 -- laws of crates below, given on to those above
 pub use Rattle.transactions.proofs.Laws.{IsCalm, may_calm, recorded_begun, recorded_later, recorded_read, recorded_written, txn_later}
 pub use Rattle.state_resizes.proofs.Laws.{body_of, resize_row}
-pub use Rattle.line_answers.proofs.Laws.{refusal_told}
+pub use Rattle.line_acts.proofs.Laws.{answer_at, binds_known, build_within, bytes_of_mount, changes_within, found_all, if_err_map, if_ok_both, if_ok_map, join_within, kept_bound, named_none, refusal, refusal_told}
 pub use Rattle.transactions.proofs.StagedLaws.{on_ok_any}

@@ -9,7 +9,4 @@ pub mod NameLaws
 pub mod TurnLaws
 pub mod ToldLaws
 pub mod AloneLaws
-pub mod AnswerLaws
-pub mod FaultLaws
-pub mod WalkLaws
 pub mod Laws

@@ -2,9 +2,9 @@
 use Rattle.std.specs.Prelude.{◌≡◌, ℕ, List, [], ◌∷◌, filter}
 use Rattle.std.specs.List.{flat_map}
 use Rattle.history.specs.Own.{Numbered, numbers_of}
-use Rattle.line_answers.specs.declared.Answer.{Answer}
-use Rattle.line_answers.specs.declared.Body.{Body}
-use Rattle.line_answers.specs.declared.Body.TheVariants.{StoreFailed}
+use Rattle.line_acts.specs.declared.Answer.{Answer}
+use Rattle.line_acts.specs.declared.Body.{Body}
+use Rattle.line_acts.specs.declared.Body.TheVariants.{StoreFailed}
 use Rattle.state_resizes.specs.Agreement.{is_fault}
 
 -- the numbers of the failed calls among events

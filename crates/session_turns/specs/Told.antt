@@ -1,20 +1,20 @@
 -- What a session answers, for what the history says of the line.
-use Rattle.std.specs.Prelude.{◌≡◌, ◌⊎◌, ℕ, List, [], Option, Some, Err}
-use Rattle.line_answers.specs.declared.Body.{Body}
-use Rattle.line_answers.specs.declared.Body.TheVariants.{Memory}
-use Rattle.history.specs.Acts.{Asked, act_of}
+use Rattle.std.specs.Prelude.{◌≡◌, ℕ, List, [], Option, Some}
+use Rattle.line_acts.specs.declared.Body.{Body}
+use Rattle.history.specs.Acts.{act_of}
 use Rattle.history.specs.Answers as old
-use Rattle.history.specs.Answers.{Text}
 use Rattle.history.specs.Commit.{Fixed, Transaction}
 use Rattle.history.specs.History.{History}
 use Rattle.history.specs.Lines.{Line}
 use Rattle.history.specs.Own.{Numbered}
-use Rattle.history.specs.Sessions.{Names, bind, SessionState}
+use Rattle.history.specs.Sessions.{Names, SessionState}
 use Rattle.history.specs.Steps.{IsAnswered}
 use Rattle.kv_face.specs.Store.{Contents}
-use Rattle.line_answers.specs.Bodies.{body_of}
+use Rattle.line_acts.specs.Bodies.{body_of}
+-- refusals and names that are bound, given on
+pub use Rattle.line_acts.specs.Refused.{IsAnswerTo}
+pub use Rattle.line_acts.specs.Bound.{IsBoundAs}
 use Rattle.session_turns.specs.Turns.{added_by}
-use Rattle.stack_driver.specs.declared.view.View.{View}
 use Rattle.state_resizes.specs.Agreement.{Opening}
 use Rattle.state_resizes.specs.Answers.{fixed_by}
 use Rattle.turn_book.specs.Passes.{BookView, PassView}
@@ -29,14 +29,6 @@ pub record IsTold (fixed : Fixed) (owner : ℕ) (events : History) (s : SessionS
 -- the same of a line that takes no turn: it adds no event, whatever has happened
 abbrev pub IsToldAlone : SessionState → ℕ → Line → Names → Option Transaction → Body → Type 0
 IsToldAlone s line asked names t answer = (fixed : Fixed) (owner : ℕ) (events : History) → IsTold fixed owner events s line asked names t answer []
-
--- want of memory, or the printed answer of a refusal
-abbrev pub IsAnswerTo : Asked → Body → Type 0
-IsAnswerTo asked answer = (answer ≡ Memory) ⊎ ((body : old.Body) × (asked ≡ Err body) × (answer ≡ body_of body))
-
--- a name is bound to a view, which this body tells, or memory was wanting and the names are as they were
-abbrev pub IsBoundAs : Body → Names → Text → View → Names → Body → Type 0
-IsBoundAs body names name view later answer = ((answer ≡ body) × (later ≡ bind names name view)) ⊎ ((answer ≡ Memory) × (later ≡ names))
 
 -- where the store told its contents at the start, the answer is that of a row over what the pass has seen in the end, and the row adds
 -- the pass's own new events

@@ -1,6 +1,4 @@
 pub mod BeginLaws
-pub mod ChangeLaws
-pub mod JoinLaws
 pub mod ResizeLaws
 pub mod RowLaws
 pub mod CommitRows
@@ -9,7 +7,6 @@ pub mod StageLaws
 pub mod SoundLaws
 pub mod EndLaws
 pub mod ReadRows
-pub mod ReadLaws
 pub mod Failures
 pub mod PlainLines
 pub mod Laws

@@ -1,5 +1,5 @@
 -- What a session answers to a line that reads, and what its transaction is then.
-use Rattle.std.specs.Prelude.{◌≡◌, ◌≢◌, ◌⊎◌, ℕ, List, [], length, Option, Some, None}
+use Rattle.std.specs.Prelude.{◌≡◌, ◌≢◌, ◌⊎◌, ℕ, List, [], length, Option, None}
 use Rattle.session_turns.specs.declared.Body.{Body}
 use Rattle.session_turns.specs.declared.Body.TheVariants.{StoreFailed, Shrunk, Memory}
 use Rattle.history.specs.declared.event.Event.{Event}
@@ -10,10 +10,8 @@ use Rattle.history.specs.Sessions.{Names}
 use Rattle.history.specs.Viewing.{cell_fault, values_body}
 use Rattle.session_turns.specs.Bodies.{body_of}
 use Rattle.session_turns.specs.Causes.{damage_body}
-use Rattle.line_meanings.specs.declared.DownWant.{DownWant}
 use Rattle.session_turns.specs.Standing.{session_state, transaction_in}
 use Rattle.session_turns.specs.Told.{IsAnswerTo, IsToldBy}
-use Rattle.stack_driver.specs.Views.{look_of}
 use Rattle.stack_driver.specs.declared.view.View.{View}
 use Rattle.session_turns.specs.Agreement.{Opening}
 use Rattle.session_turns.specs.Faults.{IsFaultOf}
@@ -23,11 +21,6 @@ use Rattle.session_turns.specs.Txn.{TxnSeen}
 use Rattle.session_turns.specs.declared.ReadError.{ReadError}
 use Rattle.session_turns.specs.declared.ReadError.TheVariants as read
 use Rattle.turn_book.specs.Passes.{BookView, PassView}
-
--- a read that is downsampled has a factor for each dimension
-abbrev pub HasRank : Option DownWant → View → Type 0
-HasRank None v = Unit {0}
-HasRank (Some want) v = length want.factors ≡ length (look_of v).dims
 
 -- where the view is refused for it, this is wrong with it
 abbrev pub IsViewFault : View → ReadError → Type 0

@@ -5,8 +5,6 @@
 #![tactic(auto)]
 
 mod beginning;
-mod causes;
-mod changing;
 mod committing;
 mod joining;
 mod reading;

@@ -1,49 +1,39 @@
 // Reads.
-ghost use Rattle.std.specs.Prelude.{◌≡◌, ◌⊎◌, Ok, Err, None, Some, Option, All, IfOk, IfErr, OnOk, length, true, false};
-ghost use Rattle.session_turns.specs.declared.Body.TheVariants as printed;
-ghost use Rattle.history.specs.Acts.{Asked, reads, read_of, without, with_factors, act_of};
-ghost use Rattle.history.specs.Answers as old_answers;
+ghost use Rattle.std.specs.Prelude.{◌≡◌, Ok, None, Option, All, length};
+ghost use Rattle.history.specs.Acts.{reads, without, act_of};
 ghost use Rattle.history.specs.Bound.{AreKnownNames};
-ghost use Rattle.history.specs.Commit.{Transaction};
-ghost use Rattle.history.specs.History.{History};
 ghost use Rattle.history.specs.Lines.{Line, reading};
 ghost use Rattle.history.specs.Refs.{HasKnownRefs};
 ghost use Rattle.history.specs.Sessions.{Names as NamesOf};
-ghost use Rattle.history.specs.Viewing.{cell_fault, origin_of as origin_in, shape_of as sizes_of, values_body};
+ghost use Rattle.history.specs.Viewing.{cell_fault};
 ghost use Rattle.index_transform.specs.Cells.{cells_of, count_answer};
 ghost use Rattle.indexmap.specs.IndexMap.{get_by_text};
-ghost use Rattle.session_turns.specs.Bodies.{body_of};
-ghost use Rattle.line_meanings.specs.Form.{HasFactors, MayHaveFactors};
-ghost use Rattle.line_meanings.specs.Changes.{changes_of};
-ghost use Rattle.line_meanings.specs.Numbers.{downsampling, downsampling_of};
+ghost use Rattle.session_turns.specs.Ranks.{HasRank};
+ghost use Rattle.session_turns.specs.Form.{MayHaveFactors};
+ghost use Rattle.session_turns.specs.Changes.{changes_of};
+ghost use Rattle.session_turns.specs.Numbers.{downsampling_of};
 ghost use Rattle.session_turns.specs.Failures.{TellsFailures};
 ghost use Rattle.session_turns.specs.Turns.{IsRested, HasPassed, added_by};
 ghost use Rattle.sessions.specs.Commits.{HasSoundTxn};
-ghost use Rattle.sessions.specs.Reads.{HasRank, IsAnsweredRead, IsReadTold, IsUnread, IsViewFault};
+ghost use Rattle.sessions.specs.Reads.{IsAnsweredRead, IsReadTold, IsUnread, IsViewFault};
 ghost use Rattle.session_turns.specs.Standing.{transaction_in, AreViews};
-ghost use Rattle.session_turns.specs.Told.{IsAnswerTo};
 ghost use Rattle.stack_driver.specs.Conditions.{IsView};
 ghost use Rattle.stack_driver.specs.Views.{look_of};
 ghost use Rattle.step_forms.specs.Given.{IsGiven};
 ghost use Rattle.session_turns.specs.Conditions.{IsTxnIn};
-ghost use Rattle.transform_composition.specs.declared.error.ComposeError.TheVariants as compose;
 ghost use Rattle.turn_book.specs.Passes.{IsIdle};
 
-use crate::writing::seen;
-use cells::{Dtype, Index, List, Sizes, Words};
-use downsample_view::down as downsampled;
+use cells::List;
 use history::Mode;
-use index_transform::size_of;
 use kv_face::KvStore;
-use line_meanings::DownWant;
 use session_turns::{
-    Body, Gate, Names, ReadError, State, Txn, counted, damaged, fault_body, has_few_lists,
+    Body, DownWant, Gate, Names, ReadError, State, Txn, asked_read, damaged, fault_body,
+    values_body,
 };
-use stack_driver::{View, dtype, transform_of};
-use std::alloc::{AllocError, Global};
+use stack_driver::View;
+use std::alloc::Global;
 use std::sync::Wait;
 use step_forms::Step;
-use transform_composition::ComposeError;
 use turn_book::{Pass, TurnBook};
 
 /// Reads the words of a view, and downsamples them where factors are given: in the transaction that stands, and as a transaction of its own
@@ -76,76 +66,6 @@ pub fn read<K: KvStore, R: Wait, G: Gate>(
     match asked_read(alloc, names, name, steps, down) {
         Ok(v) => answered(alloc, rt, book, pass, line, txn, &v, down, gate),
         Err(body) => body,
-    }
-}
-
-// The view of a read, or the answer to what refuses it before its cells are looked for.
-fn asked_read(
-    alloc: Global,
-    names: &Names,
-    name: &str,
-    steps: &[Step],
-    down: &Option<DownWant>,
-) -> Result<View, Body>
-    requires given { All IsGiven steps.now }
-    requires views { AreViews (get_by_text names.now) }
-    ensures act { IfOk result (λ v. (t : Option Transaction)
-        → act_of (get_by_text names.now) t (reading name.now (changes_of None steps.now) (downsampling_of down.now))
-        ≡ without (cell_fault v) (Ok (reads v (downsampling_of down.now)))) }
-    ensures view { IfOk result IsView }
-    ensures refs { IfOk result (λ v. (events : History) → AreKnownNames events (get_by_text names.now)
-        → HasKnownRefs events v) }
-    ensures count { IfOk result (λ v. count_answer (look_of v).dims ≡ Ok (length (cells_of (look_of v).dims))) }
-    ensures rank { IfOk result (HasRank down.now) }
-    ensures err { IfErr result (λ b. (t : Option Transaction)
-        → IsAnswerTo (act_of (get_by_text names.now) t
-        (reading name.now (changes_of None steps.now) (downsampling_of down.now))) b) }
-{
-    match seen(alloc, names, name, steps) {
-        Ok(v) => readable(v, down),
-        Err(body) => Err(body),
-    }
-}
-
-// A view, unless its factors or the count of its cells refuse the read.
-fn readable(v: View, down: &Option<DownWant>) -> Result<View, Body>
-    ensures view { IfOk result (λ w. w ≡ v) }
-    ensures value { OnOk result (read_of (downsampling_of down.now) v
-        ≡ without (cell_fault v) (Ok (reads v (downsampling_of down.now)))) }
-    ensures count { OnOk result (count_answer (look_of v).dims ≡ Ok (length (cells_of (look_of v).dims))) }
-    ensures rank { OnOk result (HasRank down.now v) }
-    ensures err { IfErr result (IsAnswerTo (read_of (downsampling_of down.now) v)) }
-{
-    match checked(&v, down) {
-        Ok(_) => Ok(v),
-        Err(body) => Err(body),
-    }
-}
-
-// How many cells a view has, or the answer to what its factors or this count refuse.
-fn checked(v: &View, down: &Option<DownWant>) -> Result<u64, Body>
-    ensures value { OnOk result (read_of (downsampling_of down.now) v.now
-        ≡ without (cell_fault v.now) (Ok (reads v.now (downsampling_of down.now)))) }
-    ensures count { OnOk result (count_answer (look_of v.now).dims ≡ Ok (length (cells_of (look_of v.now).dims))) }
-    ensures rank { OnOk result (HasRank down.now v.now) }
-    ensures err { IfErr result (IsAnswerTo (read_of (downsampling_of down.now) v.now)) }
-{
-    if has_rank(v, down) {
-        return counted(v);
-    }
-    Err(Body::RefusedView {
-        cause: ComposeError::Rank,
-    })
-}
-
-fn has_rank(v: &View, down: &Option<DownWant>) -> bool
-    ensures from { result ≡ true → HasRank down.now v.now }
-    ensures not { result ≡ false → (next : Asked)
-        → with_factors (downsampling_of down.now) v.now next ≡ Err (old_answers.refused_view compose.Rank) }
-{
-    match down {
-        Some(want) => want.factors.items().len() == transform_of(v).domain().dims.items().len(),
-        None => true,
     }
 }
 
@@ -235,7 +155,7 @@ fn read_in<K: KvStore, R: Wait, G: Gate>(
     ensures txn { IsTxnIn book.now.fixed pass.new.seen t.new }
 {
     match t.read(alloc, rt, book, pass, v, gate) {
-        Ok(words) => values(alloc, v, down, words),
+        Ok(words) => values_body(alloc, v, down, words),
         Err(e) => unread(alloc, v, e),
     }
 }
@@ -257,106 +177,4 @@ fn unread(alloc: Global, v: &View, e: ReadError) -> Body
         ReadError::Shrunk { key, now } => Body::Shrunk { key, now },
         ReadError::Memory => Body::Memory,
     }
-}
-
-// The answer with the words of a view, downsampled where factors are given.
-fn values(alloc: Global, v: &View, down: &Option<DownWant>, words: Words) -> Body
-    requires count { count_answer (look_of v.now).dims ≡ Ok (length (cells_of (look_of v.now).dims)) }
-    requires words { length words ≡ length (cells_of (look_of v.now).dims) }
-    requires factors { MayHaveFactors down.now }
-    requires rank { HasRank down.now v.now }
-    ensures { (result ≡ body_of (values_body v.now (downsampling_of down.now) words)) ⊎ (result ≡ printed.Memory) }
-{
-    match down {
-        Some(want) => fewer(alloc, v, want, words.items()),
-        None => whole(alloc, v, words),
-    }
-}
-
-fn fewer(alloc: Global, v: &View, want: &DownWant, words: &[u64]) -> Body
-    requires count { count_answer (look_of v.now).dims ≡ Ok (length (cells_of (look_of v.now).dims)) }
-    requires words { length words.now ≡ length (cells_of (look_of v.now).dims) }
-    requires factors { HasFactors want.now }
-    requires rank { HasRank (Some want.now) v.now }
-    ensures { (result ≡ body_of (values_body v.now (Some (downsampling want.now)) words.now))
-        ⊎ (result ≡ printed.Memory) }
-{
-    let domain = transform_of(v).domain();
-    match downsampled(
-        alloc,
-        domain,
-        dtype(v),
-        words,
-        want.factors.items(),
-        want.method,
-    ) {
-        Ok(d) => shown(d.origin, d.shape, dtype(v), d.words),
-        Err(_) => Body::Memory,
-    }
-}
-
-// The answer with words, unless they have no cell and take too many lists to be written.
-fn shown(origin: Index, shape: Sizes, dtype: Dtype, words: Words) -> Body
-    ensures { (result ≡ printed.Values origin shape dtype words) ⊎ (result ≡ printed.Memory) }
-{
-    if !has_few_lists(shape.items()) {
-        return Body::Memory;
-    }
-    Body::Values {
-        origin,
-        shape,
-        dtype,
-        words,
-    }
-}
-
-fn whole(alloc: Global, v: &View, words: Words) -> Body
-    ensures { (result ≡ body_of (values_body v.now None words)) ⊎ (result ≡ printed.Memory) }
-{
-    match box_of(alloc, v) {
-        Ok(found) => shown(found.origin, found.shape, dtype(v), words),
-        Err(_) => Body::Memory,
-    }
-}
-
-// The lower bounds of a view, and its sizes.
-#[derive(Drop)]
-struct IndexBox {
-    origin: Index,
-    shape: Sizes,
-}
-
-fn box_of(alloc: Global, v: &View) -> Result<IndexBox, AllocError>
-    ensures { IfOk result (λ b. b ≡ record { origin = origin_in v.now; shape = sizes_of v.now }) }
-{
-    let origin = origin_of(alloc, v)?;
-    let shape = shape_of(alloc, v)?;
-    Ok(IndexBox {
-        origin: Index::wrap(origin),
-        shape: Sizes::wrap(shape),
-    })
-}
-
-fn origin_of(alloc: Global, v: &View) -> Result<Vec<i64>, AllocError>
-    ensures { IfOk result (λ lows. lows.items ≡ origin_in v.now) }
-{
-    transform_of(v)
-        .domain()
-        .dims
-        .items()
-        .iter()
-        .map(|dim| dim.lo)
-        .collect(alloc)
-}
-
-fn shape_of(alloc: Global, v: &View) -> Result<Vec<u64>, AllocError>
-    ensures { IfOk result (λ shape. shape.items ≡ sizes_of v.now) }
-{
-    transform_of(v)
-        .domain()
-        .dims
-        .items()
-        .iter()
-        .map(|dim| size_of(dim))
-        .collect(alloc)
 }

@@ -1,23 +1,17 @@
 // Views of views.
-ghost use Rattle.std.specs.Prelude.{◌≡◌, ℕ, Ok, Option, IfOk, IfErr, All};
-ghost use Rattle.history.specs.Acts.{binds, act_of};
-ghost use Rattle.history.specs.Answers.{Text};
+ghost use Rattle.std.specs.Prelude.{ℕ, Option, All};
 ghost use Rattle.history.specs.Bound.{AreKnownNames};
-ghost use Rattle.history.specs.Commit.{Transaction};
 ghost use Rattle.history.specs.History.{History};
 ghost use Rattle.history.specs.Lines.{viewing};
 ghost use Rattle.indexmap.specs.IndexMap.{get_by_text};
-ghost use Rattle.line_meanings.specs.Changes.{changes_of};
+ghost use Rattle.session_turns.specs.Changes.{changes_of};
 ghost use Rattle.session_turns.specs.Standing.{session_state, transaction_in, AreViews};
-ghost use Rattle.session_turns.specs.Told.{IsToldAlone, IsAnswerTo};
-ghost use Rattle.stack_driver.specs.Conditions.{IsView};
+ghost use Rattle.session_turns.specs.Told.{IsToldAlone};
 ghost use Rattle.step_forms.specs.Given.{IsGiven};
 ghost use Rattle.session_turns.specs.Txn.{TxnSeen};
 
-use crate::changing::changed;
 use index_transform::Transform;
-use session_turns::{Body, Names, bound, named};
-use stack_driver::View;
+use session_turns::{Body, Names, bound, viewed};
 use std::alloc::Global;
 use step_forms::Step;
 
@@ -43,27 +37,5 @@ pub fn view(
     match viewed(alloc, names, of, transform, steps) {
         Ok(view) => bound(alloc, names, name, view),
         Err(body) => body,
-    }
-}
-
-fn viewed(
-    alloc: Global,
-    names: &Names,
-    of: &str,
-    transform: &Option<Transform>,
-    steps: &[Step],
-) -> Result<View, Body>
-    requires given { All IsGiven steps.now }
-    requires views { AreViews (get_by_text names.now) }
-    ensures value { IfOk result (λ v. (name : Text) (t : Option Transaction)
-        → act_of (get_by_text names.now) t (viewing name of.now (changes_of transform.now steps.now))
-        ≡ Ok (binds name v)) }
-    ensures view { IfOk result IsView }
-    ensures err { IfErr result (λ b. (name : Text) (t : Option Transaction)
-        → IsAnswerTo (act_of (get_by_text names.now) t (viewing name of.now (changes_of transform.now steps.now))) b) }
-{
-    match named(alloc, names, of) {
-        Ok(view) => changed(alloc, view, transform, steps),
-        Err(body) => Err(body),
     }
 }

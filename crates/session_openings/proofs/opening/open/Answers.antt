@@ -4,7 +4,7 @@ use Rattle.history.specs.Answers as old
 use Rattle.history.specs.Lines.{opening}
 use Rattle.history.specs.Refs.{HasKnownRefs}
 use Rattle.indexmap.specs.IndexMap.{get_by_text}
-use Rattle.line_meanings.specs.Openings.{leaves_of, build_of}
+use Rattle.session_turns.specs.MeaningOpenings.{leaves_of, build_of}
 use Rattle.session_openings.proofs.LineLaws.{told_opened, opened_keeps, view_known, refused_alone}
 use Rattle.session_turns.proofs.Laws.{passed_alone, names_then, told_without, refusal, outside_some}
 use Rattle.session_turns.specs.Standing.{session_state}

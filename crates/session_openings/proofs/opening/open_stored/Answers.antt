@@ -1,7 +1,7 @@
 use Rattle.std.proofs.Common.{[], length, sym, subst}
 use Rattle.std.specs.Prelude.{◌++◌, ◌∷◌, unwrap_or}
 use Rattle.history.specs.Lines.{stored}
-use Rattle.line_meanings.specs.Openings.{node_of}
+use Rattle.session_turns.specs.MeaningOpenings.{node_of}
 use Rattle.session_openings.specs.Openings.{OpensOne}
 use Rattle.session_openings.proofs.LeafLaws.{opens_one_stored, refuses_stored}
 use Rattle.session_turns.specs.Asked.{asked_leaf}

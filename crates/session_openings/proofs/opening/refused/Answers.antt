@@ -2,7 +2,7 @@ use Rattle.std.proofs.Common.{◌≡◌, ◌∙◌, ◌⊎◌, [], length, ap, s
 use Rattle.std.specs.Prelude.{unwrap_or}
 use Rattle.session_turns.specs.declared.Body.TheVariants as body
 use Rattle.session_turns.specs.Bodies.{body_of}
-use Rattle.line_meanings.specs.Openings.{node_of}
+use Rattle.session_turns.specs.MeaningOpenings.{node_of}
 use Rattle.session_turns.specs.Asked.{asked_leaf}
 use Rattle.session_turns.specs.Opening.{open_answer, IsUnseen}
 use Rattle.session_openings.proofs.opening.refused.Goals as goal

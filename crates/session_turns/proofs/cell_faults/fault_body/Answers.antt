@@ -1,32 +1,9 @@
 use Rattle.std.proofs.Common.{subst}
-use Rattle.history.specs.Answers as body
-use Rattle.session_turns.proofs.FaultLaws.{counted_view, out_of_range_fault, refused_by_cell, uncovered_fault}
 use Rattle.session_turns.proofs.cell_faults.fault_body.Goals as goal
 use Rattle.transactions.specs.Faults.{IsFaultOf}
 
-pub cell_at-requires-clause-finite : goal.cell_at-requires-clause-finite
-cell_at-requires-clause-finite c = (counted_view c.args.v.now c.requires.counted.0 c.requires.counted.1).0
+pub targets_body-requires-clause-fault : goal.targets_body-requires-clause-fault
+targets_body-requires-clause-fault c = λ _. subst (IsFaultOf c.args.v.now) c.in-OutOfRange.is c.requires.fault
 
-pub cell_at-requires-clause-below : goal.cell_at-requires-clause-below
-cell_at-requires-clause-below c =
-    let arm = c.in-OutOfRange in
-    (out_of_range_fault c.args.v.now arm.cell arm.dim (subst (IsFaultOf c.args.v.now) arm.is c.requires.fault)).0
-
-pub cell_at-requires-in-Uncovered-clause-finite : goal.cell_at-requires-in-Uncovered-clause-finite
-cell_at-requires-in-Uncovered-clause-finite c = (counted_view c.args.v.now c.requires.counted.0 c.requires.counted.1).0
-
-pub cell_at-requires-in-Uncovered-clause-below : goal.cell_at-requires-in-Uncovered-clause-below
-cell_at-requires-in-Uncovered-clause-below c =
-    let arm = c.in-Uncovered in
-    (uncovered_fault c.args.v.now arm.cell (subst (IsFaultOf c.args.v.now) arm.is c.requires.fault)).0
-
-pub returns-in-Ok : goal.returns-in-Ok
-returns-in-Ok c =
-    let arm = c.in-OutOfRange in
-    refused_by_cell c.args.v.now (body.out_of_range c.in-Ok.cell arm.dim)
-    ((out_of_range_fault c.args.v.now arm.cell arm.dim (subst (IsFaultOf c.args.v.now) arm.is c.requires.fault)).1 c.in-Ok.cell c.in-Ok.ensures)
-
-pub returns-in-Ok-cell_at : goal.returns-in-Ok-cell_at
-returns-in-Ok-cell_at c =
-    let arm = c.in-Uncovered in
-    refused_by_cell c.args.v.now (body.uncovered c.in-Ok-cell_at.cell) ((uncovered_fault c.args.v.now arm.cell (subst (IsFaultOf c.args.v.now) arm.is c.requires.fault)).1 c.in-Ok-cell_at.cell c.in-Ok-cell_at.ensures)
+pub targets_body-requires-in-Uncovered-clause-fault : goal.targets_body-requires-in-Uncovered-clause-fault
+targets_body-requires-in-Uncovered-clause-fault c = λ _. subst (IsFaultOf c.args.v.now) c.in-Uncovered.is c.requires.fault

@@ -1,5 +1,5 @@
 use Rattle.std.proofs.Common.{subst}
-use Rattle.line_meanings.specs.Numbers.{downsampling_of}
+use Rattle.session_turns.specs.Numbers.{downsampling_of}
 use Rattle.sessions.specs.Commits.{HasSoundTxn}
 use Rattle.sessions.proofs.ReadRows.{inside_told, read_sound}
 use Rattle.sessions.proofs.Failures.{read_tells}

@@ -1,8 +1,8 @@
 use Rattle.std.proofs.Common.{None}
 use Rattle.history.specs.Lines.{reading}
 use Rattle.indexmap.specs.IndexMap.{get_by_text}
-use Rattle.line_meanings.specs.Changes.{changes_of}
-use Rattle.line_meanings.specs.Numbers.{downsampling_of}
+use Rattle.session_turns.specs.Changes.{changes_of}
+use Rattle.session_turns.specs.Numbers.{downsampling_of}
 use Rattle.session_turns.specs.Standing.{transaction_in}
 use Rattle.sessions.proofs.ReadRows.{refused_before}
 use Rattle.history.specs.Acts.{act_of}

@@ -1,4 +1,4 @@
-use Rattle.line_meanings.specs.Numbers.{downsampling_of}
+use Rattle.session_turns.specs.Numbers.{downsampling_of}
 use Rattle.sessions.proofs.ReadRows.{outside_told}
 use Rattle.sessions.proofs.Failures.{read_tells}
 use Rattle.sessions.proofs.reading.read_alone.Goals as goal

@@ -1,8 +1,8 @@
 use Rattle.std.proofs.Common.{None, Some, refl}
 use Rattle.history.specs.Lines.{writing}
 use Rattle.indexmap.specs.IndexMap.{get_by_text}
-use Rattle.line_meanings.specs.Changes.{changes_of}
-use Rattle.line_meanings.specs.Numbers.{values_of}
+use Rattle.session_turns.specs.Changes.{changes_of}
+use Rattle.session_turns.specs.Numbers.{values_of}
 use Rattle.serde_json.specs.View.{view}
 use Rattle.sessions.proofs.StageLaws.{unstaged_told}
 use Rattle.sessions.proofs.staging.stage.Goals as goal

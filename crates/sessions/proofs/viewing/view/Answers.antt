@@ -1,11 +1,9 @@
 use Rattle.std.proofs.Common.{None}
 use Rattle.history.specs.Lines.{viewing}
 use Rattle.history.specs.Refs.{HasKnownRefs}
-use Rattle.line_meanings.specs.Changes.{changes_of}
-use Rattle.line_meanings.proofs.Laws.{changes_within}
+use Rattle.session_turns.specs.Changes.{changes_of}
+use Rattle.session_turns.proofs.Laws.{changes_within, binds_known, told_bound, told_refused, kept_bound}
 use Rattle.session_turns.specs.Standing.{session_state, transaction_in}
-use Rattle.sessions.proofs.ChangeLaws.{binds_known}
-use Rattle.session_turns.proofs.Laws.{told_bound, told_refused, kept_bound}
 use Rattle.stack_driver.specs.Conditions.{IsView}
 use Rattle.indexmap.specs.IndexMap.{get_by_text}
 use Rattle.sessions.proofs.viewing.view.Goals as goal
