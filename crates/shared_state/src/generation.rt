@@ -70,7 +70,7 @@ impl<K: KvStore> State<K> {
         ensures { (k : Known) → known_after self.now.log.events array ≡ Some k
             → result ≡ generation_in self.now.log k key.now }
     {
-        match self.records.number_at(key.as_bytes()) {
+        match self.records.number_at(key) {
             Some(number) => number,
             None => self.records.opened(array),
         }

@@ -79,7 +79,7 @@ fn prepare(alloc: Global, records: &mut Records, key: &str) -> Result<(), AllocE
     ensures kept { KeepsPrepared records.old.prepared records.new.prepared }
     ensures same { records.new ≡ record records.old { prepared = records.new.prepared } }
 {
-    records.prepare(Vec::from_slice(alloc, key.as_bytes())?)
+    records.prepare(alloc, key)
 }
 
 /// Adds the event of a commit that was made, where there is room and its keys are prepared.

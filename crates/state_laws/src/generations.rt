@@ -1,17 +1,17 @@
 // Numbers of events by the keys of chunks.
-ghost use Rattle.std.specs.Prelude.{◌≡◌, ◌<◌, List, ℕ, IsSome, OnOk};
+ghost use Rattle.std.specs.Prelude.{◌≡◌, ◌<◌, List, ℕ, IsSome, OnOk, string_bytes};
 ghost use Rattle.std.specs.FinMap as finmap;
 ghost use Rattle.state_laws.specs.Numbers.{IsPrepared, KeepsPrepared};
 
+use indexmap::IndexMap;
 use std::alloc::{AllocError, Global};
-use std::collections::BTreeMap;
 use std::marker::Model;
 
 /// Numbers of events by the keys of chunks. A key is prepared from `prepare` on, and its number then needs no memory.
 #[derive(Drop)]
 pub(crate) struct KeyNumbers {
     // A key that is prepared and has no number has 0.
-    table: BTreeMap<Vec<u8>, u64>,
+    table: IndexMap<String, u64>,
 }
 
 impl Model for KeyNumbers {
@@ -31,12 +31,12 @@ impl KeyNumbers {
         ensures { result.numbers ≡ finmap.empty }
     {
         KeyNumbers {
-            table: BTreeMap::new(alloc),
+            table: IndexMap::new(alloc),
         }
     }
 
     /// The number at a key.
-    pub(crate) fn get(&self, key: &[u8]) -> Option<u64>
+    pub(crate) fn get(&self, key: &str) -> Option<u64>
         ensures { result ≡ finmap.get self.now.numbers key.now }
     {
         match self.table.get(key) {
@@ -47,14 +47,15 @@ impl KeyNumbers {
     }
 
     /// Prepares a key.
-    pub(crate) fn prepare(&mut self, key: Vec<u8>) -> Result<(), AllocError>
-        ensures key { OnOk result (IsPrepared self.new.prepared key.items) }
+    pub(crate) fn prepare(&mut self, alloc: Global, key: &str) -> Result<(), AllocError>
+        ensures key { OnOk result (IsPrepared self.new.prepared key.now) }
         ensures prepared { KeepsPrepared self.old.prepared self.new.prepared }
         ensures numbers { self.new.numbers ≡ self.old.numbers }
     {
-        if self.table.contains_key(&key) {
+        if self.table.contains_key(key) {
             return Ok(());
         }
+        let key = String::from_str(alloc, key)?;
         let Ok(_) = self.table.insert(key, 0) else {
             return Err(AllocError);
         };
@@ -62,11 +63,11 @@ impl KeyNumbers {
     }
 
     /// Puts a number at a key that is prepared.
-    pub(crate) fn put(&mut self, key: Vec<u8>, number: u64)
-        requires key { IsPrepared self.old.prepared key.items }
+    pub(crate) fn put(&mut self, key: String, number: u64)
+        requires key { IsPrepared self.old.prepared (string_bytes key) }
         requires number { 0 < number }
         ensures prepared { KeepsPrepared self.old.prepared self.new.prepared }
-        ensures numbers { self.new.numbers ≡ finmap.insert self.old.numbers key.items number }
+        ensures numbers { self.new.numbers ≡ finmap.insert self.old.numbers (string_bytes key) number }
     {
         let Ok(_) = self.table.insert(key, number) else {
             unreachable!();

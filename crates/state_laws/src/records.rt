@@ -167,7 +167,7 @@ impl Records {
     }
 
     /// The number that the table of generations has at a key.
-    pub fn number_at(&self, key: &[u8]) -> Option<u64>
+    pub fn number_at(&self, key: &str) -> Option<u64>
         ensures { result ≡ finmap.get self.now.generations key.now }
     {
         self.generations.get(key)
@@ -244,12 +244,12 @@ impl Records {
     ///
     /// # Errors
     /// `AllocError` where memory is wanting.
-    pub fn prepare(&mut self, key: Vec<u8>) -> Result<(), AllocError>
-        ensures key { OnOk result (IsPrepared self.new.prepared key.items) }
+    pub fn prepare(&mut self, alloc: Global, key: &str) -> Result<(), AllocError>
+        ensures key { OnOk result (IsPrepared self.new.prepared key.now) }
         ensures prepared { KeepsPrepared self.old.prepared self.new.prepared }
         ensures same { self.new ≡ record self.old { prepared = self.new.prepared } }
     {
-        self.generations.prepare(key)
+        self.generations.prepare(alloc, key)
     }
 
     /// Adds a commit, or one key of it, where there is room and its keys are prepared; gives the event's number, which their
@@ -381,7 +381,7 @@ fn number_key(generations: &mut KeyNumbers, cache: &mut ChunkCache, key: Name, n
     ensures cache { cache.new ≡ record cache.old { entries = after_drop key cache.old.entries } }
 {
     cache.drop_key(key.items());
-    generations.put(key.into_inner().into_bytes(), number);
+    generations.put(key.into_inner(), number);
 }
 
 /// Adds an event where there is room; gives its number.
