@@ -1,4 +1,4 @@
-ghost use Rattle.std.specs.Prelude.{◌≡◌, ◌≢◌, ◌∷◌, ◌++◌, ℕ, [], Err, Ok, IfOk, IfErr, OnOk, OnErr, length};
+ghost use Rattle.std.specs.Prelude.{◌≡◌, ◌≢◌, ◌∷◌, ◌++◌, ℕ, List, [], Err, Ok, IfOk, IfErr, OnOk, OnErr, length};
 ghost use Rattle.std.specs.List.{AllByRecursion};
 ghost use Rattle.cells.specs.Numbers.{IsWord};
 ghost use Rattle.history.specs.History.{History};
@@ -13,7 +13,7 @@ ghost use Rattle.chunk_fetches.specs.Agreement.{Opening};
 ghost use Rattle.chunk_fetches.specs.Operations.{AreStaged, HasSites, IsLeafIn};
 ghost use Rattle.chunk_fetches.specs.Pieces.{AreCells};
 ghost use Rattle.chunk_fetches.specs.Sites.{sites_of};
-ghost use Rattle.chunk_fetches.specs.Staging.{CanStage};
+ghost use Rattle.chunk_fetches.specs.Staging.{CanStage, word_in};
 ghost use Rattle.transactions.specs.Conditions.{IsTxnIn, MayUse};
 ghost use Rattle.transactions.specs.Faults.{IsLocateFault};
 ghost use Rattle.transactions.specs.declared.error.WriteError.TheVariants as write;
@@ -93,6 +93,8 @@ impl Txn {
         ensures err { IfErr result (IsLocateFault v.now) }
         ensures same { OnErr result (result ≢ Err write.Memory → self.new ≡ self.old) }
         ensures memory { OnErr result (self.new ≡ record self.old { staged = self.new.staged }) }
+        ensures words { OnErr result ((id : List ℕ) (place : ℕ)
+            → word_in self.new.staged id place ≡ word_in self.old.staged id place) }
     {
         let words = Words::wrap(Vec::from_slice(alloc, words)?);
         self.write_owned(alloc, v, words)
@@ -115,6 +117,8 @@ impl Txn {
         ensures err { IfErr result (IsLocateFault v.now) }
         ensures same { OnErr result (result ≢ Err write.Memory → self.new ≡ self.old) }
         ensures memory { OnErr result (self.new ≡ record self.old { staged = self.new.staged }) }
+        ensures words { OnErr result ((id : List ℕ) (place : ℕ)
+            → word_in self.new.staged id place ≡ word_in self.old.staged id place) }
     {
         let cells = located(alloc, v)?;
         self.stage(alloc, v, &cells, words)
@@ -144,6 +148,8 @@ impl Txn {
             → AreStaged events self.old.ops self.old.staged → AreStaged events self.new.ops self.new.staged) }
         ensures err { OnErr result (result ≡ Err write.Memory) }
         ensures memory { OnErr result (self.new ≡ record self.old { staged = self.new.staged }) }
+        ensures words { OnErr result ((id : List ℕ) (place : ℕ)
+            → word_in self.new.staged id place ≡ word_in self.old.staged id place) }
     {
         let view = copy(alloc, v)?;
         self.ops.reserve(1)?;
