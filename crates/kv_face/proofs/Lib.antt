@@ -2,3 +2,4 @@ pub mod Added
 pub mod Changes
 pub mod Held
 pub mod Laws
+pub mod Shared

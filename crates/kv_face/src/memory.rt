@@ -10,7 +10,8 @@ use crate::calls::CountedCalls;
 use crate::change::{Change, copy_changes};
 use crate::error::{Failed, KvError};
 use crate::store::KvStore;
-use crate::table::{Table, change_all};
+use crate::table::{Table, change_all, share_all};
+use bytes::Bytes;
 use std::alloc::{AllocError, Global};
 use std::marker::Model;
 
@@ -24,7 +25,8 @@ enum State {
 /// A store in memory, whose calls fail exactly where a test says so.
 ///
 /// It takes every key, and makes all changes together where it is atomic. A `get` and a change of a key look the key up
-/// once in a hash table, and the memory is that of what is held, and of as many keys as there were at most.
+/// once in a hash table, and the memory is that of what is held or was given shared, and of as many keys as there were at most.
+/// `get` copies the bytes, `get_shared` and `apply_owned` copy none.
 #[derive(Drop)]
 pub struct MemoryKv {
     alloc: Global,
@@ -92,19 +94,19 @@ impl MemoryKv {
         ensures { option_copied result ≡ finmap.get self.now.contents key.now }
     {
         match self.table.get(key) {
-            Some(bytes) => Some(bytes.items()),
+            Some(bytes) => Some(bytes.as_slice()),
             None => None,
         }
     }
 
-    /// The number of calls of `get`; it stops at 2^64-1.
+    /// The number of calls of `get` and `get_shared`; it stops at 2^64-1.
     pub fn gets(&self) -> u64
         ensures { result ≡ self.now.gets.calls }
     {
         self.gets.made()
     }
 
-    /// Names a call of `get`, counted from 1, that is to fail.
+    /// Names a call of `get` or `get_shared`, counted from 1 over both, that is to fail.
     ///
     /// # Errors
     /// Want of memory alone; then nothing changed.
@@ -154,7 +156,7 @@ impl MemoryKv {
         false
     }
 
-    /// Makes all changes, or none where memory is wanting.
+    /// Makes all changes, or none where memory is wanting. Copies no bytes.
     fn make(&mut self, changes: Vec<Change>) -> Result<(), AllocError>
         ensures ok { OnOk result (self.new ≡ record self.old {
           contents = after self.old.contents changes.items;
@@ -164,6 +166,7 @@ impl MemoryKv {
         ensures err { OnErr result (self.new ≡ self.old) }
     {
         self.table.reserve(changes.len())?;
+        let changes = share_all(self.alloc, changes)?;
         if !changes.is_empty() {
             self.state = State::Opened;
             if self.change_calls < u64::MAX {
@@ -186,11 +189,23 @@ impl KvStore for MemoryKv {
         ensures failed { IsErrOf result KvError.Failed ↔ IsTrue (fails self.old.gets) }
         ensures called { self.new ≡ record self.old { gets = called self.old.gets } }
     {
+        match self.get_shared(key) {
+            Ok(Some(bytes)) => Ok(Some(Vec::from_slice(self.alloc, bytes.as_slice())?)),
+            Ok(None) => Ok(None),
+            Err(e) => Err(e),
+        }
+    }
+
+    fn get_shared(&mut self, key: &str) -> Result<Option<Bytes>, KvError>
+        ensures value { IfOk result (λ v. v ≡ finmap.get self.old.contents key.now) }
+        ensures failed { IsErrOf result KvError.Failed ↔ IsTrue (fails self.old.gets) }
+        ensures called { self.new ≡ record self.old { gets = called self.old.gets } }
+    {
         if self.gets.call() {
             return Err(KvError::Failed);
         }
         match self.table.get(key) {
-            Some(bytes) => Ok(Some(Vec::from_slice(self.alloc, bytes.items())?)),
+            Some(bytes) => Ok(Some(bytes.clone()?)),
             None => Ok(None),
         }
     }

@@ -7,6 +7,7 @@ ghost use Rattle.kv_face.specs.Store.{StoreSeen, opened, finished, failing, take
 
 use crate::change::Change;
 use crate::error::{Failed, KvError};
+use bytes::Bytes;
 
 /// A map from keys, which are texts, to bytes.
 pub trait KvStore: Drop {
@@ -27,6 +28,26 @@ pub trait KvStore: Drop {
         ensures standing { (seen self.new).standing ≡ (seen self.old).standing }
         ensures change_count { (seen self.new).changes ≡ (seen self.old).changes }
         ensures cause { IsToldExactly ((seen self.old).faults) ((seen self.new).faults) (IsErrOf result KvError.Failed) };
+
+    /// The bytes under a key as `get` gives them, in a form that can be shared, so that a store which keeps them so need not copy them.
+    ///
+    /// # Errors
+    /// Those of `get`.
+    fn get_shared(&mut self, key: &str) -> Result<Option<Bytes>, KvError>
+        requires { takes ((seen self.old).names) key.now ≡ true }
+        ensures value { IfOk result (λ v. IfSome ((seen self.old).contents) (λ m. v ≡ finmap.get m key.now)) }
+        ensures contents { (seen self.new).contents ≡ (seen self.old).contents }
+        ensures prefixes { (seen self.new).prefixes ≡ (seen self.old).prefixes }
+        ensures names { (seen self.new).names ≡ (seen self.old).names }
+        ensures standing { (seen self.new).standing ≡ (seen self.old).standing }
+        ensures change_count { (seen self.new).changes ≡ (seen self.old).changes }
+        ensures cause { IsToldExactly ((seen self.old).faults) ((seen self.new).faults) (IsErrOf result KvError.Failed) }
+    {
+        match self.get(key) {
+            Ok(bytes) => shared(bytes),
+            Err(e) => Err(e),
+        }
+    }
 
     /// Whether the changes can be made by one `apply`: there is at most one, or their keys, each without its first `from`
     /// bytes, begin with one of the store's prefixes.
@@ -100,4 +121,18 @@ pub trait KvStore: Drop {
         ensures names { (seen self.new).names ≡ (seen self.old).names }
         ensures change_count { (seen self.new).changes ≡ (seen self.old).changes }
         ensures cause { HasCause ((seen self.old).faults) ((seen self.new).faults) (IsErr result) };
+}
+
+// Bytes that can be shared from now on.
+fn shared(bytes: Option<Vec<u8>>) -> Result<Option<Bytes>, KvError>
+    ensures value { IfOk result (λ v. v ≡ option_map (λ b. b.items) bytes) }
+    ensures err { OnErr result (result ≡ Err KvError.Memory) }
+{
+    match bytes {
+        Some(bytes) => match Bytes::from_vec(bytes) {
+            Ok(bytes) => Ok(Some(bytes)),
+            Err(_) => Err(KvError::Memory),
+        },
+        None => Ok(None),
+    }
 }
