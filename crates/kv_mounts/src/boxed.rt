@@ -1,3 +1,4 @@
+use bytes::Bytes;
 use kv_face::{Change, Failed, KvError, KvStore};
 
 /// A store of any type, in a box that the caller makes. It is what the store in the box is.
@@ -11,6 +12,10 @@ impl KvStore for BoxedStore {
 
     fn get(&mut self, key: &str) -> Result<Option<Vec<u8>>, KvError> {
         self.store.get(key)
+    }
+
+    fn get_shared(&mut self, key: &str) -> Result<Option<Bytes>, KvError> {
+        self.store.get_shared(key)
     }
 
     fn together(&self, changes: &[Change], from: usize) -> bool {

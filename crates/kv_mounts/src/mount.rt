@@ -9,6 +9,7 @@ ghost use Rattle.kv_mounts.specs.Finish.{IsFinished};
 ghost use Rattle.kv_mounts.specs.Union.{has_failed};
 
 use crate::shorter::{behind, shorter};
+use bytes::Bytes;
 use cells::Name;
 use kv_face::{Change, KvError, KvStore};
 use std::alloc::Global;
@@ -71,6 +72,20 @@ impl<K: KvStore> Mount<K> {
     {
         let rest = behind(self.name.items(), key);
         self.store.get(rest)
+    }
+
+    // The same, shared with the store where it keeps them.
+    pub(crate) fn get_shared(&mut self, key: &str) -> Result<Option<Bytes>, KvError>
+        requires below { begins self.old.name key.now ≡ true }
+        requires few { length self.old.name ≤ 64 }
+        requires every { self.old.names ≡ None }
+        ensures value { IfOk result (λ v. IfSome self.old.contents
+            (λ m. v ≡ finmap.get m (behind self.old.name key.now))) }
+        ensures kept { self.new ≡ record self.old { faults = self.new.faults } }
+        ensures cause { IsToldExactly self.old.faults self.new.faults (IsErrOf result KvError.Failed) }
+    {
+        let rest = behind(self.name.items(), key);
+        self.store.get_shared(rest)
     }
 
     // Whether the keys, each without its first bytes, all lie below the mount, and its store makes the changes together. The

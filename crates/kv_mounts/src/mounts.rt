@@ -8,6 +8,7 @@ ghost use Rattle.kv_mounts.specs.Union.{has_failed};
 
 use crate::failed::FinishList;
 use crate::mount::Mount;
+use bytes::Bytes;
 use kv_face::{Change, Failed, KvError, KvStore, copy_changes};
 use std::alloc::Global;
 use std::marker::Model;
@@ -145,6 +146,13 @@ impl<K: KvStore> KvStore for Mounts<K> {
             unreachable!();
         };
         self.list[place].get(key)
+    }
+
+    fn get_shared(&mut self, key: &str) -> Result<Option<Bytes>, KvError> {
+        let Some(place) = place_of(self.list.as_slice(), key) else {
+            unreachable!();
+        };
+        self.list[place].get_shared(key)
     }
 
     fn together(&self, changes: &[Change], from: usize) -> bool {
