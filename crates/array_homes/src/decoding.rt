@@ -1,5 +1,5 @@
 // Numbers of chunks.
-ghost use Rattle.std.specs.Prelude.{◌≡◌, ◌≢◌, ℕ, List, Some, IfOk, IfErr, false, option_map};
+ghost use Rattle.std.specs.Prelude.{◌≡◌, ◌≢◌, ℕ, List, Some, IfOk, IfErr, false};
 ghost use Rattle.cells.specs.Elements.{word_at};
 ghost use Rattle.cells.specs.Numbers.{IsWord};
 ghost use Rattle.cells.specs.Places.{IsInside};
@@ -8,12 +8,13 @@ ghost use Rattle.history.specs.declared.FormError.TheVariants as form_error;
 ghost use Rattle.history.specs.Metadata as meta;
 ghost use Rattle.history.specs.Words.{stored_word, stored_fault};
 
-use cells::{Dense, List};
+use bytes::Bytes;
+use cells::Dense;
 use history::{Form, FormError, decode_form};
 use std::alloc::Global;
 
 /// The numbers of a chunk that stored bytes are.
-pub fn decode(alloc: Global, form: &Form, bytes: &Option<List<u8>>) -> Result<Dense, FormError>
+pub fn decode(alloc: Global, form: &Form, bytes: &Option<Bytes>) -> Result<Dense, FormError>
     requires stored { meta.is_local form.now ≡ false }
     requires fill { IsWord (meta.dtype_of form.now) (meta.fill_of form.now) }
     ensures dtype { IfOk result (λ d. d.dtype ≡ meta.dtype_of form.now) }
@@ -30,7 +31,7 @@ pub fn decode(alloc: Global, form: &Form, bytes: &Option<List<u8>>) -> Result<De
             form.dtype(),
             form.chunk_shape(),
             form.fill(),
-            Some(bytes.items()),
+            Some(bytes.as_slice()),
         ),
         None => decode_form(
             alloc,
@@ -40,15 +41,5 @@ pub fn decode(alloc: Global, form: &Form, bytes: &Option<List<u8>>) -> Result<De
             form.fill(),
             None,
         ),
-    }
-}
-
-/// Stored bytes as a list.
-pub fn listed(bytes: Option<Vec<u8>>) -> Option<List<u8>>
-    ensures { result ≡ option_map (λ b. b.items) bytes }
-{
-    match bytes {
-        Some(bytes) => Some(List::wrap(bytes)),
-        None => None,
     }
 }

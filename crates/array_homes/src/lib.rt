@@ -18,7 +18,7 @@ mod read;
 
 pub use chunk_names::{is_chunk_name, local_number};
 pub use deciding::{Decided, OpeningRefusal, check, decide};
-pub use decoding::{decode, listed};
+pub use decoding::decode;
 pub use forms::{form_of, written_form};
 pub use infos::{array_ref, chunk_shape, given_info, new_info};
 pub use keys::{chunk_key, home_text, metadata_key, metadata_key_asked};
