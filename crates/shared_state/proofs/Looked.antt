@@ -1,5 +1,5 @@
 -- What a look told, told of the state before it.
-use Rattle.std.proofs.Common.{◌≡◌, ℕ, List, true, false, Bool, cond, Option, Some, None, refl, sym, ap, ◌∙◌}
+use Rattle.std.proofs.Common.{◌≡◌, ◌≤◌, ℕ, List, true, false, Bool, cond, Option, Some, None, refl, sym, ap, ◌∙◌}
 use Rattle.chunk_cache.specs.Cache.{kept}
 use Rattle.chunk_cache.specs.Snapshot.{SnapshotCells}
 use Rattle.state_laws.specs.declared.Damage.{Damage}
@@ -19,18 +19,18 @@ use Rattle.state_laws.specs.Fetches.{IsAnswered, IsDamagedThere, kept_of}
 use Rattle.state_laws.specs.Looks.{IsLook, IsStoredLook}
 use Rattle.state_laws.proofs.Laws.{agrees_read}
 
-pub answered_back : (store next : StoreSeen) (log : Log) (c : Chunk) (snapshot : SnapshotCells) → IsRead store next → IsAnswered next log c snapshot → IsAnswered store log c snapshot
-answered_back store next log c snapshot read is = record {
+pub answered_back : (store next : StoreSeen) (log : Log) (c : Chunk) (snapshot : SnapshotCells) → IsRead store next → next.faults ≤ store.faults → IsAnswered next log c snapshot → IsAnswered store log c snapshot
+answered_back store next log c snapshot read steady is = record {
   cells = is.cells;
-  now = λ opening start k agrees told known. is.now opening start k (agrees_read opening store next log read agrees) told known;
+  now = λ opening start k agrees told known. is.now opening start k (agrees_read opening store next log read steady agrees) told known;
 }
 
-pub damaged_back : (store next : StoreSeen) (log : Log) (c : Chunk) (key : List ℕ) (cause : Damage) → IsRead store next → IsDamagedThere next log c key cause → IsDamagedThere store log c key cause
-damaged_back store next log c key cause read is = λ opening start agrees told. is opening start (agrees_read opening store next log read agrees) told
+pub damaged_back : (store next : StoreSeen) (log : Log) (c : Chunk) (key : List ℕ) (cause : Damage) → IsRead store next → next.faults ≤ store.faults → IsDamagedThere next log c key cause → IsDamagedThere store log c key cause
+damaged_back store next log c key cause read steady is = λ opening start agrees told. is opening start (agrees_read opening store next log read steady agrees) told
 
-pub look_back : (store next : StoreSeen) (log : Log) (c : Chunk) (l : Look) → IsRead store next → IsLook next log c l → IsLook store log c l
-look_back store next log c (look.Kept snapshot bounds) read is = (answered_back store next log c snapshot read is.0, is.1)
-look_back store next log c (look.Bytes generation form bytes bounds) read is = (
+pub look_back : (store next : StoreSeen) (log : Log) (c : Chunk) (l : Look) → IsRead store next → next.faults ≤ store.faults → IsLook next log c l → IsLook store log c l
+look_back store next log c (look.Kept snapshot bounds) read steady is = (answered_back store next log c snapshot read steady is.0, is.1)
+look_back store next log c (look.Bytes generation form bytes bounds) read steady is = (
   record {
     array = is.0.array;
     known = is.0.known;

@@ -49,6 +49,8 @@ impl<K: KvStore> State<K> {
         ensures frame { IsFrame (K.seen self.old.store) (K.seen self.new.store) }
         ensures failed { (event : ℕ) → result ≡ Err (OpenError.StoreFailed event)
             → (K.seen self.old.store).faults < (K.seen self.new.store).faults }
+        ensures told { (K.seen self.old.store).faults < (K.seen self.new.store).faults
+            → (event : ℕ) × (result ≡ Err (OpenError.StoreFailed event)) }
         ensures there { IfOk result (λ o. o.event ≡ None → self.new ≡ self.old) }
         ensures beside { IsBeside self.old.log self.new.log }
         ensures quiet { OnErr result (IsQuiet (K.seen self.old.store) (K.seen self.new.store)) }
@@ -77,6 +79,8 @@ impl<K: KvStore> State<K> {
         ensures frame { IsFrame (K.seen self.old.store) (K.seen self.new.store) }
         ensures failed { (event : ℕ) → result ≡ Err (OpenError.StoreFailed event)
             → (K.seen self.old.store).faults < (K.seen self.new.store).faults }
+        ensures told { (K.seen self.old.store).faults < (K.seen self.new.store).faults
+            → (event : ℕ) × (result ≡ Err (OpenError.StoreFailed event)) }
         ensures there { IfOk result (λ o. o.event ≡ None → self.new ≡ self.old) }
         ensures beside { IsBeside self.old.log self.new.log }
         ensures quiet { OnErr result (IsQuiet (K.seen self.old.store) (K.seen self.new.store)) }
@@ -139,6 +143,8 @@ impl<K: KvStore> State<K> {
         ensures frame { IsFrame (K.seen self.old.store) (K.seen self.new.store) }
         ensures failed { (event : ℕ) → result ≡ Err (OpenError.StoreFailed event)
             → (K.seen self.old.store).faults < (K.seen self.new.store).faults }
+        ensures told { (K.seen self.old.store).faults < (K.seen self.new.store).faults
+            → (event : ℕ) × (result ≡ Err (OpenError.StoreFailed event)) }
         ensures new { IfOk result (λ o. IsSome o.event) }
         ensures beside { IsBeside self.old.log self.new.log }
         ensures quiet { OnErr result (IsQuiet (K.seen self.old.store) (K.seen self.new.store)) }
@@ -176,6 +182,8 @@ impl<K: KvStore> State<K> {
         ensures frame { IsFrame (K.seen self.old.store) (K.seen self.new.store) }
         ensures failed { (event : ℕ) → result ≡ Err (OpenError.StoreFailed event)
             → (K.seen self.old.store).faults < (K.seen self.new.store).faults }
+        ensures told { (K.seen self.old.store).faults < (K.seen self.new.store).faults
+            → (event : ℕ) × (result ≡ Err (OpenError.StoreFailed event)) }
         ensures new { IfOk result (λ o. IsSome o.event) }
         ensures beside { IsBeside self.old.log self.new.log }
         ensures quiet { OnErr result (IsQuiet (K.seen self.old.store) (K.seen self.new.store)) }

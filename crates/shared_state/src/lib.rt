@@ -4,17 +4,14 @@
 //! which events it adds.
 #![tactic(auto)]
 
-mod asking;
 mod book;
 mod changing;
 mod decoding;
-mod entering;
 mod fetching;
 mod generation;
 mod getting;
 mod keeping;
 mod leaf;
-mod local;
 mod looking;
 mod making;
 mod reshaping;

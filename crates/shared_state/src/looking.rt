@@ -1,17 +1,44 @@
-// Chunks as they are.
-ghost use Rattle.std.specs.Prelude.{◌≡◌, Some, IfOk, IsSome, false, string_bytes};
-ghost use Rattle.history.specs.Arrays.{Known, known_after, form_of, is_local};
+// Chunks and arrays as they are, and whether changes go together.
+ghost use Rattle.std.specs.Prelude.{◌≡◌, ◌↔◌, IsTrue, IsSome, Some, IfOk, false, string_bytes};
+ghost use Rattle.kv_face.specs.Store.{keys_of, are_together};
+ghost use Rattle.history.specs.Arrays.{known_after, Known, form_of, is_local};
+ghost use Rattle.history.specs.Commit.{are_together as are_keys_together};
+ghost use Rattle.state_laws.specs.Agreement.{IsState};
+ghost use Rattle.state_laws.specs.Fetches.{IsChunkOf, bounds_in};
 ghost use Rattle.history.specs.Chunks.{chunk_key, metadata_key};
 ghost use Rattle.state_laws.specs.Metadata.{with_shape};
-ghost use Rattle.state_laws.specs.Fetches.{IsChunkOf, bounds_in};
 
 use crate::state::State;
 use cells::{Name, copy_sizes};
-use kv_face::KvStore;
-use state_laws::{Bounds, Form, chunk_key, metadata_key};
+use kv_face::{Change, KvStore};
+use state_laws::{Bounds, Form, chunk_key, is_index_of, metadata_key, together};
 use std::alloc::AllocError;
 
 impl<K: KvStore> State<K> {
+    /// Whether the run has an array of this number.
+    pub fn has_array(&self, array: u64) -> bool
+        requires agrees { IsState (K.seen self.now.store) self.now.log }
+        ensures { IsTrue result ↔ IsSome (known_after self.now.log.events array) }
+    {
+        array < self.records.array_count()
+    }
+
+    /// Whether this is the index of a chunk of an array of the run, also past its shape.
+    pub fn is_chunk(&self, array: u64, chunk: &[u64]) -> bool
+        requires agrees { IsState (K.seen self.now.store) self.now.log }
+        ensures { IsTrue result ↔ IsChunkOf self.now.log.events (record { array = array; index = chunk.now }) }
+    {
+        self.has_array(array) && is_index_of(self.records.info(array), chunk)
+    }
+
+    /// Whether the store makes these changes in one call. Takes no memory.
+    pub fn together(&self, changes: &[Change]) -> bool
+        ensures changes { result ≡ are_together ((K.seen self.now.store).prefixes) changes.now 0 }
+        ensures keys { result ≡ are_keys_together ((K.seen self.now.store).prefixes) (keys_of changes.now) }
+    {
+        together(&self.store, changes)
+    }
+
     /// The key of a chunk, also past the array's shape.
     ///
     /// # Errors

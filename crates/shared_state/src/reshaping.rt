@@ -39,6 +39,8 @@ impl<K: KvStore> State<K> {
         ensures failed { (event : ℕ) → result ≡ Err (ChangeError.StoreFailed event)
             → HasFailed owner new.mount (K.seen self.old.store)
             (K.seen self.new.store) self.old.log self.new.log event }
+        ensures told { (K.seen self.old.store).faults < (K.seen self.new.store).faults
+            → (event : ℕ) × (result ≡ Err (ChangeError.StoreFailed event)) }
         ensures memory { result ≡ Err ChangeError.Memory → self.new.log ≡ self.old.log }
         ensures quiet { OnErr result (IsQuiet (K.seen self.old.store) (K.seen self.new.store)) }
         ensures frame { IsFrame (K.seen self.old.store) (K.seen self.new.store) }
@@ -72,6 +74,8 @@ impl<K: KvStore> State<K> {
         ensures failed { (event : ℕ) → result ≡ Err (ChangeError.StoreFailed event)
             → HasFailed owner new.mount (K.seen self.old.store)
             (K.seen self.new.store) self.old.log self.new.log event }
+        ensures told { (K.seen self.old.store).faults < (K.seen self.new.store).faults
+            → (event : ℕ) × (result ≡ Err (ChangeError.StoreFailed event)) }
         ensures memory { result ≡ Err ChangeError.Memory → self.new.log ≡ self.old.log }
         ensures quiet { OnErr result (IsQuiet (K.seen self.old.store) (K.seen self.new.store)) }
         ensures frame { IsFrame (K.seen self.old.store) (K.seen self.new.store) }

@@ -29,6 +29,7 @@ pub agrees_begun : (store : StoreSeen) (limit : ℕ) → Agrees (record { store 
 agrees_begun store limit = record {
   frame = record { faults = omega arith; prefixes = refl; names = refl };
   faults = omega arith;
+  told = λ rose. absurd (omega (arith, rose));
   limit = refl;
   count = refl;
   outline = tt;

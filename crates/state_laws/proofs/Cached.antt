@@ -40,6 +40,7 @@ agrees_cached : (opening : Opening) (store : StoreSeen) (log : Log) (entries : L
 agrees_cached opening store log entries is kept now = record {
   frame = is.frame;
   faults = is.faults;
+  told = is.told;
   limit = is.limit;
   count = is.count;
   outline = is.outline;

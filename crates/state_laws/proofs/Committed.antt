@@ -43,7 +43,7 @@ use Rattle.state_laws.specs.declared.deed.ChangeError.{ChangeError}
 use Rattle.state_laws.specs.declared.deed.ChangeError.TheVariants as error
 use Rattle.state_laws.specs.Fetches.{HasFailed}
 use Rattle.state_laws.proofs.Got.{agrees_quiet}
-use Rattle.state_laws.proofs.Later.{count_more, frame_then, agrees_fault}
+use Rattle.state_laws.proofs.Later.{count_more, frame_then, not_risen, agrees_fault}
 use Rattle.state_laws.proofs.Outline.{outline-more}
 
 -- what holds of all entries holds of those that pass a test
@@ -147,6 +147,7 @@ module _ (opening : Opening) (store next : StoreSeen) (log : Log) (e : Event) (k
     pub frame : IsFrame store next
     pub still : (a : ℕ) (k : Known) → known_after h a ≡ Some k → IsStill later a k
     pub back : (a : ℕ) (l : Known) → known_after later a ≡ Some l → (k : Known) × (known_after h a ≡ Some k) × (l.info ≡ k.info)
+    pub steady : next.faults ≤ store.faults
     pub no_fault : is_fault e ≡ false
     pub no_opening : is_opening e ≡ false
     pub count : length locals ≡ length log.locals
@@ -294,6 +295,10 @@ module _ (opening : Opening) (store next : StoreSeen) (log : Log) (e : Event) (k
           let up = owed.frame.faults in
           let same : count_by is_fault later ≡ count_by is_fault h + 0 = count_more is_fault h e ∙ ap (λ b. count_by is_fault h + cond {A = ℕ} b 1 0) owed.no_fault in
           omega arith;
+      told = λ rose.
+          let old = agrees.told (omega (arith, rose, owed.steady)) in
+          let same : count_by is_fault later ≡ count_by is_fault h + 0 = count_more is_fault h e ∙ ap (λ b. count_by is_fault h + cond {A = ℕ} b 1 0) owed.no_fault in
+          omega (arith, old, same);
       limit = agrees.limit;
       count =
           let old = agrees.count in
@@ -317,13 +322,14 @@ module _ (opening : Opening) (store next : StoreSeen) (log : Log) (owner : ℕ) 
   same : (a : ℕ) → known_after (log.events ++ deed_event ∷ []) a ≡ known_after log.events a
   same = known_after-more log.events deed_event
 
-  pub agrees_committed : IsFrame store next → ((m : Contents) → store.contents ≡ Some m → next.contents ≡ Some (after m changes)) → (0 < length changes → OneMore store.changes next.changes)
+  pub agrees_committed : IsFrame store next → next.faults ≤ store.faults → ((m : Contents) → store.contents ≡ Some m → next.contents ≡ Some (after m changes)) → (0 < length changes → OneMore store.changes next.changes)
       → (length changes ≡ 0 → next.changes ≡ store.changes) → Agrees opening next (committed log owner deed)
-  agrees_committed frame made more none =
+  agrees_committed frame steady made more none =
       agrees_changed opening store next log deed_event deed.keys.items changes (with_cells log.locals deed.cells.items) agrees is_deed.touched (record {
         frame = frame;
         still = λ a k known. record { now = k; known = same a ∙ known; info = refl; opened = refl };
         back = λ a l known. (l, sym (same a) ∙ known, refl);
+        steady = steady;
         no_fault = refl;
         no_opening = refl;
         count = cells_count deed.cells.items log.locals;
@@ -339,11 +345,14 @@ module _ (opening : Opening) (store next : StoreSeen) (log : Log) (owner : ℕ) 
 -- what comes of a deed
 pub agrees_deed : (opening : Opening) (store next : StoreSeen) (log then : Log) (owner : ℕ) (deed : Deed) (changes : List Change) (r : Result ℕ ChangeError) → OnOk r (then ≡ committed log owner deed)
     → OnOk r ((m : Contents) → store.contents ≡ Some m → next.contents ≡ Some (after m changes)) → OnOk r (0 < length changes → OneMore store.changes next.changes) → OnOk r (length changes ≡ 0 → next.changes ≡ store.changes) → OnErr r (IsQuiet store next)
-    → ((event : ℕ) → r ≡ Err (error.StoreFailed event) → HasFailed owner deed.mount store next log then event) → (r ≡ Err error.Memory → then ≡ log) → IsFrame store next → IsDeed log owner deed → IsRightDeed opening log owner deed changes → Agrees opening store log
+    → ((event : ℕ) → r ≡ Err (error.StoreFailed event) → HasFailed owner deed.mount store next log then event) → (store.faults < next.faults → (event : ℕ) × (r ≡ Err (error.StoreFailed event))) → (r ≡ Err error.Memory → then ≡ log) → IsFrame store next → IsDeed log owner deed → IsRightDeed opening log owner deed changes → Agrees opening store log
     → Agrees opening next then
-agrees_deed opening store next log then owner deed changes (Ok n) ok done more none quiet failed memory frame is_deed right is =
-    subst (Agrees opening next) (sym ok) (agrees_committed opening store next log owner deed changes is is_deed right frame done more none)
-agrees_deed opening store next log then owner deed changes (Err (error.StoreFailed event)) ok done more none quiet failed memory frame is_deed right is =
+agrees_deed opening store next log then owner deed changes (Ok n) ok done more none quiet failed told memory frame is_deed right is =
+    let same = not_risen store.faults next.faults (λ rose. let why = told rose in let clash = why.1 in cc) in
+    subst (Agrees opening next) (sym ok) (agrees_committed opening store next log owner deed changes is is_deed right frame same done more none)
+agrees_deed opening store next log then owner deed changes (Err (error.StoreFailed event)) ok done more none quiet failed told memory frame is_deed right is =
     let has = failed event refl in
     subst (Agrees opening next) (sym has.added) (agrees_fault opening store next log owner deed.mount quiet has.rose is)
-agrees_deed opening store next log then owner deed changes (Err error.Memory) ok done more none quiet failed memory frame is_deed right is = subst (Agrees opening next) (sym (memory refl)) (agrees_quiet opening store next log quiet is)
+agrees_deed opening store next log then owner deed changes (Err error.Memory) ok done more none quiet failed told memory frame is_deed right is =
+    let same = not_risen store.faults next.faults (λ rose. let why = told rose in let clash = why.1 in cc) in
+    subst (Agrees opening next) (sym (memory refl)) (agrees_quiet opening store next log quiet same is)

@@ -1,5 +1,5 @@
 -- A state agrees with its opening behind an array that entered the run.
-use Rattle.std.proofs.Common.{◌≡◌, ◌≢◌, ℕ, ◌+◌, ◌<◌, ◌⊎◌, inl, inr, List, [], ◌∷◌, ◌++◌, length, Bool, true, false, cond, Option, Some, None, refl, sym, ap, subst, ◌∙◌, arith, eqb-true, length-append, zero, suc}
+use Rattle.std.proofs.Common.{◌≡◌, ◌≢◌, ℕ, ◌+◌, ◌<◌, ◌≤◌, ◌⊎◌, inl, inr, List, [], ◌∷◌, ◌++◌, length, Bool, true, false, cond, Option, Some, None, refl, sym, ap, subst, ◌∙◌, arith, eqb-true, length-append, zero, suc}
 use Rattle.std.specs.Prelude.{◌==◌, count_by}
 use Rattle.std.specs.List.{slice_get}
 use Rattle.std.specs.Option.{option_map, option_map_or}
@@ -142,9 +142,9 @@ module _ (opening : Opening) (store next : StoreSeen) (log : Log) (owner : ℕ) 
         ),
       )
 
-  pub agrees_opened : IsFrame store next → ((m : List ℕ) → mount_of info.home ≡ Some m → TakesMount next.names m) → HoldsCells
+  pub agrees_opened : IsFrame store next → next.faults ≤ store.faults → ((m : List ℕ) → mount_of info.home ≡ Some m → TakesMount next.names m) → HoldsCells
       → ((start : Contents) → opening.store.contents ≡ Some start → (true_to : IsTrueTo start opening store log) → IsEnteredIn start true_to.contents) → Agrees opening next log_later
-  agrees_opened frame takes holds entered =
+  agrees_opened frame steady takes holds entered =
       agrees_later h e stays quiet opening store next log (log.locals ++ local ∷ []) refl agrees (record {
         frame = frame;
         faults =
@@ -152,6 +152,10 @@ module _ (opening : Opening) (store next : StoreSeen) (log : Log) (owner : ℕ) 
             let up = frame.faults in
             let same : count_by is_fault later ≡ count_by is_fault h + 0 = count_more is_fault h e in
             omega arith;
+        told = λ rose.
+            let old = agrees.told (omega (arith, rose, steady)) in
+            let same : count_by is_fault later ≡ count_by is_fault h + 0 = count_more is_fault h e in
+            omega (arith, old, same);
         count =
             let old = agrees.count in
             let longer : length (log.locals ++ local ∷ []) ≡ length log.locals + 1 = simp length-append in

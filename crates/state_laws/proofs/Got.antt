@@ -1,5 +1,5 @@
 -- A state agrees with its opening behind a call of the store that changed nothing.
-use Rattle.std.proofs.Common.{◌≡◌, ℕ, List, [], ◌∷◌, ◌++◌, true, Option, Some, refl, sym, ap, subst, ◌∙◌, arith}
+use Rattle.std.proofs.Common.{◌≡◌, ◌<◌, ◌≤◌, ℕ, List, [], ◌∷◌, ◌++◌, true, Option, Some, refl, sym, ap, subst, ◌∙◌, arith}
 use Rattle.std.specs.Prelude.{Result, Ok, Err, OnOk}
 use Rattle.std.proofs.lemmas.List.{append_assoc}
 use Rattle.history.specs.Names.{chunk_name}
@@ -16,13 +16,14 @@ use Rattle.state_laws.specs.Seen.{StoreSeen, IsQuiet, IsRead}
 use Rattle.state_laws.specs.Log.{Log}
 use Rattle.state_laws.specs.Agreement.{Opening, Agrees, TakesMount}
 use Rattle.state_laws.specs.Fetches.{HasFailed}
-use Rattle.state_laws.proofs.Later.{frame_then, quiet_read, agrees_fault}
+use Rattle.state_laws.proofs.Later.{frame_then, quiet_read, not_risen, agrees_fault}
 
--- a call that changed nothing
-pub agrees_quiet : (opening : Opening) (store next : StoreSeen) (log : Log) → IsQuiet store next → Agrees opening store log → Agrees opening next log
-agrees_quiet opening store next log read is = record {
+-- a call that changed nothing and didn't fail
+pub agrees_quiet : (opening : Opening) (store next : StoreSeen) (log : Log) → IsQuiet store next → next.faults ≤ store.faults → Agrees opening store log → Agrees opening next log
+agrees_quiet opening store next log read steady is = record {
   frame = frame_then opening.store store next is.frame read.frame;
   faults = let old = is.faults in let up = read.frame.faults in omega arith;
+  told = λ rose. is.told (omega (arith, rose, steady));
   limit = is.limit;
   count = is.count;
   outline = is.outline;
@@ -43,17 +44,19 @@ agrees_quiet opening store next log read is = record {
       };
 }
 
-pub agrees_read : (opening : Opening) (store next : StoreSeen) (log : Log) → IsRead store next → Agrees opening store log → Agrees opening next log
-agrees_read opening store next log read is = agrees_quiet opening store next log (quiet_read store next read) is
+pub agrees_read : (opening : Opening) (store next : StoreSeen) (log : Log) → IsRead store next → next.faults ≤ store.faults → Agrees opening store log → Agrees opening next log
+agrees_read opening store next log read steady is = agrees_quiet opening store next log (quiet_read store next read) steady is
 
 -- a look that may have failed
 pub agrees_got : {A : Type 0} (opening : Opening) (store next : StoreSeen) (log later : Log) (owner : ℕ) (mount : List ℕ) (r : Result A GetError) → IsRead store next → OnOk r (later ≡ log)
-    → ((event : ℕ) → r ≡ Err (get.Failed event) → HasFailed owner mount store next log later event) → (r ≡ Err get.Memory → later ≡ log) → Agrees opening store log → Agrees opening next later
-agrees_got opening store next log later owner mount (Ok x) read ok failed memory is = subst (Agrees opening next) (sym ok) (agrees_read opening store next log read is)
-agrees_got opening store next log later owner mount (Err (get.Failed event)) read ok failed memory is =
+    → ((event : ℕ) → r ≡ Err (get.Failed event) → HasFailed owner mount store next log later event) → (store.faults < next.faults → (event : ℕ) × (r ≡ Err (get.Failed event))) → (r ≡ Err get.Memory → later ≡ log) → Agrees opening store log → Agrees opening next later
+agrees_got opening store next log later owner mount (Ok x) read ok failed told memory is =
+    subst (Agrees opening next) (sym ok) (agrees_read opening store next log read (not_risen store.faults next.faults (λ rose. let why = told rose in let clash = why.1 in cc)) is)
+agrees_got opening store next log later owner mount (Err (get.Failed event)) read ok failed told memory is =
     let has = failed event refl in
     subst (Agrees opening next) (sym has.added) (agrees_fault opening store next log owner mount (quiet_read store next read) has.rose is)
-agrees_got opening store next log later owner mount (Err get.Memory) read ok failed memory is = subst (Agrees opening next) (sym (memory refl)) (agrees_read opening store next log read is)
+agrees_got opening store next log later owner mount (Err get.Memory) read ok failed told memory is =
+    subst (Agrees opening next) (sym (memory refl)) (agrees_read opening store next log read (not_risen store.faults next.faults (λ rose. let why = told rose in let clash = why.1 in cc)) is)
 
 -- a stored array's keys lie below its mount
 in_folder : (m path name mount : List ℕ) → m ≡ mount → (rest : List ℕ) × ((m ++ 47 ∷ path ++ 47 ∷ []) ++ name ≡ mount ++ 47 ∷ rest)

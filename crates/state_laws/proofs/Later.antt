@@ -1,8 +1,10 @@
 -- A state agrees with its opening behind a failed store call, and behind a look into the cache.
 use Rattle.std.proofs.Common.{◌≡◌, ℕ, ◌+◌, ◌<◌, ◌≤◌, ◌⊎◌, inl, inr, List, [], ◌∷◌, ◌++◌, length, Bool, true, false, cond, Option, Some, refl, sym, ap, subst, ◌∙◌, All, arith}
 use Rattle.std.proofs.lemmas.Grind.{fold-append}
-use Rattle.std.specs.Prelude.{count_by}
+use Rattle.std.specs.Prelude.{count_by, nat_lt}
 use Rattle.std.specs.FinMap as finmap
+use Rattle.std.proofs.lemmas.Bool.{ltb-true, ltb-false}
+use Rattle.cells.proofs.Laws.{true_or_false}
 use Rattle.std.proofs.lemmas.List.Elements.{All-weaker}
 use Rattle.cells.specs.Elements.{word_at}
 use Rattle.chunk_cache.specs.Snapshot.{SnapshotCells}
@@ -37,6 +39,10 @@ frame_then a b c first second = record {
   prefixes = second.prefixes ∙ first.prefixes;
   names = second.names ∙ first.names;
 }
+
+-- a count that didn't rise
+pub not_risen : (old new : ℕ) → (old < new → ⊥) → new ≤ old
+not_risen old new never = elim (true_or_false (nat_lt old new)) [ inl more ↦ absurd (never (ltb-true old new more)) | inr less ↦ ltb-false old new less ]
 
 pub read_then : (a b c : StoreSeen) → IsRead a b → IsRead b c → IsRead a c
 read_then a b c first second = record {
@@ -122,6 +128,7 @@ module _ (h : History) (e : Event) (stays : (a : ℕ) (k : Known) → known_afte
     pub record IsOwed : Type 0 where
       pub frame : IsFrame store next
       pub faults : opening.store.faults + count_by is_fault later ≤ next.faults
+      pub told : opening.store.faults < next.faults → 0 < count_by is_fault later
       pub count : length locals ≡ count_by is_opening later
       pub outline : IsLegal finmap.empty (outline later)
       pub mounts : (a : ℕ) (k : Known) (mount : List ℕ) → known_after later a ≡ Some k → mount_of k.info.home ≡ Some mount → TakesMount next.names mount
@@ -132,6 +139,7 @@ module _ (h : History) (e : Event) (stays : (a : ℕ) (k : Known) → known_afte
     agrees_later is owed = record {
       frame = frame_then opening.store store next is.frame owed.frame;
       faults = owed.faults;
+      told = owed.told;
       limit = is.limit;
       count = owed.count;
       outline = owed.outline;
@@ -154,6 +162,7 @@ agrees_fault opening store next log owner mount read rose is =
           let old = is.faults in
           let more : count_by is_fault (h ++ e ∷ []) ≡ count_by is_fault h + 1 = count_more is_fault h e in
           omega arith;
+      told = λ more. let one : count_by is_fault (h ++ e ∷ []) ≡ count_by is_fault h + 1 = count_more is_fault h e in omega (arith, one);
       count = is.count ∙ sym (count_more is_opening h e ∙ plus_none (count_by is_opening h));
       outline = outline_fault h owner mount is.outline;
       mounts = λ a k m known on. subst (λ names. TakesMount names m) (sym read.frame.names) (is.mounts a k m (sym (same a) ∙ known) on);

@@ -8,6 +8,8 @@ pub use Rattle.state_laws.proofs.Leafs.{frame_same}
 -- a state agrees with its opening behind a call of the store that changed nothing, behind one that failed, behind a look that may have
 pub use Rattle.state_laws.proofs.Got.{agrees_quiet, agrees_read, agrees_got}
 pub use Rattle.state_laws.proofs.Later.{agrees_fault}
+-- a count that didn't rise is no greater
+pub use Rattle.state_laws.proofs.Later.{not_risen}
 -- a store that takes an array's mount takes the keys of its chunks
 pub use Rattle.state_laws.proofs.Got.{takes_chunk}
 -- the generation that the table tells is the chunk's

@@ -1,7 +1,7 @@
 -- What opening a leaf answers, by what the store has.
 use Rattle.std.proofs.lemmas.List.{append_assoc}
 use Rattle.std.specs.Option.{is_none}
-use Rattle.std.proofs.Common.{◌≡◌, ℕ, ◌+◌, List, [], ◌∷◌, ◌++◌, length, true, false, Option, Some, None, refl, sym, ap, subst, ◌∙◌, arith}
+use Rattle.std.proofs.Common.{◌≡◌, ◌≤◌, ℕ, ◌+◌, List, [], ◌∷◌, ◌++◌, length, true, false, Option, Some, None, refl, sym, ap, subst, ◌∙◌, arith}
 use Rattle.std.specs.Prelude.{count_by}
 use Rattle.std.specs.FinMap as finmap
 use Rattle.cells.specs.declared.dtype.Dtype.TheVariants.{U8}
@@ -127,10 +127,10 @@ module _ (opening : Opening) (store next : StoreSeen) (log : Log) (owner : ℕ) 
   lacks : (start : Contents) → lacks_metadata start (metadata_key (opened_as h info)) ≡ is_none (finmap.get start (metadata_key_asked leaf))
   lacks start = ap (lacks_metadata start) key_is
 
-  pub agrees_found : next.contents ≡ store.contents → next.changes ≡ store.changes
+  pub agrees_found : next.faults ≤ store.faults → next.contents ≡ store.contents → next.changes ≡ store.changes
       → ((m : Contents) → store.contents ≡ Some m → (bytes : List ℕ) × (finmap.get m (metadata_key_asked leaf) ≡ Some bytes)) → Agrees opening next (entered log owner info None)
-  agrees_found contents changes there =
-      agrees_opened opening store next log owner info None agrees is_legal frame takes_new (λ local. absurd (no_local local))
+  agrees_found steady contents changes there =
+      agrees_opened opening store next log owner info None agrees is_legal frame steady takes_new (λ local. absurd (no_local local))
       (λ start told true_to.
       let bytes = there true_to.contents true_to.told in
       let first : finmap.get start (metadata_key_asked leaf) ≡ Some bytes.0 = sym (fresh_at opening store log leaf start true_to.contents agrees free mount true_to.represents) ∙ bytes.1 in (
@@ -144,10 +144,10 @@ module _ (opening : Opening) (store next : StoreSeen) (log : Log) (owner : ℕ) 
       no_local : arrays.is_local info.home ≡ true → ⊥
       no_local local = let clash : true ≡ false = sym local ∙ no_cells info.home refl in cc
 
-  pub agrees_made : ((m : Contents) → store.contents ≡ Some m → next.contents ≡ Some (put_bytes m (metadata_key_asked leaf) (Some (metadata_text meta)))) → OneMore store.changes next.changes
+  pub agrees_made : next.faults ≤ store.faults → ((m : Contents) → store.contents ≡ Some m → next.contents ≡ Some (put_bytes m (metadata_key_asked leaf) (Some (metadata_text meta)))) → OneMore store.changes next.changes
       → ((m : Contents) → store.contents ≡ Some m → finmap.get m (metadata_key_asked leaf) ≡ None) → Agrees opening next (entered log owner info None)
-  agrees_made contents changes missing =
-      agrees_opened opening store next log owner info None agrees is_legal frame takes_new (λ local. absurd (no_local local))
+  agrees_made steady contents changes missing =
+      agrees_opened opening store next log owner info None agrees is_legal frame steady takes_new (λ local. absurd (no_local local))
       (λ start told true_to.
       let none : finmap.get start (metadata_key_asked leaf) ≡ None = sym (fresh_at opening store log leaf start true_to.contents agrees free mount true_to.represents) ∙ missing true_to.contents true_to.told in
       let text : metadata_text (with_shape (form_of info.home) info.shape) ≡ metadata_text meta = ap metadata_text (sym (form_new leaf.mount leaf.path meta stored)) in (

@@ -1,5 +1,5 @@
 -- A state agrees with its opening behind a new shape.
-use Rattle.std.proofs.Common.{◌≡◌, ◌≢◌, ℕ, ◌<◌, ◌⊎◌, inl, inr, List, [], ◌∷◌, ◌++◌, length, Bool, true, false, cond, Option, Some, None, refl, sym, ap, subst, ◌∙◌, eqb-true}
+use Rattle.std.proofs.Common.{◌≡◌, ◌≢◌, ℕ, ◌<◌, ◌≤◌, ◌⊎◌, inl, inr, List, [], ◌∷◌, ◌++◌, length, Bool, true, false, cond, Option, Some, None, refl, sym, ap, subst, ◌∙◌, eqb-true}
 use Rattle.std.specs.Prelude.{◌==◌, ◌&&◌, Result, Ok, Err, OnOk, OnErr}
 use Rattle.std.specs.FinMap as finmap
 use Rattle.std.proofs.lemmas.Bool.{lt-ltb}
@@ -24,7 +24,7 @@ use Rattle.state_laws.specs.Agreement.{Opening, Agrees}
 use Rattle.state_laws.specs.Changing.{resized, IsNewShape, IsRightShape, IsHeldStill, IsHeldAnew}
 use Rattle.state_laws.specs.Fetches.{HasFailed}
 use Rattle.state_laws.proofs.Got.{agrees_quiet}
-use Rattle.state_laws.proofs.Later.{agrees_fault}
+use Rattle.state_laws.proofs.Later.{not_risen, agrees_fault}
 use Rattle.state_laws.proofs.Outline.{outline-more, known-outline}
 use Rattle.state_laws.proofs.Committed.{IsStill, agrees_changed}
 
@@ -103,13 +103,14 @@ module _ (opening : Opening) (store next : StoreSeen) (log : Log) (owner : ℕ) 
   may_be = subst (λ o. IsLegalResize o shape) (sym (known-outline b log.events ∙ is_new.known)) is_new.may
 
   -- a new shape that was made
-  pub agrees_resized : IsFrame store next → ((m : Contents) → store.contents ≡ Some m → next.contents ≡ Some (after m changes)) → (0 < length changes → OneMore store.changes next.changes)
+  pub agrees_resized : IsFrame store next → next.faults ≤ store.faults → ((m : Contents) → store.contents ≡ Some m → next.contents ≡ Some (after m changes)) → (0 < length changes → OneMore store.changes next.changes)
       → (length changes ≡ 0 → next.changes ≡ store.changes) → Agrees opening next (resized log owner new)
-  agrees_resized frame made more none =
+  agrees_resized frame steady made more none =
       agrees_changed opening store next log event new.keys.items changes log.locals agrees is_new.touched (record {
         frame = frame;
         still = λ a k known. still_by a k (b == a) refl known;
         back = λ a l known. back_by a l (b == a) refl known;
+        steady = steady;
         no_fault = refl;
         no_opening = refl;
         count = refl;
@@ -129,11 +130,14 @@ module _ (opening : Opening) (store next : StoreSeen) (log : Log) (owner : ℕ) 
 -- what comes of a new shape
 pub agrees_shape : (opening : Opening) (store next : StoreSeen) (log then : Log) (owner : ℕ) (new : NewShape) (changes : List Change) (r : Result ℕ ChangeError) → OnOk r (then ≡ resized log owner new)
     → OnOk r ((m : Contents) → store.contents ≡ Some m → next.contents ≡ Some (after m changes)) → OnOk r (0 < length changes → OneMore store.changes next.changes) → OnOk r (length changes ≡ 0 → next.changes ≡ store.changes) → OnErr r (IsQuiet store next)
-    → ((event : ℕ) → r ≡ Err (error.StoreFailed event) → HasFailed owner new.mount store next log then event) → (r ≡ Err error.Memory → then ≡ log) → IsFrame store next → IsNewShape log owner new changes → IsRightShape opening log owner new changes → Agrees opening store log
+    → ((event : ℕ) → r ≡ Err (error.StoreFailed event) → HasFailed owner new.mount store next log then event) → (store.faults < next.faults → (event : ℕ) × (r ≡ Err (error.StoreFailed event))) → (r ≡ Err error.Memory → then ≡ log) → IsFrame store next → IsNewShape log owner new changes → IsRightShape opening log owner new changes → Agrees opening store log
     → Agrees opening next then
-agrees_shape opening store next log then owner new changes (Ok n) ok done more none quiet failed memory frame is_new right is =
-    subst (Agrees opening next) (sym ok) (agrees_resized opening store next log owner new changes is is_new right frame done more none)
-agrees_shape opening store next log then owner new changes (Err (error.StoreFailed event)) ok done more none quiet failed memory frame is_new right is =
+agrees_shape opening store next log then owner new changes (Ok n) ok done more none quiet failed told memory frame is_new right is =
+    let same = not_risen store.faults next.faults (λ rose. let why = told rose in let clash = why.1 in cc) in
+    subst (Agrees opening next) (sym ok) (agrees_resized opening store next log owner new changes is is_new right frame same done more none)
+agrees_shape opening store next log then owner new changes (Err (error.StoreFailed event)) ok done more none quiet failed told memory frame is_new right is =
     let has = failed event refl in
     subst (Agrees opening next) (sym has.added) (agrees_fault opening store next log owner new.mount quiet has.rose is)
-agrees_shape opening store next log then owner new changes (Err error.Memory) ok done more none quiet failed memory frame is_new right is = subst (Agrees opening next) (sym (memory refl)) (agrees_quiet opening store next log quiet is)
+agrees_shape opening store next log then owner new changes (Err error.Memory) ok done more none quiet failed told memory frame is_new right is =
+    let same = not_risen store.faults next.faults (λ rose. let why = told rose in let clash = why.1 in cc) in
+    subst (Agrees opening next) (sym (memory refl)) (agrees_quiet opening store next log quiet same is)

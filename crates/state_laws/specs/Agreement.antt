@@ -1,5 +1,5 @@
 -- How a state agrees with what was read off when it began.
-use Rattle.std.specs.Prelude.{◌≡◌, ◌≤◌, ◌+◌, ℕ, List, ◌∷◌, ◌++◌, true, false, Bool, Option, Some, length, count_by, All}
+use Rattle.std.specs.Prelude.{◌≡◌, ◌<◌, ◌≤◌, ◌+◌, ℕ, List, ◌∷◌, ◌++◌, true, false, Bool, Option, Some, length, count_by, All}
 use Rattle.std.specs.FinMap as finmap
 use Rattle.chunk_cache.specs.Snapshot.{SnapshotCells}
 use Rattle.kv_face.specs.Store.{Contents, takes}
@@ -67,6 +67,8 @@ pub record Agrees (opening : Opening) (store : StoreSeen) (log : Log) : Type 0 w
   pub frame : IsFrame opening.store store
   -- faults of the history are no more than those of the store
   pub faults : opening.store.faults + count_by is_fault log.events ≤ store.faults
+  -- and where the store's count rose, the history tells of a fault
+  pub told : opening.store.faults < store.faults → 0 < count_by is_fault log.events
   pub limit : log.cache.limit ≡ opening.limit
   pub count : length log.locals ≡ count_by is_opening log.events
   -- arrays were opened, and got shapes, as a history may

@@ -21,6 +21,7 @@ pub fn apply<K: KvStore>(store: &mut K, changes: &[Change]) -> Result<(), KvErro
     ensures quiet { OnErr result (IsQuiet (K.seen store.old) (K.seen store.new)) }
     ensures frame { IsFrame (K.seen store.old) (K.seen store.new) }
     ensures failed { result ≡ Err KvError.Failed → (K.seen store.old).faults < (K.seen store.new).faults }
+    ensures told { (K.seen store.old).faults < (K.seen store.new).faults → result ≡ Err KvError.Failed }
 {
     if changes.is_empty() {
         return Ok(());
@@ -40,6 +41,7 @@ pub fn apply_owned<K: KvStore>(store: &mut K, changes: Vec<Change>) -> Result<()
     ensures quiet { OnErr result (IsQuiet (K.seen store.old) (K.seen store.new)) }
     ensures frame { IsFrame (K.seen store.old) (K.seen store.new) }
     ensures failed { result ≡ Err KvError.Failed → (K.seen store.old).faults < (K.seen store.new).faults }
+    ensures told { (K.seen store.old).faults < (K.seen store.new).faults → result ≡ Err KvError.Failed }
 {
     if changes.is_empty() {
         return Ok(());

@@ -82,6 +82,8 @@ pub fn write_array<K: KvStore>(
     ensures frame { IsFrame (K.seen store.old) (K.seen store.new) }
     ensures failed { (event : ℕ) → result ≡ Err (OpenError.StoreFailed event)
         → HasFailed owner mount (K.seen store.old) (K.seen store.new) (log_of records.old) (log_of records.new) event }
+    ensures told { (K.seen store.old).faults < (K.seen store.new).faults
+        → (event : ℕ) × (result ≡ Err (OpenError.StoreFailed event)) }
     ensures memory { result ≡ Err OpenError.Memory → log_of records.new ≡ log_of records.old }
     ensures errors { OnErr result (IsStoreError result) }
     ensures table { IsTable records.new.events places.new }

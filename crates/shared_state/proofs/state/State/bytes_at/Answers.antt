@@ -12,4 +12,4 @@ get-requires g c =
 
 pub returns-clause-kept : goal.returns-clause-kept
 returns-clause-kept g c = λ opening agrees.
-    agrees_got opening _ _ c.args.self.now.log c.get.new.self.log c.args.owner c.in_ok-mount.mount c.get.result c.get.ensures.read c.get.ensures.ok c.get.ensures.failed c.get.ensures.memory agrees
+    agrees_got opening _ _ c.args.self.now.log c.get.new.self.log c.args.owner c.in_ok-mount.mount c.get.result c.get.ensures.read c.get.ensures.ok c.get.ensures.failed c.get.ensures.told c.get.ensures.memory agrees

@@ -1,4 +1,4 @@
-use Rattle.std.proofs.Common.{◌≡◌, List, ℕ, true, Some, None, refl, sym, ap, subst, ◌∙◌}
+use Rattle.std.proofs.Common.{◌≡◌, List, ℕ, true, Some, None, refl, sym, ap, subst, ◌∙◌, arith}
 use Rattle.std.specs.FinMap as finmap
 use Rattle.kv_face.specs.Store.{Contents}
 use Rattle.std.specs.Prelude.{count_by}
@@ -25,7 +25,7 @@ returns-clause-kept g c = λ opening agrees.
     let free = subst (IsFree log.events) (ap (λ (p : Place). p.location) c.requires.place) c.requires.free in
     let there = subst (λ key. (m : Contents) → store.contents ≡ Some m → (bytes : List ℕ) × (finmap.get m key ≡ Some bytes)) (ap (λ (p : Place). p.key) c.requires.place) c.requires.there in
     let number = c.array_count-number.ensures.value ∙ ap (λ (s : StateOf g.row.K.Denot). count_by is_opening s.log.events) c.self.view_is in
-    let found = agrees_found opening store store log c.args.owner leaf c.args.form agrees free c.requires.mount c.requires.valid c.requires.asked (frame_same store) c.requires.taken refl refl there in
+    let found = agrees_found opening store store log c.args.owner leaf c.args.form agrees free c.requires.mount c.requires.valid c.requires.asked (frame_same store) c.requires.taken (omega arith) refl refl there in
     subst (λ s. Agrees opening s c.enter_new.new.self.log) (sym (ap seen c.enter_new.ensures.store))
     (either_way c.enter_new.result c.enter_new.ensures.after c.enter_new.ensures.err
     (λ done. subst (Agrees opening store) (sym (done ∙ ap (λ (i : ArrayInfo). entered log c.args.owner i None) (c.in_ok-new.ensures.info ∙ (λ i. info_at (number i) (c.items.ensures i) (c.items-2.ensures i) c.args.form)))) found)

@@ -8,7 +8,7 @@ use Rattle.state_laws.specs.Seen.{IsRead}
 use Rattle.state_laws.specs.Fetches.{IsAnswered, IsDamagedThere, IsNamed, kept_of}
 use Rattle.state_laws.specs.Looks.{IsLook}
 use Rattle.state_laws.specs.declared.error.FetchError.TheVariants as fetch
-use Rattle.state_laws.proofs.Laws.{look_answered, decoded_damaged}
+use Rattle.state_laws.proofs.Laws.{look_answered, decoded_damaged, not_risen}
 use Rattle.shared_state.proofs.Looked.{answered_back, damaged_back, stored_forth}
 use Rattle.shared_state.proofs.state.State.fetch.Goals as goal
 
@@ -42,8 +42,9 @@ returns-in-Ok-clause-answered g c =
     let next = seen c.look_at.new.self.store in
     let chunk : Chunk = record { array = c.args.array; index = c.args.chunk.now } in
     let still = c.look_at.ensures.still c.in-Bytes.generation c.in-Bytes.form c.in-Bytes.bytes c.in-Bytes.bounds (c.in_ok-snapshot.was ∙ ap Ok c.in-Bytes.is) in
+    let steady = not_risen (seen now.store).faults next.faults (λ rose. let was = c.look_at.ensures.left.told rose in let no : Ok c.in_ok-snapshot.field-0 ≡ Err (fetch.StoreFailed was.0) = sym c.in_ok-snapshot.was ∙ was.1 in cc) in
     IfOk-weaker c.put.result _ _
-    (λ f is. answered_back (seen now.store) next now.log chunk f.snapshot c.look_at.ensures.left.read (subst (λ l. IsAnswered next l chunk f.snapshot) still is)) c.put.ensures.answered
+    (λ f is. answered_back (seen now.store) next now.log chunk f.snapshot c.look_at.ensures.left.read steady (subst (λ l. IsAnswered next l chunk f.snapshot) still is)) c.put.ensures.answered
 
 pub returns-in-Ok-clause-left : goal.returns-in-Ok-clause-left
 returns-in-Ok-clause-left g c =
@@ -79,6 +80,7 @@ returns-in-Err-Damaged-clause-damaged g c = λ name cause e.
     let cause_is : found.0 ≡ cause = cc in
     let wrapped : c.wrap.result ≡ name = cc in
     let name_is : key ≡ name = sym (c.in_ok-key.ensures told.array told.known) ∙ sym c.wrap.ensures ∙ wrapped in
-    let damaged = damaged_back (seen now.store) next now.log chunk key found.0 left.read
+    let steady = not_risen (seen now.store).faults next.faults (λ rose. let was = left.told rose in let no : Ok c.in_ok-snapshot.field-0 ≡ Err (fetch.StoreFailed was.0) = sym c.in_ok-snapshot.was ∙ was.1 in cc) in
+    let damaged = damaged_back (seen now.store) next now.log chunk key found.0 left.read steady
     (decoded_damaged next now.log chunk key c.in-Bytes.form c.in-Bytes.bytes state named told.stored told.form_is (λ m is. told.held m (sym left.read.contents ∙ is)) found.0 found.2) in
     (still, subst (λ n. IsDamagedThere (seen now.store) now.log chunk n cause) name_is (subst (IsDamagedThere (seen now.store) now.log chunk key) cause_is damaged))

@@ -51,11 +51,11 @@ returns-clause-kept g c = λ opening agrees.
     let count : length c.deref.result.now ≡ 1 = ap length changes in
     let made = agrees_made opening store next log c.args.owner leaf form agrees free c.requires.mount c.requires.valid c.requires.asked c.write_new.ensures.frame c.requires.taken in
     agrees_stored opening store next log c.write_new.new.self.log c.args.owner c.in_ok-mount.mount c.write_new.result
-    (either_ok c.write_new.result c.write_new.ensures.after c.write_new.ensures.done c.write_new.ensures.one_more (λ later done more.
+    (either_ok c.write_new.result c.write_new.ensures.after c.write_new.ensures.done c.write_new.ensures.one_more (λ later done more steady.
     subst (Agrees opening next) (sym (later ∙ ap (λ (i : ArrayInfo). entered log c.args.owner i None) info))
-    (made (λ m told. done m told ∙ ap (λ cs. Some (after m cs)) changes ∙ ap (λ key. Some (put_bytes m key (Some (metadata_text form)))) at) (more (omega (arith, count))) missing)))
+    (made steady (λ m told. done m told ∙ ap (λ cs. Some (after m cs)) changes ∙ ap (λ key. Some (put_bytes m key (Some (metadata_text form)))) at) (more (omega (arith, count))) missing)))
     (both_err c.write_new.result c.write_new.ensures.contents c.write_new.ensures.count (λ contents changes. record { frame = c.write_new.ensures.frame; contents = contents; changes = changes }))
-    c.write_new.ensures.failed c.write_new.ensures.memory c.write_new.ensures.errors agrees
+    c.write_new.ensures.failed c.write_new.ensures.told c.write_new.ensures.memory c.write_new.ensures.errors agrees
 
 pub returns-clause-quiet : goal.returns-clause-quiet
 returns-clause-quiet g c = both_err c.write_new.result c.write_new.ensures.contents c.write_new.ensures.count (λ contents changes. record { frame = c.write_new.ensures.frame; contents = contents; changes = changes })

@@ -9,6 +9,7 @@ use Rattle.state_laws.specs.Looks.{IsLook}
 use Rattle.state_laws.specs.Fetches.{HasFailed}
 use Rattle.state_laws.specs.declared.error.FetchError.TheVariants as fetch
 use Rattle.state_laws.specs.declared.error.GetError.TheVariants as get
+use Rattle.state_laws.proofs.Laws.{not_risen}
 use Rattle.shared_state.proofs.Looked.{look_back, stored_mount, kept_none}
 use Rattle.shared_state.proofs.state.State.stored_look.Goals as goal
 
@@ -20,8 +21,9 @@ pub returns-in-Ok-clause-looked : goal.returns-in-Ok-clause-looked
 returns-in-Ok-clause-looked g c =
     let chunk : Chunk = record { array = c.args.array; index = c.args.chunk.now } in
     let seen = g.K.KvStore.seen in
+    let steady = not_risen (seen c.args.self.now.store).faults (seen c.bytes_at.new.self.store).faults (λ rose. let was = c.bytes_at.ensures.told rose in let no : Ok c.in-Ok.bytes ≡ Err (get.Failed was.0) = sym c.in-Ok.is ∙ was.1 in cc) in
     IfOk-weaker c.described.result _ _
-    (λ l is. look_back (seen c.args.self.now.store) (seen c.bytes_at.new.self.store) c.args.self.now.log chunk l c.bytes_at.ensures.read (subst (λ log. IsLook (seen c.bytes_at.new.self.store) log chunk l) c.in-Ok.ensures.ok is)) c.described.ensures.looked
+    (λ l is. look_back (seen c.args.self.now.store) (seen c.bytes_at.new.self.store) c.args.self.now.log chunk l c.bytes_at.ensures.read steady (subst (λ log. IsLook (seen c.bytes_at.new.self.store) log chunk l) c.in-Ok.ensures.ok is)) c.described.ensures.looked
 
 pub returns-in-Ok-clause-left : goal.returns-in-Ok-clause-left
 returns-in-Ok-clause-left g c = record {
