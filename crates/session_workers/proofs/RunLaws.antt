@@ -85,6 +85,7 @@ module _ (scripts : List (List ℕ)) (old mid new : List Part) (limit : ℕ) (lo
         failed = refl;
         counts = map (λ (p : Part). p.faults) mid;
         called = let more = agrees.faults in let all = counts_sum mid in omega (arith, more, all);
+        told = λ rose. let all = counts_sum mid in agrees.told (omega (arith, rose, all));
         own = counts_rise mid new finished;
         risen = let more = agrees.faults in let rise = listed_rise 0 mid new finished in omega (arith, more, rise);
       }

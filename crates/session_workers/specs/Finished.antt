@@ -31,6 +31,8 @@ pub record AreBack (old new : List Part) (history : History) (unfinished : List 
   -- before they were finished their counts of faults were these: by the events of failed calls higher together, or by more
   pub counts : List ℕ
   pub called : faults_of old + count_by is_fault history ≤ sum counts
+  -- and they rose at all only where the history tells of a failed call
+  pub told : faults_of old < sum counts → 0 < count_by is_fault history
   -- and the own count of each that stands failed rose as it was finished
   pub own : AllZip HasRisen counts new
   -- so all counts together rose by the events of failed calls and by one for each of these places, or by more
