@@ -1,5 +1,5 @@
 // What comes of a leaf, by the bytes at its metadata's key.
-ghost use Rattle.std.specs.Prelude.{◌≡◌, ℕ, List, true, IfOk, option_map};
+ghost use Rattle.std.specs.Prelude.{◌≡◌, ℕ, List, true, IfOk};
 ghost use Rattle.array_homes.specs.Opening.{leaf_at, IsDecision, meta_in, IsFrom};
 ghost use Rattle.history.specs.Metadata.{IsMetadata};
 ghost use Rattle.history.specs.Wants.{is_asked_form};
@@ -7,6 +7,7 @@ ghost use Rattle.state_laws.specs.Openings.{IsRefusalOf};
 
 use crate::opening::OpenError;
 use array_homes::{Decided, OpeningRefusal, decide};
+use bytes::Bytes;
 use cells::copy_name;
 use history::Want;
 use std::alloc::Global;
@@ -17,16 +18,16 @@ pub fn decided(
     want: &Want,
     may_open: bool,
     may_create: bool,
-    bytes: Option<Vec<u8>>,
+    bytes: Option<Bytes>,
 ) -> Result<Decided, OpeningRefusal>
     ensures outcome { (mount path : List ℕ) → IsDecision (leaf_at mount path want.now may_open may_create)
-        (option_map (λ b. b.items) bytes) result }
-    ensures source { IfOk result (λ d. IsFrom want.now (option_map (λ b. b.items) bytes) d) }
+        bytes result }
+    ensures source { IfOk result (λ d. IsFrom want.now bytes d) }
     ensures asked { IfOk result (λ d. is_asked_form want.now (meta_in d) ≡ true) }
     ensures valid { IfOk result (λ d. IsMetadata (meta_in d)) }
 {
     match bytes {
-        Some(bytes) => decide(alloc, want, may_open, may_create, Some(&bytes)),
+        Some(bytes) => decide(alloc, want, may_open, may_create, Some(bytes.as_slice())),
         None => decide(alloc, want, may_open, may_create, None),
     }
 }

@@ -29,7 +29,7 @@ mod writing;
 pub use applying::{apply, apply_owned, together};
 pub use array_homes::{
     Decided, MetaCause, OpeningRefusal, array_ref, chunk_key, decode, is_chunk_name, is_local,
-    listed, local_number, metadata_change, metadata_key, mount_of,
+    local_number, metadata_change, metadata_key, mount_of,
 };
 pub use arrival::NewArray;
 pub use at_start::AtStart;

@@ -1,5 +1,6 @@
 // What reading a chunk gives.
-use cells::{List, Sizes};
+use bytes::Bytes;
+use cells::Sizes;
 use chunk_cache::Snapshot;
 use history::Form;
 
@@ -29,7 +30,7 @@ pub enum Look {
     Bytes {
         generation: u64,
         form: Form,
-        bytes: Option<List<u8>>,
+        bytes: Option<Bytes>,
         bounds: Bounds,
     },
 }
