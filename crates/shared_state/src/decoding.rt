@@ -19,7 +19,7 @@ use state_laws::{Bounds, FetchError, Fetched, FormError, Look, decode};
 use std::sync::Arc;
 
 impl<K: KvStore> State<K> {
-    /// The chunk as it is, which comes first in the cache. A chunk that is kept calls no store, another one is read by one call.
+    /// The chunk as it is, which comes first in the cache. A chunk that is kept calls no store.
     ///
     /// # Errors
     /// `StoreFailed` where the store failed, which one event more tells; `Damaged` where what the store has is no chunk of the

@@ -1,8 +1,7 @@
-// Reading a chunk.
-ghost use Rattle.std.specs.Prelude.{◌≡◌, ◌≢◌, ◌<◌, ℕ, List, Option, Some, None, Ok, Err, IfOk, OnOk, OnErr, IsSome, false, option_map};
-ghost use Rattle.std.specs.FinMap as finmap;
+// Reading a chunk, and a look into the store with the event that says where it failed.
+ghost use Rattle.std.specs.Prelude.{◌≡◌, ◌≢◌, ◌<◌, ℕ, List, Option, Some, None, Ok, Err, IfOk, OnOk, OnErr, IsSome, false, true};
 ghost use Rattle.state_laws.specs.declared.Damage.{Damage as DamageOf};
-ghost use Rattle.kv_face.specs.Store.{Contents};
+ghost use Rattle.kv_face.specs.Store.{Contents, takes};
 ghost use Rattle.history.specs.Arrays.{Known, known_after, is_local};
 ghost use Rattle.history.specs.Chunks.{chunk_key};
 ghost use Rattle.history.specs.ReadRows.{mount_of};
@@ -11,15 +10,17 @@ ghost use Rattle.state_laws.specs.Agreement.{IsState, KeepsAgreement};
 ghost use Rattle.state_laws.specs.Fetches.{IsChunkOf, IsNamed, HasFailed, kept_of, looked_at};
 ghost use Rattle.state_laws.specs.Looks.{HasBounds, IsLook, LeavesRead};
 ghost use Rattle.state_laws.specs.declared.reading.Bounds.{Bounds as BoundsOf};
-ghost use Rattle.state_laws.specs.declared.reading.Look.TheVariants as look;
 ghost use Rattle.state_laws.specs.declared.Form.{Form as FormOf};
 ghost use Rattle.chunk_cache.specs.Snapshot.{SnapshotCells};
 ghost use Rattle.chunk_cache.specs.Cache.{kept};
+ghost use Rattle.std.specs.FinMap as finmap;
+ghost use Rattle.state_laws.specs.declared.reading.Look.TheVariants as look;
 
 use crate::state::State;
+use bytes::Bytes;
 use cells::{Name, copy_name};
-use kv_face::KvStore;
-use state_laws::{Bounds, FetchError, GetError, Look, listed, mount_of};
+use kv_face::{KvError, KvStore};
+use state_laws::{Bounds, FetchError, GetError, Look, mount_of};
 use std::alloc::AllocError;
 
 impl<K: KvStore> State<K> {
@@ -45,13 +46,13 @@ impl<K: KvStore> State<K> {
         array: u64,
         chunk: &[u64],
         key: &str,
-    ) -> Result<Option<Vec<u8>>, GetError>
+    ) -> Result<Option<Bytes>, GetError>
         requires agrees { IsState (K.seen self.old.store) self.old.log }
         requires named { IsNamed self.old.log.events (record { array = array; index = chunk.now }) key.now }
         requires stored { (k : Known) → known_after self.old.log.events array ≡ Some k → is_local k.info.home ≡ false }
         ensures read { IsRead (K.seen self.old.store) (K.seen self.new.store) }
         ensures value { IfOk result (λ v. (m : Contents) → (K.seen self.old.store).contents ≡ Some m
-            → option_map (λ b. b.items) v ≡ finmap.get m key.now) }
+            → v ≡ finmap.get m key.now) }
         ensures ok { OnOk result (self.new.log ≡ self.old.log) }
         ensures failed { (event : ℕ) (k : Known) (mount : List ℕ) → result ≡ Err (GetError.Failed event)
             → known_after self.old.log.events array ≡ Some k → mount_of k.info.home ≡ Some mount
@@ -155,7 +156,7 @@ impl<K: KvStore> State<K> {
         array: u64,
         chunk: &[u64],
         key: &str,
-        bytes: Option<Vec<u8>>,
+        bytes: Option<Bytes>,
         bounds: Bounds,
     ) -> Result<Look, FetchError>
         requires named { IsNamed self.now.log.events (record { array = array; index = chunk.now }) key.now }
@@ -163,7 +164,7 @@ impl<K: KvStore> State<K> {
             × (kept key.now self.now.log.cache.entries ≡ None) }
         requires bounds { HasBounds self.now.log array bounds }
         requires bytes { (m : Contents) → (K.seen self.now.store).contents ≡ Some m
-            → option_map (λ b. b.items) bytes ≡ finmap.get m key.now }
+            → bytes ≡ finmap.get m key.now }
         ensures looked { IfOk result (λ l. IsLook (K.seen self.now.store) self.now.log
             (record { array = array; index = chunk.now }) l) }
         ensures bytes { (snapshot : SnapshotCells) (bounds : BoundsOf) → result ≢ Ok (look.Kept snapshot bounds) }
@@ -174,8 +175,37 @@ impl<K: KvStore> State<K> {
         Ok(Look::Bytes {
             generation,
             form,
-            bytes: listed(bytes),
+            bytes,
             bounds,
         })
+    }
+
+    /// The bytes under a key of an array on a mount. Room for the event is made before the store is called.
+    pub(crate) fn get(
+        &mut self,
+        owner: u32,
+        mount: Name,
+        key: &str,
+    ) -> Result<Option<Bytes>, GetError>
+        requires { takes ((K.seen self.old.store).names) key.now ≡ true }
+        ensures read { IsRead (K.seen self.old.store) (K.seen self.new.store) }
+        ensures value { IfOk result (λ v. (m : Contents) → (K.seen self.old.store).contents ≡ Some m
+            → v ≡ finmap.get m key.now) }
+        ensures ok { OnOk result (self.new.log ≡ self.old.log) }
+        ensures failed { (event : ℕ) → result ≡ Err (GetError.Failed event)
+            → HasFailed owner mount (K.seen self.old.store) (K.seen self.new.store) self.old.log self.new.log event }
+        ensures told { (K.seen self.old.store).faults < (K.seen self.new.store).faults
+            → (event : ℕ) × (result ≡ Err (GetError.Failed event)) }
+        ensures memory { result ≡ Err GetError.Memory → self.new.log ≡ self.old.log }
+    {
+        self.records.reserve()?;
+        match self.store.get_shared(key) {
+            Ok(bytes) => Ok(bytes),
+            Err(KvError::Memory) => Err(GetError::Memory),
+            Err(KvError::Failed) => {
+                let event = self.records.add_fault(owner, mount);
+                Err(GetError::Failed { event })
+            }
+        }
     }
 }

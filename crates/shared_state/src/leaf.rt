@@ -1,5 +1,5 @@
 // Opening an array of a store.
-ghost use Rattle.std.specs.Prelude.{◌≡◌, ◌<◌, ℕ, length, Some, None, Err, IfOk, OnErr, IsSome, option_map};
+ghost use Rattle.std.specs.Prelude.{◌≡◌, ◌<◌, ℕ, length, Some, None, Err, IfOk, OnErr, IsSome};
 ghost use Rattle.std.specs.FinMap as finmap;
 ghost use Rattle.state_laws.specs.Opening.{leaf_at};
 ghost use Rattle.kv_face.specs.Store.{Contents};
@@ -15,6 +15,7 @@ ghost use Rattle.state_laws.specs.Openings.{IsOpening, AnswersKnown, IsBeside};
 ghost use Rattle.state_laws.specs.Placed.{place_at};
 
 use crate::state::State;
+use bytes::Bytes;
 use cells::copy_name;
 use kv_face::KvStore;
 use locations::Found;
@@ -165,7 +166,7 @@ impl<K: KvStore> State<K> {
         want: &Want,
         may_open: bool,
         may_create: bool,
-        bytes: Option<Vec<u8>>,
+        bytes: Option<Bytes>,
     ) -> Result<Opened, OpenError>
         requires agrees { IsState (K.seen self.old.store) self.old.log }
         requires mount { IsMount place.now.names.mount }
@@ -173,7 +174,7 @@ impl<K: KvStore> State<K> {
         requires place { place.now ≡ place_at place.now.names.mount place.now.names.path want.now }
         requires free { IsFree self.old.log.events place.now.location }
         requires bytes { (m : Contents) → (K.seen self.old.store).contents ≡ Some m
-            → option_map (λ b. b.items) bytes ≡ finmap.get m place.now.key }
+            → bytes ≡ finmap.get m place.now.key }
         ensures answer { (opening : Opening) → Agrees opening (K.seen self.old.store) self.old.log
             → IsOpening opening.store.contents self.old.log.events owner
             (leaf_at place.now.names.mount place.now.names.path want.now may_open may_create)

@@ -9,7 +9,6 @@ mod changing;
 mod decoding;
 mod fetching;
 mod generation;
-mod getting;
 mod keeping;
 mod leaf;
 mod looking;

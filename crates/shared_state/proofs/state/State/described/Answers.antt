@@ -17,7 +17,7 @@ returns-clause-looked g c =
         unkept = ap (λ key. kept key c.args.self.now.log.cache.entries) named.named ∙ unkept.1;
         form_is = c.in_ok-form.ensures k named.known;
         generation_is = c.generation_at-generation.ensures k named.known ∙ ap (generation_in c.args.self.now.log k) (sym named.named);
-        held = λ m told. c.listed.ensures ∙ c.requires.bytes m told ∙ ap (finmap.get m) (sym named.named);
+        held = λ m told. c.requires.bytes m told ∙ ap (finmap.get m) (sym named.named);
       },
       c.requires.bounds,
     )

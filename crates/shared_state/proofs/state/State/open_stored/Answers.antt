@@ -1,5 +1,4 @@
 use Rattle.std.proofs.Common.{◌≡◌, length, Some, Ok, sym, ap, subst, ◌∙◌}
-use Rattle.std.specs.Prelude.{option_map}
 use Rattle.std.specs.FinMap as finmap
 use Rattle.std.proofs.lemmas.Result.{on_ok_weaker, on_err_weaker}
 use Rattle.kv_face.specs.Store.{Contents}
@@ -22,7 +21,7 @@ returns-in-Ok-Found-clause-answer g c = λ opening agrees.
     let store = seen c.args.self.now.store in
     let place = c.args.place.now in
     let leaf = leaf_at place.names.mount place.names.path c.args.want.now c.args.may_open c.args.may_create in
-    let bytes = option_map (λ b. b.items) c.args.bytes in
+    let bytes = c.args.bytes in
     let free = subst (IsFree log.events) (ap (λ (p : Place). p.location) c.requires.place) c.requires.free in
     let held = subst (λ key. (m : Contents) → store.contents ≡ Some m → bytes ≡ finmap.get m key) (ap (λ (p : Place). p.key) c.requires.place) c.requires.bytes in
     let is = c.in-Ok-Found.is ∙ ap Ok c.in-Ok-Found.field-0-is in
@@ -40,7 +39,7 @@ returns-in-Ok-Made-clause-answer g c = λ opening agrees.
     let store = seen c.args.self.now.store in
     let place = c.args.place.now in
     let leaf = leaf_at place.names.mount place.names.path c.args.want.now c.args.may_open c.args.may_create in
-    let bytes = option_map (λ b. b.items) c.args.bytes in
+    let bytes = c.args.bytes in
     let free = subst (IsFree log.events) (ap (λ (p : Place). p.location) c.requires.place) c.requires.free in
     let held = subst (λ key. (m : Contents) → store.contents ≡ Some m → bytes ≡ finmap.get m key) (ap (λ (p : Place). p.key) c.requires.place) c.requires.bytes in
     let is = c.in-Ok-Made.is ∙ ap Ok c.in-Ok-Made.field-0-is in
@@ -57,7 +56,7 @@ returns-in-Err-clause-answer g c = λ opening agrees.
     let store = seen c.args.self.now.store in
     let place = c.args.place.now in
     let leaf = leaf_at place.names.mount place.names.path c.args.want.now c.args.may_open c.args.may_create in
-    let bytes = option_map (λ b. b.items) c.args.bytes in
+    let bytes = c.args.bytes in
     let free = subst (IsFree log.events) (ap (λ (p : Place). p.location) c.requires.place) c.requires.free in
     let held = subst (λ key. (m : Contents) → store.contents ≡ Some m → bytes ≡ finmap.get m key) (ap (λ (p : Place). p.key) c.requires.place) c.requires.bytes in
     let key = c.items.ensures ∙ ap (λ (p : Place). p.key) c.requires.place in
