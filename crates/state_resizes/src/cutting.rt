@@ -17,6 +17,7 @@ ghost use Rattle.chunk_plans.specs.declared.Look.TheVariants as look_of;
 ghost use Rattle.state_resizes.specs.Cuts.{IsBegun, IsCutLook, IsLeftBy, MayCut};
 ghost use Rattle.state_resizes.specs.Refusals.{IsUnfilled, IsUnlaid};
 
+use bytes::Bytes;
 use cells::{Dense, List, Name};
 use chunk_forms::{Form, FormError, encode_form};
 use chunk_plans::{FetchError, Look, NewShape, State, cut, decode, is_gone};
@@ -65,7 +66,7 @@ fn relaid(
 }
 
 // Whether the store doesn't have a chunk.
-fn is_absent(bytes: &Option<List<u8>>) -> bool
+fn is_absent(bytes: &Option<Bytes>) -> bool
     ensures { IsTrue result ↔ (bytes.now ≡ None) }
 {
     bytes.is_none()
@@ -82,7 +83,7 @@ fn left_of_bytes(
     chunk: &[u64],
     key: Name,
     form: &Form,
-    bytes: &Option<List<u8>>,
+    bytes: &Option<Bytes>,
 ) -> Result<Option<List<u8>>, FetchError>
     requires { (store : StoreSeen) × (log : Log) × (generation : ℕ) × (bounds : BoundsOf)
         × IsCutLook store log new.now chunk.now key (look_of.Bytes generation form.now bytes.now bounds) }
