@@ -20,7 +20,7 @@ ghost use Rattle.chunk_fetches.specs.declared.error.ReadError.TheVariants as rea
 use crate::error::ReadError;
 use crate::gate::Gate;
 use crate::looked::{Fresh, Looked};
-use cells::List;
+use bytes::Bytes;
 use chunk_cache::{Snapshot, as_snapshot};
 use chunk_forms::{Form, FormError};
 use shared_state::{Look, decode};
@@ -71,7 +71,7 @@ fn snapshot_of(
     alloc: Global,
     generation: u64,
     form: &Form,
-    bytes: &Option<List<u8>>,
+    bytes: &Option<Bytes>,
 ) -> Result<Snapshot, FormError>
     requires stored { meta.is_local form.now ≡ false }
     requires fill { IsWord (meta.dtype_of form.now) (meta.fill_of form.now) }
