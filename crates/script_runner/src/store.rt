@@ -1,4 +1,5 @@
 // A store of a program.
+use bytes::Bytes;
 use kv_face::{Change, Failed, KvError, KvStore, MemoryKv};
 use kv_mounts::FileKv;
 use std::fs::Files;
@@ -19,6 +20,13 @@ impl<R: Files + AllocGlobal + Drop> KvStore for Store<R> {
         match self {
             Store::Memory(store) => store.get(key),
             Store::Files(store) => store.get(key),
+        }
+    }
+
+    fn get_shared(&mut self, key: &str) -> Result<Option<Bytes>, KvError> {
+        match self {
+            Store::Memory(store) => store.get_shared(key),
+            Store::Files(store) => store.get_shared(key),
         }
     }
 
