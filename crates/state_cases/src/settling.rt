@@ -1,5 +1,5 @@
 // A look, and what its bytes spell put back.
-ghost use Rattle.std.specs.Prelude.{◌≡◌, ℕ, List, Some, IfOk, option_map, false};
+ghost use Rattle.std.specs.Prelude.{◌≡◌, ℕ, List, Some, IfOk, false};
 ghost use Rattle.cells.specs.Elements.{word_at};
 ghost use Rattle.cells.specs.Numbers.{IsWord};
 ghost use Rattle.cells.specs.Places.{IsInside};
@@ -9,8 +9,9 @@ ghost use Rattle.state_laws.specs.Fetches.{IsChunkOf};
 ghost use Rattle.state_cases.specs.Ready.{IsReady};
 ghost use Rattle.state_cases.specs.Usable.{IsReadyWith, IsReadyFor, IsReadyBy};
 
+use bytes::Bytes;
 use case_lines::{Fault, told_line};
-use cells::{Dense, List};
+use cells::Dense;
 use chunk_cache::Snapshot;
 use chunk_forms::{Form, FormError, decode_form};
 use kv_face::KvStore;
@@ -64,7 +65,7 @@ fn settle_bytes<K: KvStore>(
     chunk: &[u64],
     generation: u64,
     form: &Form,
-    bytes: &Option<List<u8>>,
+    bytes: &Option<Bytes>,
     state: &mut State<K>,
 ) -> Result<String, Fault>
     requires ready { IsReadyFor (K.seen state.old.store) state.old.log
@@ -79,7 +80,7 @@ fn settle_bytes<K: KvStore>(
 }
 
 // What the bytes of a chunk spell.
-fn decoded(alloc: Global, form: &Form, bytes: &Option<List<u8>>) -> Result<Dense, FormError>
+fn decoded(alloc: Global, form: &Form, bytes: &Option<Bytes>) -> Result<Dense, FormError>
     requires stored { meta.is_local form.now ≡ false }
     requires fill { IsWord (meta.dtype_of form.now) (meta.fill_of form.now) }
     ensures dtype { IfOk result (λ d. d.dtype ≡ meta.dtype_of form.now) }
@@ -96,7 +97,7 @@ fn decoded(alloc: Global, form: &Form, bytes: &Option<List<u8>>) -> Result<Dense
             dtype,
             form.chunk_shape(),
             fill,
-            Some(bytes.items()),
+            Some(bytes.as_slice()),
         ),
         None => decode_form(alloc, form, dtype, form.chunk_shape(), fill, None),
     }
