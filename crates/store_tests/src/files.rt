@@ -1,5 +1,5 @@
 // A store of files, in a folder of its own.
-use crate::stores::change;
+use crate::stores::{change, shares};
 use kv_face::{KvError, KvStore};
 use kv_mounts::FileKv;
 use std::os::unix::fs::{PermissionsExt, symlink};
@@ -53,6 +53,8 @@ fn keys_are_files_below_a_folder(rt: HostRuntime) -> Result<(), Fail> {
     assert!(rt; put(rt, &mut store, "a/.zarray", Some(b""))? == Ok(()));
     assert!(rt; has(&mut store, "a/b/0", Some(b"newer")));
     assert!(rt; has(&mut store, "a/.zarray", Some(b"")));
+    assert!(rt; shares(&mut store, "a/b/0", Some(b"newer")));
+    assert!(rt; shares(&mut store, "a/b/2", None));
     assert!(rt; file_has(rt, "store_tests_keys/a/b/0", b"newer"));
     assert!(rt; fs::metadata(&rt, "store_tests_keys/a/b/0~new").is_err());
     fs::write(&rt, "store_tests_keys/a/b/1", "other")?;

@@ -4,7 +4,7 @@ ghost use Rattle.kv_face.specs.Store.{takes};
 ghost use Rattle.kv_mounts.specs.Parts.{names_of};
 ghost use Rattle.store_tests.specs.Three.{three_names};
 
-use crate::stores::change;
+use crate::stores::{change, shares};
 use cells::Name;
 use kv_face::{KvStore, MemoryKv};
 use kv_mounts::{FinishList, Mount, Mounts};
@@ -64,6 +64,14 @@ fn reads<K: KvStore>(store: &mut K, place: u8) -> bool
     store.get(key_of(place)).is_ok()
 }
 
+// Whether the key at a place has the byte that was put there, where it may be shared.
+fn shares_at<K: KvStore>(store: &mut K, place: u8) -> bool
+    requires { (K.seen store.old).names ≡ Some three_names }
+    ensures { (K.seen store.new).names ≡ Some three_names }
+{
+    shares(store, key_of(place), Some(b"1"))
+}
+
 // Whether the key at a place can be changed.
 fn changes<K: KvStore>(alloc: Global, store: &mut K, place: u8) -> Result<bool, Fail>
     requires { (K.seen store.old).names ≡ Some three_names }
@@ -106,6 +114,7 @@ fn fail_once(rt: &(impl Abort + AllocGlobal), fails: u8) -> Result<(), Fail> {
     change_all(rt, &mut mounts, fails)?;
     change_all(rt, &mut mounts, 0)?;
     read_all(rt, &mut mounts, 0);
+    assert!(rt; shares_at(&mut mounts, 2));
     assert!(rt; mounts.finish().is_err() == (fails != 0));
     assert!(rt; mounts.finish().is_ok());
     Ok(())

@@ -1,5 +1,6 @@
 // A store in memory whose calls fail where a test names them.
-ghost use Rattle.std.specs.Prelude.{◌≡◌, IfOk};
+ghost use Rattle.std.specs.Prelude.{◌≡◌, IfOk, true};
+ghost use Rattle.kv_face.specs.Store.{takes};
 
 use cells::{List, Name};
 use kv_face::{Change, KvError, KvStore, MemoryKv};
@@ -68,6 +69,34 @@ fn has(store: &mut MemoryKv, key: &str) -> Result<bool, KvError> {
     }
 }
 
+// Whether a store gives these bytes under a key, or none, where they may be shared.
+pub(crate) fn shares<K: KvStore>(store: &mut K, key: &str, bytes: Option<&[u8]>) -> bool
+    requires { takes ((K.seen store.old).names) key.now ≡ true }
+    ensures { (K.seen store.new).names ≡ (K.seen store.old).names }
+{
+    match store.get_shared(key) {
+        Ok(Some(found)) => bytes == Some(found.as_slice()),
+        Ok(None) => bytes.is_none(),
+        Err(_) => false,
+    }
+}
+
+#[test]
+fn bytes_are_shared_as_they_are_got(rt: HostRuntime) -> Result<(), Fail> {
+    let mut store = MemoryKv::new(rt.alloc(), true);
+    two_keys(&rt, &mut store)?;
+    let given = store.get_shared("a/1");
+    three_keys(&rt, &mut store)?;
+    assert!(rt;
+        given.is_ok_and(|bytes| bytes.is_some_and(|bytes| bytes.as_slice() == b"two".as_slice()))
+    );
+    assert!(rt; shares(&mut store, "a/0", None));
+    assert!(rt; shares(&mut store, "a/1", Some(b"")));
+    assert!(rt; shares(&mut store, "b", Some(b"three")));
+    assert!(rt; store.gets() == 4);
+    Ok(())
+}
+
 // Puts a byte under a key.
 fn put(alloc: Global, store: &mut MemoryKv, key: &str) -> Result<Result<(), KvError>, Fail> {
     let mut changes = Vec::new(alloc);
@@ -87,6 +116,9 @@ fn named_calls_fail_once(rt: HostRuntime) -> Result<(), Fail> {
     assert!(rt; has(&mut store, "a") == Err(KvError::Failed));
     assert!(rt; put(alloc, &mut store, "a")? == Ok(()));
     assert!(rt; has(&mut store, "a") == Ok(true));
+    store.fail_get(4)?;
+    assert!(rt; !shares(&mut store, "a", Some(b"1")));
+    assert!(rt; shares(&mut store, "a", Some(b"1")));
     assert!(rt; store.finish().is_err());
     assert!(rt; store.finish().is_ok());
     Ok(())
