@@ -21,8 +21,7 @@ use std::alloc::Global;
 
 /// Gives a stored array a new shape, in cells, and the number of its event. The store has its metadata in the written form, chunks
 /// without a remaining cell are gone, and those that are cut in part are laid anew, with the fill past the shape. One that the store
-/// doesn't have stays absent, and nothing is laid. All of it is one change of the store. Growing touches no chunk, and no chunk is looked
-/// at that isn't cut in part.
+/// doesn't have stays absent, and nothing is laid. All of it is one change of the store. Growing touches no chunk.
 ///
 /// # Errors
 /// The first that holds, as `ResizeError` lists them: `TooManyChunks` and `NotAtomic` exactly where that is so, `Damaged` and
