@@ -1,6 +1,18 @@
-use Rattle.std.proofs.Common.{◌∙◌, [], sym, refl, append-nil}
+use Rattle.std.proofs.Common.{◌≡◌, ◌∙◌, [], sym, refl, append-nil}
+use Rattle.std.proofs.lemmas.List.Elements.{All-nil}
+use Rattle.history.specs.declared.event.Event.{Event}
+use Rattle.turn_book.specs.History.{Continues}
+use Rattle.chunk_fetches.specs.Turns.{owner_of}
 use Rattle.chunk_fetches.proofs.TurnLaws.{past_of, has_turned}
 use Rattle.chunk_fetches.proofs.turns.settle_in_turn.Goals as goal
+
+pub give-requires-clause-added : goal.give-requires-clause-added
+give-requires-clause-added c d =
+    let h = d.state.result.now.log.events in
+    let later = d.settle_all-settled.new.state.log.events in
+    let number = d.args.pass.now.number in
+    let continues : Continues owner_of number h later = ([], d.settle_all-settled.ensures.events ∙ sym (append-nil h), All-nil (λ (e : Event). owner_of e ≡ number)) in
+    rw d.take-held.ensures.pass (rw (sym d.state.ensures.value) continues)
 
 pub returns : goal.returns
 returns c d =
