@@ -18,6 +18,7 @@ mod spots;
 mod unchecked;
 
 pub use cutting::{Cutting, cut};
+pub use line_forms::{Command, LineError, OpenPlan, SpecLeaf, Tree, read_command};
 pub use numbering::number_events;
 pub use numbers::EventNumbers;
 pub use said::{AskedLine, Said, Span};

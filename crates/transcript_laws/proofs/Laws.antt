@@ -12,3 +12,8 @@ pub use Rattle.transcript_laws.proofs.OneHistory.{history_is_one}
 pub use Rattle.transcript_laws.proofs.Plain.{part_5_follows}
 -- one line at most is that because of which a transcript isn't checked, and one verdict at most is right
 pub use Rattle.transcript_laws.proofs.OneLine.{line_is_one, verdict_is_one}
+-- laws of crates below, given on to those above
+pub use Rattle.state_laws.proofs.Fresh.{location_new, opening_new}
+pub use Rattle.state_laws.proofs.Keyed.{places_apart}
+pub use Rattle.state_laws.proofs.Located.{free_of}
+pub use Rattle.state_laws.proofs.Outline.{array_at-outline, count-outline, known-outline, length-outline, outline-more, outline_opening}

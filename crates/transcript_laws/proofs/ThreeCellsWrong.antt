@@ -12,7 +12,7 @@ use Rattle.json_forms.specs.Members.{has_exactly, least_unknown}
 use Rattle.answer_text.specs.Text.{answer_text, store_text}
 use Rattle.answer_text.specs.Pieces.{indices_text}
 use Rattle.answer_text.specs.Nested.{word_text}
-use Rattle.line_answers.specs.Bodies.{answer_of}
+use Rattle.line_meanings.specs.Bodies.{answer_of}
 use Rattle.history.specs.Acts.{Act, opens, binds, reads, stages, writes, begins, commits, aborts, resizes, resolves}
 use Rattle.history.specs.Answers as body
 use Rattle.history.specs.Answers.{Body}

@@ -7,7 +7,7 @@ use Rattle.serde_json.specs.Find.{get}
 use Rattle.answer_text.specs.Text.{answer_text}
 use Rattle.answer_text.specs.declared.answer.Answer.{Answer}
 use Rattle.answer_data.specs.Answers.{answer_data}
-use Rattle.line_answers.specs.Bodies.{answer_of}
+use Rattle.line_meanings.specs.Bodies.{answer_of}
 use Rattle.stack_driver.specs.declared.view.View.{View}
 use Rattle.history.specs.declared.event.Mode.{Mode}
 use Rattle.history.specs.Acts.{Act, Asked, opens, binds, reads, stages, writes, begins, commits, aborts}

@@ -15,3 +15,8 @@ pub mod ThreeCellsNumberless
 pub mod ReadConflict
 pub mod ReadConflictTold
 pub mod Stances
+-- names of crates below, given on to those above
+pub use Rattle.line_meanings.specs.Meanings
+pub use Rattle.line_meanings.specs.Openings
+pub use Rattle.serial_runs.specs.Numbered
+pub use Rattle.state_laws.specs.Outline
