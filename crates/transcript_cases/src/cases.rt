@@ -36,5 +36,5 @@ fn of_transcript(alloc: Global, v: &Value) -> Result<String, Fault> {
 
 fn of_scripts(alloc: Global, v: &Value, scripts: &[List<u8>]) -> Result<String, Fault> {
     let transcript = bytes_of(alloc, items_at(v, "transcript")?, text_or_none(v, "rest")?)?;
-    judged(alloc, scripts, &transcript)
+    judged(alloc, scripts, &transcript, v.get("arrays").is_some())
 }

@@ -1,28 +1,34 @@
-// What is told of a transcript, as far as its lines and numbers go.
-ghost use Rattle.std.specs.Prelude.{◌<◌, ◌^◌, length};
+// What is told of a transcript, as far as its lines, its numbers and its arrays go.
+ghost use Rattle.std.specs.Prelude.{◌<◌, ◌^◌, ℕ, List, length};
 ghost use Rattle.std.specs.List.{AllByRecursion};
-ghost use Rattle.transcript_cut.specs.declared.said.Said.{Said as SaidOf};
+ghost use Rattle.stated_arrays.specs.Openings.{IsNumberedCut};
+ghost use Rattle.stated_arrays.specs.Cuttings.{IsWholeCut};
+ghost use Rattle.stated_arrays.specs.declared.Said.{Said as SaidOf};
 
 use crate::fault::Fault;
 use cells::List;
+use stated_arrays::{
+    AskedLine, Cutting, Openings, Said, cut, first_unchecked, number_events, state_openings,
+};
 use std::alloc::Global;
-use transcript_cut::{AskedLine, Cutting, Said, cut, first_unchecked, number_events};
 
 // The most scripts of a case.
 const MOST: usize = 1024;
 
-/// The line because of which the transcript isn't checked, the part that fails, or the answers by the numbers of events.
+/// The line because of which the transcript isn't checked, the part that fails, or the answers by the numbers of events; where arrays
+/// are asked for, those that are opened in place of the answers.
 pub(crate) fn judged(
     alloc: Global,
     scripts: &[List<u8>],
     transcript: &[u8],
+    arrays: bool,
 ) -> Result<String, Fault> {
     if scripts.len() > MOST {
         return Err(Fault::Line);
     }
     match first_unchecked(alloc, scripts)? {
         Some(line) => not_checked(alloc, line),
-        None => by_cutting(alloc, scripts, transcript),
+        None => by_cutting(alloc, scripts, transcript, arrays),
     }
 }
 
@@ -32,11 +38,16 @@ fn not_checked(alloc: Global, line: AskedLine) -> Result<String, Fault> {
     Ok(format!(in alloc; "not checked, session {session} line {number}")?)
 }
 
-fn by_cutting(alloc: Global, scripts: &[List<u8>], transcript: &[u8]) -> Result<String, Fault>
+fn by_cutting(
+    alloc: Global,
+    scripts: &[List<u8>],
+    transcript: &[u8],
+    arrays: bool,
+) -> Result<String, Fault>
     requires { length scripts.now < 2 ^ 32 }
 {
     match cut(alloc, scripts, transcript) {
-        Ok(Cutting::Whole { said }) => by_numbers(alloc, scripts.len(), said.items()),
+        Ok(Cutting::Whole { said }) => by_numbers(alloc, scripts, said.items(), arrays),
         Ok(Cutting::Broken) => part(alloc, 1),
         Ok(Cutting::CutOff { line }) => not_checked(alloc, line),
         Err(e) => Err(Fault::from(e)),
@@ -47,15 +58,68 @@ fn part(alloc: Global, number: u32) -> Result<String, Fault> {
     Ok(format!(in alloc; "part {number} fails")?)
 }
 
-fn by_numbers(alloc: Global, sessions: usize, said: &[Said]) -> Result<String, Fault>
-    requires { AllByRecursion (λ (s : SaidOf). s.line.session < sessions) said.now }
+fn by_numbers(
+    alloc: Global,
+    scripts: &[List<u8>],
+    said: &[Said],
+    arrays: bool,
+) -> Result<String, Fault>
+    requires sessions { AllByRecursion (λ (s : SaidOf). s.line.session < length scripts.now) said.now }
+    requires cut { (transcript : List ℕ) × IsWholeCut scripts.now transcript said.now }
 {
-    match number_events(alloc, sessions, said)? {
-        Some(spots) => numbered(alloc, said.len(), spots.items()),
-        None => part(alloc, 2),
+    match number_events(alloc, scripts.len(), said) {
+        Ok(Some(spots)) => by_spots(alloc, scripts, said, spots.items(), arrays),
+        Ok(None) => part(alloc, 2),
+        Err(e) => Err(Fault::from(e)),
+    }
+}
+
+fn by_spots(
+    alloc: Global,
+    scripts: &[List<u8>],
+    said: &[Said],
+    spots: &[u64],
+    arrays: bool,
+) -> Result<String, Fault>
+    requires { IsNumberedCut scripts.now said.now spots.now }
+{
+    if arrays {
+        by_arrays(alloc, scripts, said, spots)
+    } else {
+        numbered(alloc, said.len(), spots)
     }
 }
 
 fn numbered(alloc: Global, answers: usize, spots: &[u64]) -> Result<String, Fault> {
     Ok(format!(in alloc; "{answers} answers, events by {spots:?}")?)
+}
+
+fn by_arrays(
+    alloc: Global,
+    scripts: &[List<u8>],
+    said: &[Said],
+    spots: &[u64],
+) -> Result<String, Fault>
+    requires { IsNumberedCut scripts.now said.now spots.now }
+{
+    match state_openings(alloc, scripts, said, spots)? {
+        Some(openings) => opened(alloc, &openings),
+        None => part(alloc, 3),
+    }
+}
+
+fn opened(alloc: Global, openings: &Openings) -> Result<String, Fault> {
+    let events = openings.opened.items();
+    let taken = leaves(alloc, openings.takings.items())?;
+    Ok(format!(in alloc; "arrays opened by {events:?}, leaves take{taken}")?)
+}
+
+// What the leaves of each line take, where it opens any.
+fn leaves(alloc: Global, takings: &[List<Option<u64>>]) -> Result<String, Fault> {
+    let mut text = String::new(alloc);
+    for numbers in takings {
+        let line = numbers.items();
+        text.push_str(format!(in alloc; " {line:?}")?.as_str())?;
+    }
+    Ok(text)
 }

@@ -1,0 +1,17 @@
+//! Arrays that a transcript states: which events are openings, and by which leaf of which open line.
+//!
+//! `state_openings` gives the outline of the history that a cut and numbered transcript states: an opening at each number of a new array,
+//! and at all others an event that counts as nothing; or it tells that no history is stated. Others rest on two definitions: what is
+//! given is the stated outline (`IsStatedOutline`), and each history that is claimed has it.
+#![tactic(auto)]
+
+mod acts;
+mod arrays;
+mod asked;
+mod lines;
+mod openings;
+mod serving;
+mod stating;
+
+pub use openings::{Openings, state_openings};
+pub use transcript_cut::{AskedLine, Cutting, Said, cut, first_unchecked, number_events};
