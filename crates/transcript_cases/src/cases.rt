@@ -1,6 +1,7 @@
-use crate::args::{items_at, text_or_none};
+use crate::args::{items, items_at, text_or_none};
 use crate::fault::Fault;
 use crate::judging::judged;
+use crate::stores::of_store;
 use crate::texts::{bytes_of, scripts_of};
 use crate::versions::of_chunk;
 use cells::List;
@@ -25,6 +26,13 @@ fn told(alloc: Global, line: &str) -> Result<String, Fault> {
 fn of_value(alloc: Global, v: &Value) -> Result<String, Fault> {
     match v.get("chunk") {
         Some(chunk) => of_chunk(alloc, chunk),
+        None => of_steps(alloc, v),
+    }
+}
+
+fn of_steps(alloc: Global, v: &Value) -> Result<String, Fault> {
+    match v.get("store") {
+        Some(steps) => of_store(alloc, items(steps)?),
         None => of_transcript(alloc, v),
     }
 }

@@ -1,5 +1,5 @@
-//! `transcript_cases`: each line of stdin has scripts and a transcript, or a chunk with words that events put there; each line of stdout what the
-//! steps of a check tell of them.
+//! `transcript_cases`: each line of stdin has scripts and a transcript, a chunk with words that events put there, or steps over all chunks of a
+//! run; each line of stdout what the steps of a check tell of them.
 //!
 //! The lines stand in the file `stdin` and what they must give in `stdout`, worked out by hand.
 #![tactic(auto)]
@@ -8,6 +8,7 @@ mod args;
 mod cases;
 mod fault;
 mod judging;
+mod stores;
 mod texts;
 mod versions;
 

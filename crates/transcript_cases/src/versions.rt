@@ -6,9 +6,9 @@ use crate::args::{items, items_at};
 use crate::fault::Fault;
 use cast_driver::{Cast, Chain};
 use cells::Dtype;
-use chunk_versions::{AskedCell, ChunkVersions};
 use serde_json::Value;
 use std::alloc::Global;
+use version_store::{AskedCell, ChunkVersions};
 
 /// The most places of a case's chunk.
 const MOST: u64 = 64;
@@ -80,7 +80,7 @@ fn marked(
 }
 
 // Chains of casts, one for each list of dtypes.
-fn chains_of(alloc: Global, lists: &[Value]) -> Result<Vec<Chain>, Fault> {
+pub(crate) fn chains_of(alloc: Global, lists: &[Value]) -> Result<Vec<Chain>, Fault> {
     let mut chains = Vec::with_capacity(alloc, lists.len())?;
     for list in lists {
         chains.push(chain_of(alloc, items(list)?)?)?;
@@ -101,7 +101,11 @@ fn chain_of(alloc: Global, names: &[Value]) -> Result<Chain, Fault> {
     Ok(chain)
 }
 
-fn asked_of(alloc: Global, casts: &[Chain], cells: &[Value]) -> Result<Vec<AskedCell>, Fault>
+pub(crate) fn asked_of(
+    alloc: Global,
+    casts: &[Chain],
+    cells: &[Value],
+) -> Result<Vec<AskedCell>, Fault>
     ensures { IfOk result (λ asked. All (HasCasts casts.now) asked.items) }
 {
     let mut asked = Vec::with_capacity(alloc, cells.len())?;
@@ -142,11 +146,11 @@ fn touches_of(alloc: Global, chunk: &ChunkVersions) -> Result<Vec<u64>, Fault> {
     Ok(numbers)
 }
 
-fn number_at(v: &Value, name: &str) -> Result<u64, Fault> {
+pub(crate) fn number_at(v: &Value, name: &str) -> Result<u64, Fault> {
     v.get(name).ok_or(Fault::Line)?.as_u64().ok_or(Fault::Line)
 }
 
-fn number_in(items: &[Value], at: usize) -> Result<u64, Fault> {
+pub(crate) fn number_in(items: &[Value], at: usize) -> Result<u64, Fault> {
     items
         .get(at)
         .ok_or(Fault::Line)?
