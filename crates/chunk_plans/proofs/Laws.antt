@@ -20,6 +20,8 @@ pub use Rattle.chunk_plans.proofs.ReadyLaws.{ready_right}
 pub use Rattle.chunk_plans.proofs.UnderLaws.{may_ready}
 -- what stands in the order of distinct keys rises
 pub use Rattle.chunk_plans.proofs.SortLaws.{rising_sorted}
+-- an error that is handed on is the one that was met
+pub use Rattle.chunk_plans.proofs.Same.{err_told}
 -- laws of crates below, given on to those above
 pub use Rattle.chunk_laying.proofs.Laws.{IsStagedBy, snapshot_of_cut}
-pub use Rattle.shared_state.proofs.Laws.{array_at-outline, decoded_damaged, form_fill, form_stored, frame_same, frame_then, good_in, known-outline, look_answered, read_then, taken_shape, takes_chunk, together-keys}
+pub use Rattle.shared_state.proofs.Laws.{array_at-outline, decoded_damaged, form_fill, form_stored, frame_same, frame_then, good_in, known-outline, look_answered, not_risen, read_then, taken_shape, takes_chunk, together-keys}

@@ -1,7 +1,7 @@
 -- What a look at a chunk leaves of the log.
-use Rattle.std.proofs.Common.{◌≡◌, ℕ, List, Bool, true, false, cond, Option, Some, None, refl, sym, subst}
+use Rattle.std.proofs.Common.{◌≡◌, ℕ, List, Bool, true, false, cond, Option, Some, None, refl, sym, ap, subst, ◌∙◌}
 use Rattle.std.specs.Prelude.{◌==◌, IsSome, Result, Ok, Err, IfOk, IfSome}
-use Rattle.std.specs.Result.{IsErrAnd}
+use Rattle.std.specs.Result.{IsErr, IsErrAnd}
 use Rattle.chunk_cache.specs.Cache.{after_hit, after_keep}
 use Rattle.chunk_cache.specs.Snapshot.{SnapshotCells}
 use Rattle.history.specs.Arrays.{Known, is_local}
@@ -54,3 +54,11 @@ answered_some {store} {log} w index o snapshot same is answered =
 pub err_and : {A E : Type 0} (P : E → Type 0) (r : Result A E) (x : E) → r ≡ Err x → IsErrAnd r P → P x
 err_and P (Ok a) x is holds = absurd (cc)
 err_and {A} {E} P (Err y) x is holds = subst (λ (r : Result A E). IsErrAnd r P) is holds
+
+-- an error that is handed on is the one that was met
+pub err_told : {A B E : Type 0} (r : Result A E) (met : Result B E) (x y : E) → IsErr r → IsErrAnd r (λ e. e ≡ x) → met ≡ Err x → met ≡ Err y → r ≡ Err y
+err_told (Ok a) met x y is same was told = absurd same
+err_told {A} {B} {E} (Err e) met x y is same was told =
+    let both = sym was ∙ told in
+    let one : x ≡ y = cc in
+    ap (λ e. Err e) (same ∙ one)

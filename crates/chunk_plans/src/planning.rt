@@ -1,5 +1,5 @@
 // The plan of one chunk.
-ghost use Rattle.std.specs.Prelude.{◌≡◌, ◌≢◌, ℕ, List, Option, Some, None, Ok, Err, IfOk, OnOk, OnErr, IsSome, IsTrue, true, false, option_map};
+ghost use Rattle.std.specs.Prelude.{◌≡◌, ◌≢◌, ◌<◌, ℕ, List, Option, Some, None, Ok, Err, IfOk, OnOk, OnErr, IsSome, IsTrue, true, false, option_map};
 ghost use Rattle.chunk_forms.specs.Metadata.{chunk_shape_of, dtype_of, with_shape};
 ghost use Rattle.chunk_forms.specs.Wants.{same_dtype};
 ghost use Rattle.chunk_forms.specs.declared.form.Damage.{Damage as DamageOf};
@@ -58,6 +58,8 @@ pub fn plan_write<'a, K: KvStore>(
     ensures failed { (event : ℕ) → result ≡ Err (FetchError.StoreFailed event)
         → IsFailedLook owner (chunk_of_write write.entry) (K.seen state.old.store)
         (K.seen state.new.store) state.old.log state.new.log event }
+    ensures told { (K.seen state.old.store).faults < (K.seen state.new.store).faults
+        → (event : ℕ) × (result ≡ Err (FetchError.StoreFailed event)) }
     ensures damaged { (name : List ℕ) (cause : DamageOf) → result ≡ Err (FetchError.Damaged name cause)
         → (state.new.log ≡ state.old.log) × IsDamagedThere (K.seen state.old.store) state.old.log
         (chunk_of_write write.entry) name cause }
@@ -139,6 +141,8 @@ fn plan_stored<'a, K: KvStore>(
     ensures failed { (event : ℕ) → result ≡ Err (FetchError.StoreFailed event)
         → IsFailedLook owner (chunk_of_write write.entry) (K.seen state.old.store)
         (K.seen state.new.store) state.old.log state.new.log event }
+    ensures told { (K.seen state.old.store).faults < (K.seen state.new.store).faults
+        → (event : ℕ) × (result ≡ Err (FetchError.StoreFailed event)) }
     ensures damaged { (name : List ℕ) (cause : DamageOf) → result ≡ Err (FetchError.Damaged name cause)
         → (state.new.log ≡ state.old.log) × IsDamagedThere (K.seen state.old.store) state.old.log
         (chunk_of_write write.entry) name cause }
@@ -289,6 +293,8 @@ fn left_now<K: KvStore>(
     ensures failed { (event : ℕ) → result ≡ Err (FetchError.StoreFailed event)
         → IsFailedLook owner (chunk_of_write write.now) (K.seen state.old.store)
         (K.seen state.new.store) state.old.log state.new.log event }
+    ensures told { (K.seen state.old.store).faults < (K.seen state.new.store).faults
+        → (event : ℕ) × (result ≡ Err (FetchError.StoreFailed event)) }
     ensures damaged { (name : List ℕ) (cause : DamageOf) → result ≡ Err (FetchError.Damaged name cause)
         → (state.new.log ≡ state.old.log) × IsDamagedThere (K.seen state.old.store) state.old.log
         (chunk_of_write write.now) name cause }
@@ -326,6 +332,8 @@ fn read_over<K: KvStore>(
     ensures failed { (event : ℕ) → result ≡ Err (FetchError.StoreFailed event)
         → IsFailedLook owner (chunk_of_write write.now) (K.seen state.old.store)
         (K.seen state.new.store) state.old.log state.new.log event }
+    ensures told { (K.seen state.old.store).faults < (K.seen state.new.store).faults
+        → (event : ℕ) × (result ≡ Err (FetchError.StoreFailed event)) }
     ensures damaged { (name : List ℕ) (cause : DamageOf) → result ≡ Err (FetchError.Damaged name cause)
         → (state.new.log ≡ state.old.log) × IsDamagedThere (K.seen state.old.store) state.old.log
         (chunk_of_write write.now) name cause }

@@ -20,7 +20,7 @@ use Rattle.commits.specs.declared.refused.CommitRefused.TheVariants as refused
 use Rattle.commits.specs.Keyed.{IsMadeEach, IsPartAdded, plan_arrays}
 use Rattle.commits.specs.Made.{IsMade}
 use Rattle.commits.specs.Planning.{ArePlannedBy, HasFailedFor, IsAmongOn, IsFirstDamaged, write_arrays}
-use Rattle.commits.specs.Refused.{unmade, unplanned}
+use Rattle.commits.specs.Refused.{HasStoreFailed, unmade, unplanned}
 use Rattle.commits.proofs.Plans.{planned_arrays}
 
 nothing_more : (events : History) → events ≡ events ++ []
@@ -118,3 +118,16 @@ wanting_made owner store next log later step ws all some same = record {
 pub wanting_by : (owner : ℕ) (store next : StoreSeen) (log later : Log) (step : ℕ) (ws : List ChunkWrite) (all : List Event) (result : Result (List ℕ) CommitRefused) → 0 < length all → later.events ≡ log.events → IsErr result × IsErrAnd result (λ e. e ≡ refused.Memory) → IsMade owner store next log later step ws all result
 wanting_by owner store next log later step ws all (Ok numbers) some same is = absurd is.1
 wanting_by owner store next log later step ws all (Err error) some same is = subst (λ e. IsMade owner store next log later step ws all (Err e)) (sym is.1) (wanting_made owner store next log later step ws all some same)
+
+-- a failed call as a refusal
+pub failed_unmade : {A : Type 0} (made : Result A ChangeError) (done : List ℕ) (error : ChangeError) (refusal : CommitRefused) → made ≡ Err error → refusal ≡ unmade done error → (event : ℕ) × (made ≡ Err (change.StoreFailed event)) → HasStoreFailed (Err refusal)
+failed_unmade {A} made done error refusal is told why =
+    let both = sym is ∙ why.1 in
+    let one : error ≡ change.StoreFailed why.0 = cc in
+    (why.0, done, ap (λ e. Err e) (told ∙ ap (unmade done) one))
+
+pub failed_unplanned : {A : Type 0} (made : Result A FetchError) (error : FetchError) (refusal : CommitRefused) → made ≡ Err error → refusal ≡ unplanned error → (event : ℕ) × (made ≡ Err (fetch.StoreFailed event)) → HasStoreFailed (Err refusal)
+failed_unplanned {A} made error refusal is told why =
+    let both = sym is ∙ why.1 in
+    let one : error ≡ fetch.StoreFailed why.0 = cc in
+    (why.0, [], ap (λ e. Err e) (told ∙ ap unplanned one))

@@ -1,5 +1,5 @@
 -- Errors of the calls below as refusals of a commit.
-use Rattle.std.specs.Prelude.{ℕ, List, []}
+use Rattle.std.specs.Prelude.{◌≡◌, ℕ, List, [], Result, Err}
 use Rattle.chunk_plans.specs.declared.ChangeError.{ChangeError}
 use Rattle.chunk_plans.specs.declared.ChangeError.TheVariants as change
 use Rattle.chunk_plans.specs.declared.FetchError.{FetchError}
@@ -17,3 +17,7 @@ unplanned fetch.Memory = refused.Memory
 abbrev pub unmade : List ℕ → ChangeError → CommitRefused
 unmade done (change.StoreFailed event) = refused.StoreFailed event done
 unmade done change.Memory = refused.Memory
+
+-- the store failed, which one event tells
+abbrev pub HasStoreFailed : Result (List ℕ) CommitRefused → Type 0
+HasStoreFailed result = (event : ℕ) × (done : List ℕ) × (result ≡ Err (refused.StoreFailed event done))

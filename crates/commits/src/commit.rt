@@ -10,6 +10,7 @@ ghost use Rattle.commits.specs.Answers.{IsCommitRow, IsCommitted, IsStateByTrans
 ghost use Rattle.commits.specs.Keyed.{each_event};
 ghost use Rattle.commits.specs.Made.{IsMade, whole_event};
 ghost use Rattle.commits.specs.Prepared.{AreWrites, write_keys};
+ghost use Rattle.commits.specs.Refused.{HasStoreFailed};
 ghost use Rattle.commits.specs.Right.{IsStateByCommit, KeepsByCommit};
 ghost use Rattle.commits.specs.Writes.{stored_write_keys};
 
@@ -39,6 +40,7 @@ fn commit_whole<K: KvStore>(
     ensures made { IsMade owner (K.seen state.old.store)
         (K.seen state.new.store) state.old.log state.new.log 0 p.entry.writes.items
         (whole_event owner p.entry ∷ []) result }
+    ensures rose { (K.seen state.old.store).faults < (K.seen state.new.store).faults → HasStoreFailed result }
     ensures frame { IsFrame (K.seen state.old.store) (K.seen state.new.store) }
     ensures kept { KeepsByCommit (K.seen state.old.store) state.old.log p.entry.ops p.entry.writes.items
         (K.seen state.new.store) state.new.log }
@@ -73,6 +75,7 @@ fn commit_by_keys<K: KvStore>(
     ensures made { IsMade owner (K.seen state.old.store)
         (K.seen state.new.store) state.old.log state.new.log 1 p.entry.writes.items
         (each_event owner p.entry.line p.entry.mode p.entry.ops (write_keys p.entry.writes.items)) result }
+    ensures rose { (K.seen state.old.store).faults < (K.seen state.new.store).faults → HasStoreFailed result }
     ensures frame { IsFrame (K.seen state.old.store) (K.seen state.new.store) }
     ensures kept { KeepsByCommit (K.seen state.old.store) state.old.log p.entry.ops p.entry.writes.items
         (K.seen state.new.store) state.new.log }
@@ -120,6 +123,7 @@ pub fn commit_now<K: KvStore>(
         (record { start = start; prefixes = opening.store.prefixes }) owner state.old.log.events state.new.log.events t result }
     ensures told { IsTold owner (K.seen state.old.store)
         (K.seen state.new.store) state.old.log state.new.log p.entry result }
+    ensures rose { (K.seen state.old.store).faults < (K.seen state.new.store).faults → HasStoreFailed result }
     ensures frame { IsFrame (K.seen state.old.store) (K.seen state.new.store) }
     ensures kept { KeepsByTransaction (K.seen state.old.store) state.old.log p.entry
         (K.seen state.new.store) state.new.log }

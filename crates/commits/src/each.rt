@@ -10,6 +10,7 @@ ghost use Rattle.commits.specs.Keyed.{AreKeyPlans, IsKeyPlan, IsMadeEach, IsMoun
 ghost use Rattle.commits.specs.Made.{IsMade};
 ghost use Rattle.commits.specs.Planning.{HasFailedFor};
 ghost use Rattle.commits.specs.Prepared.{AreWrites, write_keys};
+ghost use Rattle.commits.specs.Refused.{HasStoreFailed};
 ghost use Rattle.commits.specs.Right.{IsStateByCommit, KeepsByCommit};
 
 use crate::making::commit_planned;
@@ -81,6 +82,8 @@ fn make_one<K: KvStore>(
     ensures failed { (event : ℕ) → result ≡ Err (ChangeError.StoreFailed event)
         → HasFailedFor owner (plan.entry.array ∷ []) (K.seen state.old.store)
         (K.seen state.new.store) state.old.log.events state.new.log.events event }
+    ensures told { (K.seen state.old.store).faults < (K.seen state.new.store).faults
+        → (event : ℕ) × (result ≡ Err (ChangeError.StoreFailed event)) }
     ensures memory { result ≡ Err ChangeError.Memory → state.new.log.events ≡ state.old.log.events }
     ensures frame { IsFrame (K.seen state.old.store) (K.seen state.new.store) }
     ensures kept { KeepsByKey (K.seen state.old.store) state.old.log owner line mode ops plan.entry
@@ -113,6 +116,7 @@ fn make_each<K: KvStore>(
     ensures made { IsMadeEach owner (plan_arrays plans.entry.items) (K.seen state.old.store)
         (K.seen state.new.store) state.old.log.events state.new.log.events
         (each_event owner by.line by.mode by.ops (keys_of plans.entry.items)) result }
+    ensures rose { (K.seen state.old.store).faults < (K.seen state.new.store).faults → HasStoreFailed result }
     ensures frame { IsFrame (K.seen state.old.store) (K.seen state.new.store) }
     ensures kept { KeepsByKeys (K.seen state.old.store) state.old.log owner by.line by.mode by.ops plans.entry.items
         (K.seen state.new.store) state.new.log }
@@ -153,6 +157,7 @@ pub(crate) fn commit_each<K: KvStore>(
     ensures made { IsMade owner (K.seen state.old.store)
         (K.seen state.new.store) state.old.log state.new.log 1 writes.entry.items
         (each_event owner by.line by.mode by.ops (write_keys writes.entry.items)) result }
+    ensures rose { (K.seen state.old.store).faults < (K.seen state.new.store).faults → HasStoreFailed result }
     ensures frame { IsFrame (K.seen state.old.store) (K.seen state.new.store) }
     ensures kept { KeepsByCommit (K.seen state.old.store) state.old.log by.ops writes.entry.items
         (K.seen state.new.store) state.new.log }

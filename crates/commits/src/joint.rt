@@ -1,5 +1,5 @@
 // A commit that is one change of the store.
-ghost use Rattle.std.specs.Prelude.{◌≡◌, ◌⊎◌, ◌∷◌, [], length, None, true};
+ghost use Rattle.std.specs.Prelude.{◌≡◌, ◌<◌, ◌⊎◌, ◌∷◌, [], length, None, true};
 ghost use Rattle.std.specs.List.{AllByRecursion};
 ghost use Rattle.history.specs.Commit.{are_together};
 ghost use Rattle.chunk_plans.specs.Recorded.{done_event};
@@ -11,6 +11,7 @@ ghost use Rattle.commits.specs.Keyed.{IsMadeEach, plan_arrays};
 ghost use Rattle.commits.specs.Made.{IsMade};
 ghost use Rattle.commits.specs.Planning.{IsAmongOn};
 ghost use Rattle.commits.specs.Prepared.{AreWrites};
+ghost use Rattle.commits.specs.Refused.{HasStoreFailed};
 ghost use Rattle.commits.specs.Right.{IsStateByCommit, KeepsByCommit};
 ghost use Rattle.commits.specs.Writes.{stored_write_keys};
 
@@ -39,6 +40,7 @@ fn make_joint<K: KvStore>(
         ⊎ (length (changes_of plans.items) ≡ 0) }
     ensures made { IsMadeEach owner (plan_arrays plans.entry.items) (K.seen state.old.store)
         (K.seen state.new.store) state.old.log.events state.new.log.events (done_event owner commit ∷ []) result }
+    ensures rose { (K.seen state.old.store).faults < (K.seen state.new.store).faults → HasStoreFailed result }
     ensures frame { IsFrame (K.seen state.old.store) (K.seen state.new.store) }
     ensures kept { KeepsByPlans (K.seen state.old.store) state.old.log owner commit plans.entry.items
         (K.seen state.new.store) state.new.log }
@@ -70,6 +72,7 @@ pub(crate) fn commit_joint<K: KvStore>(
     ensures made { IsMade owner (K.seen state.old.store)
         (K.seen state.new.store) state.old.log state.new.log 0 writes.entry.items
         (done_event owner commit ∷ []) result }
+    ensures rose { (K.seen state.old.store).faults < (K.seen state.new.store).faults → HasStoreFailed result }
     ensures frame { IsFrame (K.seen state.old.store) (K.seen state.new.store) }
     ensures kept { KeepsByCommit (K.seen state.old.store) state.old.log commit.ops writes.entry.items
         (K.seen state.new.store) state.new.log }

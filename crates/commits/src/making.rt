@@ -43,6 +43,8 @@ pub(crate) fn commit_planned<K: KvStore>(
         → (K.seen state.new.store).contents ≡ Some (after m (changes_of plans.entry.items))) }
     ensures failed { (event : ℕ) → result ≡ Err (ChangeError.StoreFailed event)
         → HasFailed owner mount (K.seen state.old.store) (K.seen state.new.store) state.old.log state.new.log event }
+    ensures told { (K.seen state.old.store).faults < (K.seen state.new.store).faults
+        → (event : ℕ) × (result ≡ Err (ChangeError.StoreFailed event)) }
     ensures memory { result ≡ Err ChangeError.Memory → state.new.log ≡ state.old.log }
     ensures uncalled { length (changes_of plans.entry.items) ≡ 0 → state.new.store ≡ state.old.store }
     ensures quiet { OnErr result (IsQuiet (K.seen state.old.store) (K.seen state.new.store)) }
@@ -75,6 +77,8 @@ fn commit_parts<K: KvStore>(
         → (K.seen state.new.store).contents ≡ Some (after m parts.entry.changes.items)) }
     ensures failed { (event : ℕ) → result ≡ Err (ChangeError.StoreFailed event)
         → HasFailed owner mount (K.seen state.old.store) (K.seen state.new.store) state.old.log state.new.log event }
+    ensures told { (K.seen state.old.store).faults < (K.seen state.new.store).faults
+        → (event : ℕ) × (result ≡ Err (ChangeError.StoreFailed event)) }
     ensures memory { result ≡ Err ChangeError.Memory → state.new.log ≡ state.old.log }
     ensures uncalled { length parts.entry.changes.items ≡ 0 → state.new.store ≡ state.old.store }
     ensures quiet { OnErr result (IsQuiet (K.seen state.old.store) (K.seen state.new.store)) }
@@ -123,6 +127,8 @@ fn commit_deed<K: KvStore>(
     ensures failed { (event : ℕ) → result ≡ Err (ChangeError.StoreFailed event)
         → HasFailed owner deed.mount (K.seen state.old.store)
         (K.seen state.new.store) state.old.log state.new.log event }
+    ensures told { (K.seen state.old.store).faults < (K.seen state.new.store).faults
+        → (event : ℕ) × (result ≡ Err (ChangeError.StoreFailed event)) }
     ensures memory { result ≡ Err ChangeError.Memory → state.new.log ≡ state.old.log }
     ensures uncalled { length changes.items ≡ 0 → state.new.store ≡ state.old.store }
     ensures quiet { OnErr result (IsQuiet (K.seen state.old.store) (K.seen state.new.store)) }

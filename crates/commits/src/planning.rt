@@ -31,6 +31,8 @@ pub(crate) fn plan_writes<'a, K: KvStore>(
     ensures failed { (event : ℕ) → result ≡ Err (FetchError.StoreFailed event)
         → HasFailedFor owner (write_arrays writes.entry.items) (K.seen state.old.store)
         (K.seen state.new.store) state.old.log.events state.new.log.events event }
+    ensures told { (K.seen state.old.store).faults < (K.seen state.new.store).faults
+        → (event : ℕ) × (result ≡ Err (FetchError.StoreFailed event)) }
     ensures damaged { (name : List ℕ) (cause : DamageOf) → result ≡ Err (FetchError.Damaged name cause)
         → (state.new.log.events ≡ state.old.log.events)
         × IsFirstDamaged (K.seen state.old.store) state.old.log number step writes.entry.items name cause }

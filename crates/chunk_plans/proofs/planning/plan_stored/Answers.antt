@@ -1,6 +1,6 @@
 use Rattle.std.proofs.Common.{◌≡◌, Err, sym, ◌∙◌, ap}
 use Rattle.chunk_plans.proofs.LeavingLaws.{now_left, now_plan, ready_left, ready_plan}
-use Rattle.chunk_plans.proofs.Same.{err_and}
+use Rattle.chunk_plans.proofs.Same.{err_and, err_told}
 use Rattle.chunk_plans.proofs.Usable.{usable_some}
 use Rattle.shared_state.specs.declared.FetchError.TheVariants as fetch
 use Rattle.chunk_plans.proofs.planning.plan_stored.Goals as goal
@@ -33,3 +33,14 @@ pub returns-in_err-over-clause-damaged : goal.returns-in_err-over-clause-damaged
 returns-in_err-over-clause-damaged g c name cause e =
     let told = err_and _ c.from_residual-in_err-over.result (fetch.Damaged name cause) e c.from_residual-in_err-over.ensures.1 in
     let is : c.left_now.result ≡ Err (fetch.Damaged name cause) = c.in_err-over.was ∙ ap Err (sym told) in c.left_now.ensures.damaged name cause is
+
+pub returns-in_err-over-clause-told : goal.returns-in_err-over-clause-told
+returns-in_err-over-clause-told g c more =
+    let why = c.left_now.ensures.told more in
+    (why.0, err_told c.from_residual-in_err-over.result c.left_now.result _ (fetch.StoreFailed why.0) c.from_residual-in_err-over.ensures.0 c.from_residual-in_err-over.ensures.1 c.in_err-over.was why.1)
+
+pub returns-clause-told : goal.returns-clause-told
+returns-clause-told g c more =
+    let why = c.left_now.ensures.told more in
+    let no = sym c.in_ok-over.was ∙ why.1 in
+    absurd (cc)

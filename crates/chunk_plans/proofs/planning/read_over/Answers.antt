@@ -3,7 +3,7 @@ use Rattle.chunk_forms.specs.Metadata.{shape_of, chunk_shape_of}
 use Rattle.chunk_laying.specs.Laid.{IsChunkOf}
 use Rattle.chunk_plans.proofs.Forms.{may_lay_by}
 use Rattle.chunk_plans.proofs.Plans.{left_over_read, left_told, base_dtype, damaged_of}
-use Rattle.chunk_plans.proofs.Same.{answered_of, err_and, same_by}
+use Rattle.chunk_plans.proofs.Same.{answered_of, err_and, err_told, same_by}
 use Rattle.cells.specs.Dense.{DenseCells}
 use Rattle.history.proofs.Laws.{some_inj}
 use Rattle.shared_state.specs.declared.FetchError.TheVariants as fetch
@@ -66,3 +66,20 @@ returns-clause-kept g c = c.fetch.ensures.left.kept
 
 pub returns-clause-cells : goal.returns-clause-cells
 returns-clause-cells g c = record { dtype = c.in_ok-left_over.ensures.dtype; shape = c.in_ok-left_over.ensures.shape }
+
+pub returns-in_err-fetched-clause-told : goal.returns-in_err-fetched-clause-told
+returns-in_err-fetched-clause-told g c more =
+    let why = c.fetch.ensures.left.told more in
+    (why.0, err_told c.from_residual.result c.fetch.result _ (fetch.StoreFailed why.0) c.from_residual.ensures.0 c.from_residual.ensures.1 c.in_err-fetched.was why.1)
+
+pub returns-in_err-left_over-clause-told : goal.returns-in_err-left_over-clause-told
+returns-in_err-left_over-clause-told g c more =
+    let why = c.fetch.ensures.left.told more in
+    let no = sym c.in_ok-fetched.was ∙ why.1 in
+    absurd (cc)
+
+pub returns-clause-told : goal.returns-clause-told
+returns-clause-told g c more =
+    let why = c.fetch.ensures.left.told more in
+    let no = sym c.in_ok-fetched.was ∙ why.1 in
+    absurd (cc)

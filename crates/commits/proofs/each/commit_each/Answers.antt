@@ -1,10 +1,11 @@
-use Rattle.std.proofs.Common.{Err, ◌+◌, length, sym, ap, subst, ◌∙◌}
+use Rattle.std.proofs.Common.{Err, ◌+◌, length, sym, ap, subst, ◌∙◌, arith}
+use Rattle.chunk_plans.proofs.Laws.{not_risen}
 use Rattle.commits.specs.Keyed.{each_event}
 use Rattle.commits.specs.Made.{IsMade}
 use Rattle.commits.specs.Planning.{ArePlannedBy, IsFirstDamaged}
 use Rattle.commits.specs.Prepared.{write_keys}
 use Rattle.commits.proofs.ByKeysLaws.{each_right, each_some, key_plans_of, planned_some}
-use Rattle.commits.proofs.MadeLaws.{made_then, unplanned_made}
+use Rattle.commits.proofs.MadeLaws.{failed_unplanned, made_then, unplanned_made}
 use Rattle.commits.proofs.Plans.{planned_keys}
 use Rattle.commits.proofs.each.commit_each.Goals as goal
 
@@ -67,3 +68,12 @@ returns-in-Err-clause-made g c =
 
 pub returns-in-Err-clause-kept : goal.returns-in-Err-clause-kept
 returns-in-Err-clause-kept g c opening agrees right = c.plan_writes.ensures.kept opening agrees
+
+pub returns-in-Ok-clause-rose : goal.returns-in-Ok-clause-rose
+returns-in-Ok-clause-rose g c more =
+    let seen = g.K.KvStore.seen in
+    let same = not_risen (seen c.args.state.now.store).faults (seen c.plan_writes.new.state.store).faults (λ rose. let why = c.plan_writes.ensures.told rose in let no = sym c.in-Ok.is ∙ why.1 in absurd (cc)) in
+    c.make_each.ensures.rose (omega (arith, more, same))
+
+pub returns-in-Err-clause-rose : goal.returns-in-Err-clause-rose
+returns-in-Err-clause-rose g c more = failed_unplanned c.plan_writes.result c.in-Err.error c.unplanned.result c.in-Err.is c.unplanned.ensures (c.plan_writes.ensures.told more)

@@ -1,7 +1,7 @@
 use Rattle.std.proofs.Common.{◌≡◌, Err, List, [], length, inl, inr, refl, sym, ap, subst, ◌∙◌, arith}
 use Rattle.std.specs.Prelude.{filter}
 use Rattle.history.specs.Commit.{is_write}
-use Rattle.chunk_plans.proofs.Laws.{frame_same, frame_then}
+use Rattle.chunk_plans.proofs.Laws.{frame_same, frame_then, not_risen}
 use Rattle.chunk_plans.specs.declared.plan.Planned.{Planned}
 use Rattle.commits.specs.Plans.{keys_of}
 use Rattle.commits.specs.Keyed.{AreKeyPlans, AreRightKeys, IsMadeEach, each_event, key_event, plan_arrays}
@@ -9,6 +9,7 @@ use Rattle.commits.specs.Planning.{IsAmongOn}
 use Rattle.commits.proofs.ByKeysLaws.{each_length}
 use Rattle.commits.proofs.DoneLaws.{IsDoneSoFar, done_none, done_one, keeps_one, keys_of_length, none_each, plans_left, unmade_then, wanting_then, writes_twice}
 use Rattle.commits.proofs.EachLaws.{first_right}
+use Rattle.commits.proofs.MadeLaws.{failed_unmade}
 use Rattle.commits.proofs.each.make_each.Goals as goal
 
 pub returns-in_err-numbers-clause-made : goal.returns-in_err-numbers-clause-made
@@ -34,6 +35,7 @@ loop-plan-init g c =
           (subst (λ (ps : List Planned). IsDoneSoFar h h all (each_event c.args.owner by.line by.mode by.ops (keys_of ps)) []) whole (done_none h all));
       plans = subst (AreKeyPlans h) whole c.requires.plans;
       frame = frame_same (seen c.args.state.now.store);
+      steady = omega arith;
       kept = λ opening agrees right. (agrees, λ start told. subst (λ (ps : List Planned). AreRightKeys start c.args.owner by.line by.mode h by.ops ps) whole (right start told));
       among = λ es mount is. subst (λ (ps : List Planned). IsAmongOn es (plan_arrays ps) mount) (sym whole) is;
       writes = c.requires.writes;
@@ -116,6 +118,11 @@ loop-plan-preserved g c =
           (subst (λ (ps : List Planned). IsDoneSoFar h now.events all (each_event c.args.owner by.line by.mode c.loop-plan.ops (keys_of ps)) c.loop-plan.numbers.items) steps c.loop-plan.invariant.done) c.in-Ok-make_one.ensures.after c.in-Ok-make_one.ensures.number
           c.push_reserved.ensures.items);
       plans = plans_left c.args.owner by.line by.mode c.loop-plan.ops now.events c.make_one.new.state.log.events p left c.in-Ok-make_one.ensures.after plans;
+      steady =
+          let before = c.loop-plan.invariant.steady in
+          let still =
+          not_risen (seen c.loop-plan.state.store).faults (seen c.make_one.new.state.store).faults (λ rose. let why = c.make_one.ensures.told rose in let no = sym c.in-Ok-make_one.is ∙ why.1 in absurd (cc)) in
+          omega (arith, before, still);
       frame = frame_then (seen c.args.state.now.store) (seen c.loop-plan.state.store) (seen c.make_one.new.state.store) c.loop-plan.invariant.frame c.make_one.ensures.frame;
       kept =
           keeps_one (seen c.args.state.now.store) c.args.state.now.log c.args.owner by.line by.mode by.ops c.args.plans.items (seen c.loop-plan.state.store) now c.loop-plan.ops c.in-Ok.next p left (seen c.make_one.new.state.store) c.make_one.new.state.log plans writes
@@ -130,3 +137,14 @@ loop-plan-preserved g c =
 
 pub returns-clause-kept : goal.returns-clause-kept
 returns-clause-kept g c opening agrees right = (c.loop-plan.invariant.kept opening agrees right).0
+
+pub returns-in_default-clause-rose : goal.returns-in_default-clause-rose
+returns-in_default-clause-rose g c more = let same = c.loop-plan.invariant.steady in absurd (omega (arith, more, same))
+
+pub returns-in-Err-clause-rose : goal.returns-in-Err-clause-rose
+returns-in-Err-clause-rose g c more =
+    let before = c.loop-plan.invariant.steady in
+    failed_unmade c.make_one.result c.loop-plan.numbers.items c.in-Err.error c.unmade.result c.in-Err.is c.unmade.ensures (c.make_one.ensures.told (omega (arith, more, before)))
+
+pub returns-clause-rose : goal.returns-clause-rose
+returns-clause-rose g c more = let same = c.loop-plan.invariant.steady in absurd (omega (arith, more, same))

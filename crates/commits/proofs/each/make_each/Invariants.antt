@@ -17,6 +17,7 @@ invariant-loop-plan g l =
       done : IsDoneSoFar l.fn.state.log.events l.state.log.events (each_event l.owner l.line l.mode l.fn.by.ops (keys_of l.fn.plans.items)) (each_event l.owner l.line l.mode l.ops (keys_of l.plan-iterator.rest.items)) l.numbers.items;
       plans : AreKeyPlans l.state.log.events l.plan-iterator.rest.items;
       frame : IsFrame (seen l.fn.state.store) (seen l.state.store);
+      steady : (seen l.state.store).faults ≤ (seen l.fn.state.store).faults;
       kept : KeepsSoFar (seen l.fn.state.store) l.fn.state.log l.owner l.line l.mode l.fn.by.ops l.fn.plans.items (seen l.state.store) l.state.log l.ops l.plan-iterator.rest.items;
       among : (h : History) (mount : List ℕ) → IsAmongOn h (plan_arrays l.plan-iterator.rest.items) mount → IsAmongOn h (plan_arrays l.fn.plans.items) mount;
       writes : l.fn.by.writes ≡ filter is_write l.ops;

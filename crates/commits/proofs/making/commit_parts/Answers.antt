@@ -1,4 +1,4 @@
-use Rattle.std.proofs.Common.{◌+◌, length, sym, ap, subst, ◌∙◌}
+use Rattle.std.proofs.Common.{◌<◌, ◌+◌, length, sym, ap, subst, ◌∙◌}
 use Rattle.std.specs.Prelude.{IsSome}
 use Rattle.std.specs.List.{AllByRecursion}
 use Rattle.history.specs.Arrays.{known_after}
@@ -86,3 +86,14 @@ returns-in-Err-clause-kept g c plans are of opening agrees right =
     (λ start told.
     let by = right start told in
     subst (IsRightBy start log c.args.owner deed) (sym of.changes) (plans_right opening (seen c.args.state.now.store) log c.args.owner deed plans agrees of.keys of.cells are start by.each by.legal by.counted))
+
+pub returns-in-Ok-clause-told : goal.returns-in-Ok-clause-told
+returns-in-Ok-clause-told g c more =
+    let seen = g.K.KvStore.seen in
+    let rose = subst (λ (s : g.row.K.Denot). (seen c.args.state.now.store).faults < (seen s).faults) c.keep_left.ensures.store more in
+    let why = c.commit_deed.ensures.told rose in
+    let no = sym c.in-Ok.is ∙ why.1 in
+    absurd (cc)
+
+pub returns-in-Err-clause-told : goal.returns-in-Err-clause-told
+returns-in-Err-clause-told g c more = let why = c.commit_deed.ensures.told more in (why.0, sym c.in-Err.is ∙ why.1)

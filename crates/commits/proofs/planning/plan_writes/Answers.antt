@@ -4,7 +4,7 @@ use Rattle.chunk_plans.specs.Laid.{IsCovered}
 use Rattle.std.specs.List.{AllByRecursion}
 use Rattle.std.proofs.lemmas.List.{append_assoc, append-nil}
 use Rattle.chunk_plans.specs.declared.FetchError.TheVariants as fetch
-use Rattle.chunk_plans.proofs.Laws.{read_then}
+use Rattle.chunk_plans.proofs.Laws.{err_told, not_risen, read_then}
 use Rattle.chunk_plans.specs.declared.write.ChunkWrite.{ChunkWrite}
 use Rattle.chunk_plans.specs.Writes.{IsWrite, may_use}
 use Rattle.commits.specs.Planning.{ArePlannedBy, IsAmongOn, IsDamagedWrite, IsFirstDamaged, write_arrays}
@@ -50,6 +50,15 @@ returns-in_err-plan-clause-damaged g c name cause e =
           (inl (damaged_first (seen c.args.state.now.store) (seen c.loop-write.state.store) c.args.state.now.log c.loop-write.state.log c.loop-write.invariant.same c.loop-write.invariant.kept c.in-Some.write name cause here))),
     )
 
+pub returns-in_err-plan-clause-told : goal.returns-in_err-plan-clause-told
+returns-in_err-plan-clause-told g c more =
+    let before = c.loop-write.invariant.steady in
+    let why = c.plan_write.ensures.told (omega (arith, more, before)) in
+    (why.0, err_told c.from_residual-in_err-plan.result c.plan_write.result _ (fetch.StoreFailed why.0) c.from_residual-in_err-plan.ensures.0 c.from_residual-in_err-plan.ensures.1 c.in_err-plan.was why.1)
+
+pub returns-clause-told : goal.returns-clause-told
+returns-clause-told g c more = let same = c.loop-write.invariant.steady in absurd (omega (arith, more, same))
+
 pub returns-in_err-plan-clause-kept : goal.returns-in_err-plan-clause-kept
 returns-in_err-plan-clause-kept g c opening agrees = c.plan_write.ensures.kept opening (c.loop-write.invariant.kept opening agrees)
 
@@ -71,6 +80,11 @@ loop-write-preserved g c =
       among = λ mount is. c.loop-write.invariant.among mount (subst (λ (ws : List ChunkWrite). IsAmongOn h (write_arrays ws) mount) (sym steps) (inr is));
       same = same_then log c.loop-write.state.log c.plan_write.new.state.log c.loop-write.invariant.same c.in_ok-plan.ensures.same;
       read = read_then (seen c.args.state.now.store) (seen c.loop-write.state.store) (seen c.plan_write.new.state.store) c.loop-write.invariant.read c.plan_write.ensures.read;
+      steady =
+          let before = c.loop-write.invariant.steady in
+          let same =
+          not_risen (seen c.loop-write.state.store).faults (seen c.plan_write.new.state.store).faults (λ rose. let why = c.plan_write.ensures.told rose in let no = sym c.in_ok-plan.was ∙ why.1 in absurd (cc)) in
+          omega (arith, before, same);
       kept = λ opening agrees. c.plan_write.ensures.kept opening (c.loop-write.invariant.kept opening agrees);
       writes = (subst (AllByRecursion (IsWrite h)) steps c.loop-write.invariant.writes).1;
       number = count_more c.loop-write.next c.args.step (length c.next.new.self.rest.items) (length c.loop-write.write-iterator.rest.items) (ap length steps) ∙ c.loop-write.invariant.number;

@@ -19,6 +19,7 @@ invariant-loop-write g l =
       among : (mount : List ℕ) → IsAmongOn l.fn.state.log.events (write_arrays l.write-iterator.rest.items) mount → IsAmongOn l.fn.state.log.events (write_arrays l.fn.writes.items) mount;
       same : IsSameButCache l.fn.state.log l.state.log;
       read : IsRead (seen l.fn.state.store) (seen l.state.store);
+      steady : (seen l.state.store).faults ≤ (seen l.fn.state.store).faults;
       kept : KeepsAgreement (seen l.fn.state.store) l.fn.state.log (seen l.state.store) l.state.log;
       writes : AllByRecursion (IsWrite l.fn.state.log.events) l.write-iterator.rest.items;
       number : l.next + l.step * length l.write-iterator.rest.items ≡ l.fn.number + l.step * length l.fn.writes.items;
