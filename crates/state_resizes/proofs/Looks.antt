@@ -124,3 +124,7 @@ pub damaged_cause : (e : FormError) (fault : Option Damage) (cause : Damage) →
 damaged_cause e fault cause is causes =
     let found = causes (not_memory e cause is) in
     found.2 ∙ ap Some (sym (ap (λ x. cause_of x found.0) found.1) ∙ ap (λ x. cause_of x found.0) is)
+
+-- an answer has one error
+pub err_same : {A : Type 0} (r : Result A FetchError) (d e : FetchError) → r ≡ Err d → r ≡ Err e → d ≡ e
+err_same r d e one other = let both = sym one ∙ other in cc

@@ -1,5 +1,5 @@
 -- What comes of a resize.
-use Rattle.std.proofs.Common.{◌≡◌, ℕ, ◌+◌, ◌<◌, List, [], ◌∷◌, ◌++◌, length, map, true, false, Option, Some, refl, sym, ap, subst, ◌∙◌, arith}
+use Rattle.std.proofs.Common.{◌≡◌, ℕ, ◌+◌, ◌<◌, ◌≤◌, List, [], ◌∷◌, ◌++◌, length, map, true, false, Option, Some, refl, sym, ap, subst, ◌∙◌, arith}
 use Rattle.std.specs.Prelude.{Result, Ok, Err, IfOk, OnOk, OnErr, slice_index_or}
 use Rattle.std.proofs.lemmas.List.{length-map}
 use Rattle.chunk_forms.specs.Metadata.{metadata_text}
@@ -51,6 +51,7 @@ nothing_done owner a shape store log = record {
   frame = frame_same store;
   quiet = quiet_same store;
   rose = λ event is. absurd (cc);
+  told = λ rose. absurd (omega (arith, rose));
   numbers = tt;
   generations = refl;
   locals = refl;
@@ -64,6 +65,7 @@ too_many owner a shape store log many = record {
   frame = frame_same store;
   quiet = quiet_same store;
   rose = λ event is. absurd (cc);
+  told = λ rose. absurd (omega (arith, rose));
   numbers = tt;
   generations = refl;
   locals = refl;
@@ -111,6 +113,7 @@ module _ (owner : ℕ) (store : StoreSeen) (log : Log) (chunks : List (List ℕ)
         frame = frame_same store;
         quiet = quiet_same store;
         rose = λ event is. absurd (cc);
+        told = λ rose. absurd (omega (arith, rose));
         numbers = tt;
         generations = refl;
         locals = refl;
@@ -134,40 +137,43 @@ module _ (owner : ℕ) (store : StoreSeen) (log : Log) (chunks : List (List ℕ)
     on_mount = subst (IsOnMount asked.plan.mount) (sym are.begun.known) are.begun.mount
 
     -- a chunk wasn't read
-    pub not_read : (next : StoreSeen) (later : Log) (e : FetchError) → IsRead store next → KeepsAgreement store log next later → IsUnfilled owner asked.plan store next log later e → IsResize owner a shape store next log later (Err (refusal_by e))
-    not_read next later (fetch.StoreFailed event) read keeps failed = record {
+    pub not_read : (next : StoreSeen) (later : Log) (e : FetchError) → IsRead store next → KeepsAgreement store log next later → (store.faults < next.faults → (event : ℕ) × (e ≡ fetch.StoreFailed event)) → IsUnfilled owner asked.plan store next log later e → IsResize owner a shape store next log later (Err (refusal_by e))
+    not_read next later (fetch.StoreFailed event) read keeps told failed = record {
       answer = λ opening start agrees. record { may = may_resize opening start agrees; mount = asked.plan.mount; on_mount = on_mount; number = failed.number; added = failed.events };
       kept = keeps;
       frame = read.frame;
       quiet = record { frame = read.frame; contents = read.contents; changes = read.changes };
       rose = λ n is. failed.rose;
+      told = λ rose. (event, refl);
       numbers = tt;
       generations = failed.generations;
       locals = failed.locals;
     }
-    not_read next later (fetch.Damaged key cause) read keeps damaged = record {
+    not_read next later (fetch.Damaged key cause) read keeps told damaged = record {
       answer = λ opening start agrees. record { may = may_resize opening start agrees; damaged = λ told. damaged.1 opening start agrees told; same = damaged.0.events };
       kept = keeps;
       frame = read.frame;
       quiet = record { frame = read.frame; contents = read.contents; changes = read.changes };
       rose = λ n is. absurd (cc);
+      told = λ rose. let why = told rose in let clash = why.1 in absurd (cc);
       numbers = tt;
       generations = damaged.0.generations;
       locals = damaged.0.locals;
     }
-    not_read next later fetch.Memory read keeps same = record {
+    not_read next later fetch.Memory read keeps told same = record {
       answer = λ opening start agrees. same.events;
       kept = keeps;
       frame = read.frame;
       quiet = record { frame = read.frame; contents = read.contents; changes = read.changes };
       rose = λ n is. absurd (cc);
+      told = λ rose. let why = told rose in let clash = why.1 in absurd (cc);
       numbers = tt;
       generations = same.generations;
       locals = same.locals;
     }
 
     module _ (next : StoreSeen) (middle : Log) (full : Asked) (new : full.plan ≡ asked.plan) (keys : keys_of full.changes.items ≡ keys_of asked.changes.items) (meta : bytes_at full.changes.items 0 ≡ bytes_at asked.changes.items 0)
-        (filled : AreFilled store log a shape chunks full.changes.items (length chunks)) (same : IsSameButCache log middle) (read : IsRead store next) (keeps : KeepsAgreement store log next middle) where
+        (filled : AreFilled store log a shape chunks full.changes.items (length chunks)) (same : IsSameButCache log middle) (read : IsRead store next) (steady : next.faults ≤ store.faults) (keeps : KeepsAgreement store log next middle) where
       rank : length (chunk_shape k.info) ≡ length shape
       rank = valid_ranks k.info k.info.home (good_in log.events state.1.outline a k are.begun.known).kept are.begun.may.stored ∙ sym are.begun.may.rank
 
@@ -207,9 +213,9 @@ module _ (owner : ℕ) (store : StoreSeen) (log : Log) (chunks : List (List ℕ)
 
       -- the shape was given, or the call that gives it failed
       pub made_or_not : (last : StoreSeen) (later : Log) (r : Result ℕ ChangeError) → IfOk r (λ n. n ≡ length middle.events + 1) → OnOk r (later ≡ resized middle owner full.plan)
-          → ((event : ℕ) → r ≡ Err (change.StoreFailed event) → HasFailed owner full.plan.mount next last middle later event) → (r ≡ Err change.Memory → later ≡ middle) → OnErr r (IsQuiet next last) → IsFrame next last
+          → ((event : ℕ) → r ≡ Err (change.StoreFailed event) → HasFailed owner full.plan.mount next last middle later event) → (next.faults < last.faults → (event : ℕ) × (r ≡ Err (change.StoreFailed event))) → (r ≡ Err change.Memory → later ≡ middle) → OnErr r (IsQuiet next last) → IsFrame next last
           → KeepsByShape next middle owner full.plan full.changes.items last later → IsResize owner a shape store last log later (answer_by r)
-      made_or_not last later (Ok n) number after failed memory quiet frame by_shape = record {
+      made_or_not last later (Ok n) number after failed told memory quiet frame by_shape = record {
         answer = λ opening start agrees. record {
           may = may_resize opening start agrees;
           sound = λ told. undamaged opening start agrees told;
@@ -221,11 +227,12 @@ module _ (owner : ℕ) (store : StoreSeen) (log : Log) (chunks : List (List ℕ)
         frame = frame_then store next last read.frame frame;
         quiet = tt;
         rose = λ event is. absurd (cc);
+        told = λ rose. let why = told (omega (arith, rose, steady)) in let clash = why.1 in absurd (cc);
         numbers = λ l known. ap (λ (m : Log). m.generations) after ∙ numbered ∙ ap (λ (m : Known). with_numbers (length log.events + 1) log.generations (resized_keys m a shape)) (some_inj k l (sym are.begun.known ∙ known));
         generations = tt;
         locals = ap (λ (l : Log). l.locals) after ∙ same.locals;
       }
-      made_or_not last later (Err (change.StoreFailed event)) number after failed memory quiet frame by_shape =
+      made_or_not last later (Err (change.StoreFailed event)) number after failed told memory quiet frame by_shape =
           let has = failed event refl in record {
             answer = λ opening start agrees. record {
               may = may_resize opening start agrees;
@@ -238,17 +245,19 @@ module _ (owner : ℕ) (store : StoreSeen) (log : Log) (chunks : List (List ℕ)
             frame = frame_then store next last read.frame frame;
             quiet = quiet_then last quiet;
             rose = λ n is. let low = read.frame.faults in let high = has.rose in omega arith;
+            told = λ rose. (event, refl);
             numbers = tt;
             generations = ap (λ (l : Log). l.generations) has.added ∙ same.generations;
             locals = ap (λ (l : Log). l.locals) has.added ∙ same.locals;
           }
-      made_or_not last later (Err change.Memory) number after failed memory quiet frame by_shape =
+      made_or_not last later (Err change.Memory) number after failed told memory quiet frame by_shape =
           let still = memory refl in record {
             answer = λ opening start agrees. ap (λ (l : Log). l.events) still ∙ same.events;
             kept = λ opening agrees. by_shape opening (keeps opening agrees) (right_then opening agrees);
             frame = frame_then store next last read.frame frame;
             quiet = quiet_then last quiet;
             rose = λ n is. absurd (cc);
+            told = λ rose. let why = told (omega (arith, rose, steady)) in let clash = why.1 in absurd (cc);
             numbers = tt;
             generations = ap (λ (l : Log). l.generations) still ∙ same.generations;
             locals = ap (λ (l : Log). l.locals) still ∙ same.locals;

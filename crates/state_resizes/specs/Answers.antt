@@ -70,9 +70,10 @@ pub record IsResize (owner a : ℕ) (shape : List ℕ) (store next : StoreSeen) 
   -- with which it agrees behind it, so that the store has what the history says
   pub kept : KeepsAgreement store log next later
   pub frame : IsFrame store next
-  -- a refusal changes nothing of the store, and comes of a failed call only where the count of faults rose
+  -- a refusal changes nothing of the store, and comes of a failed call exactly where the count of faults rose
   pub quiet : OnErr r (IsQuiet store next)
   pub rose : (event : ℕ) → r ≡ Err (error.StoreFailed event) → store.faults < next.faults
+  pub told : store.faults < next.faults → (event : ℕ) × (r ≡ Err (error.StoreFailed event))
   -- the chunks that are cut have the event's number, all others the generation that they had
   pub numbers : OnOk r ((k : Known) → known_after log.events a ≡ Some k
       → later.generations ≡ with_numbers (length log.events + 1) log.generations (resized_keys k a shape))

@@ -1,5 +1,5 @@
 // What a new shape leaves of one chunk.
-ghost use Rattle.std.specs.Prelude.{◌≡◌, ◌↔◌, ℕ, List, [], Some, None, IfOk, IfErr, IsTrue, OnOk, true, false};
+ghost use Rattle.std.specs.Prelude.{◌≡◌, ◌↔◌, ◌<◌, ℕ, List, [], Some, None, Err, IfOk, IfErr, IsTrue, OnOk, true, false};
 ghost use Rattle.cells.specs.Numbers.{IsWord};
 ghost use Rattle.chunk_forms.specs.declared.form.Damage.{Damage};
 ghost use Rattle.chunk_forms.specs.Metadata.{is_local, shape_of, chunk_shape_of, dtype_of, fill_of};
@@ -163,6 +163,8 @@ fn read_cut<K: KvStore>(
     ensures left { IfOk result (IsLeftBy (K.seen state.old.store) state.old.log new.now.array new.now.shape chunk.now) }
     ensures same { OnOk result (IsSameButCache state.old.log state.new.log) }
     ensures read { IsRead (K.seen state.old.store) (K.seen state.new.store) }
+    ensures told { (K.seen state.old.store).faults < (K.seen state.new.store).faults
+        → (event : ℕ) × (result ≡ Err (FetchError.StoreFailed event)) }
     ensures refused { IfErr result (IsUnfilled owner new.now (K.seen state.old.store)
         (K.seen state.new.store) state.old.log state.new.log) }
     ensures kept { KeepsAgreement (K.seen state.old.store) state.old.log (K.seen state.new.store) state.new.log }
@@ -192,6 +194,8 @@ pub(crate) fn left_of_cut<K: KvStore>(
     ensures left { IfOk result (IsLeftBy (K.seen state.old.store) state.old.log new.now.array new.now.shape chunk.now) }
     ensures same { OnOk result (IsSameButCache state.old.log state.new.log) }
     ensures read { IsRead (K.seen state.old.store) (K.seen state.new.store) }
+    ensures told { (K.seen state.old.store).faults < (K.seen state.new.store).faults
+        → (event : ℕ) × (result ≡ Err (FetchError.StoreFailed event)) }
     ensures refused { IfErr result (IsUnfilled owner new.now (K.seen state.old.store)
         (K.seen state.new.store) state.old.log state.new.log) }
     ensures kept { KeepsAgreement (K.seen state.old.store) state.old.log (K.seen state.new.store) state.new.log }

@@ -1,5 +1,5 @@
 // What a new shape leaves of each chunk that it cuts, in the changes of the store.
-ghost use Rattle.std.specs.Prelude.{◌≡◌, ◌≢◌, ◌<◌, ◌+◌, ℕ, List, length, Some, IfOk, IfErr, OnOk, true};
+ghost use Rattle.std.specs.Prelude.{◌≡◌, ◌≢◌, ◌<◌, ◌+◌, ℕ, List, length, Some, Err, IfOk, IfErr, OnOk, true};
 ghost use Rattle.kv_face.specs.Store.{keys_of};
 ghost use Rattle.history.specs.Arrays.{Known, known_after, chunk_shape};
 ghost use Rattle.chunk_plans.specs.Writes.{IsSameButCache};
@@ -56,6 +56,8 @@ pub(crate) fn filled<K: KvStore>(
         (length chunks.now)) }
     ensures same { OnOk result (IsSameButCache state.old.log state.new.log) }
     ensures read { IsRead (K.seen state.old.store) (K.seen state.new.store) }
+    ensures told { (K.seen state.old.store).faults < (K.seen state.new.store).faults
+        → (event : ℕ) × (result ≡ Err (FetchError.StoreFailed event)) }
     ensures refused { IfErr result (IsUnfilled owner asked.plan (K.seen state.old.store)
         (K.seen state.new.store) state.old.log state.new.log) }
     ensures kept { KeepsAgreement (K.seen state.old.store) state.old.log (K.seen state.new.store) state.new.log }

@@ -1,5 +1,5 @@
 // Making a new shape.
-ghost use Rattle.std.specs.Prelude.{◌≡◌, ◌+◌, ℕ, length, Some, Err, IfOk, OnOk, OnErr};
+ghost use Rattle.std.specs.Prelude.{◌≡◌, ◌<◌, ◌+◌, ℕ, length, Some, Err, IfOk, OnOk, OnErr};
 ghost use Rattle.kv_face.specs.Store.{Contents, after};
 ghost use Rattle.chunk_plans.specs.Agreement.{IsState};
 ghost use Rattle.chunk_plans.specs.Changing.{AreMade, IsNewShape, KeepsByShape, resized};
@@ -24,6 +24,8 @@ pub(crate) fn make<K: KvStore>(
     ensures failed { (event : ℕ) → result ≡ Err (ChangeError.StoreFailed event)
         → HasFailed owner asked.plan.mount (K.seen state.old.store)
         (K.seen state.new.store) state.old.log state.new.log event }
+    ensures told { (K.seen state.old.store).faults < (K.seen state.new.store).faults
+        → (event : ℕ) × (result ≡ Err (ChangeError.StoreFailed event)) }
     ensures memory { result ≡ Err ChangeError.Memory → state.new.log ≡ state.old.log }
     ensures quiet { OnErr result (IsQuiet (K.seen state.old.store) (K.seen state.new.store)) }
     ensures frame { IsFrame (K.seen state.old.store) (K.seen state.new.store) }

@@ -1,7 +1,9 @@
+use Rattle.std.proofs.Common.{◌≡◌, Ok, Err, sym, ap, ◌∙◌}
 use Rattle.std.proofs.lemmas.Result.{IfOk-weaker}
 use Rattle.history.specs.Chunks.{chunk_key}
+use Rattle.chunk_plans.specs.declared.FetchError.TheVariants as fetch
 use Rattle.state_resizes.proofs.Reading.{chunk_there, looked_same, unread}
-use Rattle.state_resizes.proofs.Looks.{err_weaker, same_ok, unfilled_by}
+use Rattle.state_resizes.proofs.Looks.{err_same, err_weaker, same_ok, unfilled_by}
 use Rattle.state_resizes.proofs.cutting.read_cut.Goals as goal
 
 pub look-requires-clause-chunk : goal.look-requires-clause-chunk
@@ -37,3 +39,12 @@ pub returns-in-Err-clause-refused : goal.returns-in-Err-clause-refused
 returns-in-Err-clause-refused g c =
     unread c.args.new.now c.args.chunk.now c.requires.agrees c.requires.begun c.requires.cut c.args.owner _ _ c.look.result c.in-Err.error c.requires.reached c.in-Err.is c.look.ensures.left.failed
     (λ name cause is. absurd (c.look.ensures.damaged name cause is)) c.look.ensures.left.memory
+
+pub returns-in-Ok-clause-told : goal.returns-in-Ok-clause-told
+returns-in-Ok-clause-told g c = λ more.
+    let was = c.look.ensures.left.told more in
+    let no : Ok c.in-Ok.look ≡ Err (fetch.StoreFailed was.0) = sym c.in-Ok.is ∙ was.1 in
+    absurd (cc)
+
+pub returns-in-Err-clause-told : goal.returns-in-Err-clause-told
+returns-in-Err-clause-told g c = λ more. let was = c.look.ensures.left.told more in (was.0, ap (λ e. Err e) (err_same c.look.result c.in-Err.error (fetch.StoreFailed was.0) c.in-Err.is was.1))

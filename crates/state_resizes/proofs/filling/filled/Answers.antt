@@ -1,13 +1,15 @@
-use Rattle.std.proofs.Common.{[], sym, ap, subst, ◌∙◌, arith}
+use Rattle.std.proofs.Common.{◌≡◌, [], Ok, Err, sym, ap, subst, ◌∙◌, arith}
 use Rattle.std.specs.Prelude.{slice_index_or}
 use Rattle.history.specs.Arrays.{known_after, chunk_shape}
 use Rattle.history.specs.Resizes.{is_cut}
 use Rattle.chunk_plans.specs.declared.NewShape.{NewShape}
-use Rattle.chunk_plans.proofs.Laws.{read_then}
+use Rattle.chunk_plans.specs.declared.FetchError.TheVariants as fetch
+use Rattle.chunk_plans.proofs.Laws.{not_risen, read_then}
 use Rattle.state_resizes.specs.Cuts.{IsLeftBy}
 use Rattle.state_resizes.specs.Refusals.{IsUnfilled}
 use Rattle.state_resizes.proofs.Along.{cut_at, filled_more, left_before, same_then, unfilled_before}
 use Rattle.state_resizes.proofs.Lists.{any_at}
+use Rattle.state_resizes.proofs.Looks.{err_same}
 use Rattle.state_resizes.proofs.filling.filled.Goals as goal
 
 pub left_of_cut-requires-clause-agrees : goal.left_of_cut-requires-clause-agrees
@@ -30,6 +32,15 @@ returns-in-Err-clause-refused g c =
     unfilled_before (seen c.args.state.now.store) (seen c.loop-place.state.store) c.args.state.now.log c.loop-place.state.log was.same was.kept c.args.owner c.args.asked.plan (seen c.left_of_cut.new.state.store) c.left_of_cut.new.state.log c.in-Err.error was.read.frame
     (subst (λ p. IsUnfilled c.args.owner p (seen c.loop-place.state.store) (seen c.left_of_cut.new.state.store) c.loop-place.state.log c.left_of_cut.new.state.log c.in-Err.error) was.new c.in-Err.ensures.refused)
 
+pub returns-in-Err-clause-told : goal.returns-in-Err-clause-told
+returns-in-Err-clause-told g c = λ more.
+    let before = c.loop-place.invariant.steady in
+    let why = c.left_of_cut.ensures.told (omega (arith, more, before)) in
+    (why.0, ap (λ e. Err e) (err_same c.left_of_cut.result c.in-Err.error (fetch.StoreFailed why.0) c.in-Err.is why.1))
+
+pub returns-clause-told : goal.returns-clause-told
+returns-clause-told g c = λ more. let same = c.loop-place.invariant.steady in absurd (omega (arith, more, same))
+
 pub returns-in-Err-clause-kept : goal.returns-in-Err-clause-kept
 returns-in-Err-clause-kept g c = λ opening agrees. c.left_of_cut.ensures.kept opening (c.loop-place.invariant.kept opening agrees)
 
@@ -49,6 +60,12 @@ loop-place-preserved g c =
           (subst (λ i. IsLeftBy (seen c.args.state.now.store) c.args.state.now.log first.array first.shape i c.in-Ok.bytes) there before) c.put.ensures.here c.put.ensures.others;
       same = same_then c.args.state.now.log c.loop-place.state.log c.left_of_cut.new.state.log was.same c.in-Ok.ensures.same;
       read = read_then (seen c.args.state.now.store) (seen c.loop-place.state.store) (seen c.left_of_cut.new.state.store) was.read c.left_of_cut.ensures.read;
+      steady =
+          let before = was.steady in
+          let same =
+          not_risen (seen c.loop-place.state.store).faults (seen c.left_of_cut.new.state.store).faults
+          (λ rose. let why = c.left_of_cut.ensures.told rose in let no : Ok c.in-Ok.bytes ≡ Err (fetch.StoreFailed why.0) = sym c.in-Ok.is ∙ why.1 in absurd (cc)) in
+          omega (arith, before, same);
       kept = λ opening agrees. c.left_of_cut.ensures.kept opening (was.kept opening agrees);
     }
 

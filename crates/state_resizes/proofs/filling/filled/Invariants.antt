@@ -1,4 +1,4 @@
-use Rattle.std.proofs.Common.{◌≡◌}
+use Rattle.std.proofs.Common.{◌≡◌, ◌≤◌}
 use Rattle.kv_face.specs.Store.{keys_of}
 use Rattle.chunk_plans.specs.Writes.{IsSameButCache}
 use Rattle.chunk_plans.specs.Agreement.{KeepsAgreement}
@@ -16,5 +16,6 @@ invariant-loop-place g l =
       filled : AreFilled (seen l.initial.state.store) l.initial.state.log l.fn.asked.plan.array l.fn.asked.plan.shape l.chunks l.asked.changes.items l.place;
       same : IsSameButCache l.initial.state.log l.state.log;
       read : IsRead (seen l.initial.state.store) (seen l.state.store);
+      steady : (seen l.state.store).faults ≤ (seen l.initial.state.store).faults;
       kept : KeepsAgreement (seen l.initial.state.store) l.initial.state.log (seen l.state.store) l.state.log;
     }
