@@ -2,7 +2,6 @@
 pub use Rattle.state_laws.specs.Agreement
 pub use Rattle.state_laws.specs.Fetches
 pub use Rattle.state_laws.specs.Kept
-pub use Rattle.state_laws.specs.Left
 pub use Rattle.state_laws.specs.Log
 pub use Rattle.state_laws.specs.Looks
 pub use Rattle.state_laws.specs.Outline

@@ -19,6 +19,6 @@ mod state;
 pub use history::{ArrayInfo, Event, Home, Kind, Mode, Op, Ops};
 pub use state::{State, StateRefused};
 pub use state_laws::{
-    AtStart, Bounds, ChangeError, Commit, Deed, FetchError, Fetched, HeldCells, Left, Look,
-    MetaCause, NewShape, OpenError, Opened, Planned, decode, metadata_change,
+    AtStart, Bounds, ChangeError, Commit, Deed, FetchError, Fetched, HeldCells, Look, MetaCause,
+    NewShape, OpenError, Opened, decode, metadata_change,
 };

@@ -6,7 +6,6 @@ pub mod Log
 pub mod Outline
 pub mod Agreement
 pub mod Kept
-pub mod Left
 pub mod Fetches
 pub mod Looks
 pub mod Openings
