@@ -33,7 +33,7 @@ use std::alloc::{AllocError, Global};
 /// which is read where not every cell in the array's shape is staged. `number` is that of the event that will put them.
 ///
 /// # Errors
-/// As for `State::fetch`, and only where the chunk had to be read: `StoreFailed`, which one event more tells; `Damaged`; `Memory`.
+/// As for `State::fetch`: `StoreFailed`, which one event more tells, and `Damaged`, only where the chunk had to be read; `Memory`.
 pub fn plan_write<'a, K: KvStore>(
     alloc: Global,
     state: &mut State<K>,

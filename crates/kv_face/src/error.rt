@@ -3,7 +3,7 @@ ghost use Rattle.std.specs.Prelude.{◌≡◌};
 use std::alloc::{AllocError, AllocFailed};
 use thiserror::Error;
 
-/// A call of the outside failed. The object's count of faults rose.
+/// A call of the outside failed. The object's count of faults rose, unless it stood at its last value.
 #[derive(Clone, Copy, Debug, PartialEq, Eq, Error)]
 #[error("the call failed")]
 pub struct Failed;
@@ -11,7 +11,7 @@ pub struct Failed;
 /// Why a call of a store was refused.
 #[derive(Clone, Copy, Debug, PartialEq, Eq, Error)]
 pub enum KvError {
-    /// The store failed. Its count of faults rose.
+    /// The store failed. Its count of faults rose, unless it stood at its last value.
     #[error("the store failed")]
     Failed,
     #[error("out of memory")]

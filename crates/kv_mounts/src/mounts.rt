@@ -54,7 +54,7 @@ impl<K: KvStore> Mounts<K> {
         knows(self.list.as_slice(), name)
     }
 
-    /// Finishes each store once, and puts the places of those that failed into the list. Takes no memory.
+    /// Finishes each store, and puts the places of those that failed into the list. Takes no memory.
     pub fn finish_into(&mut self, list: &mut FinishList)
         requires empty { list.old.places ≡ [] }
         requires room { length self.old ≤ list.old.room }

@@ -31,11 +31,11 @@ use std::thread::Threads;
 /// in the order of the files.
 ///
 /// The words are options and files: `--workers N` (1 to 64) and `--cache CELLS` (up to 134217728), then 1 to 1,024 files. A script has at
-/// most 2^26 bytes, all together at most 2^28. All are read before the first session starts. Session i runs on worker i modulo their number.
-/// A transaction that is open at a script's end is dropped. Each mount is finished once, behind the last event.
+/// most 2^26 bytes, all together at most 2^28. All are read before the first session starts. A transaction that is open at a script's end is
+/// dropped. Each mount comes back finished, or its place is listed. Session i is dealt to worker i modulo their number, of which no clause speaks.
 ///
-/// With `--make NUMBER` no file is named or read: nine scripts are made from the number, the last session starts once the others were joined,
-/// and one line about the run is written in place of the answers.
+/// With `--make NUMBER` no file is named or read: nine scripts are made from the number, the last of them for a session behind the others, and
+/// one line about the run is written in place of the answers.
 pub fn run<S: Reader, O: Writer, K: KvStore + Send, R: Threads + Wait + Sync, G: Gate + Sync>(
     alloc: Global,
     rt: &R,

@@ -31,9 +31,9 @@ pub struct Finished<K: KvStore> {
     pub unfinished: Vec<u32>,
 }
 
-/// Runs each script in a session of its own over the mounts, on so many workers, with a cache of at most so many cells. Session i runs on
-/// worker i modulo their number; the last `behind` sessions start once all others were joined, on a worker of their own. Each mount is finished
-/// once, behind the last event.
+/// Runs each script in a session of its own over the mounts, which come back finished. Session i is dealt to worker i modulo their number,
+/// and the last `behind` sessions to a worker of their own, behind all others; the cache is to hold at most so many cells. No clause says
+/// which worker had which session, or what the cache held.
 ///
 /// # Errors
 /// There was no memory before the first session was started. The mounts come back as they were.

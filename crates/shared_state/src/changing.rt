@@ -36,8 +36,8 @@ impl<K: KvStore> State<K> {
     /// store isn't called where nothing is to be changed.
     ///
     /// # Errors
-    /// `StoreFailed` where the store failed, which one event more tells; `Memory` where the store wanted memory. Nothing was
-    /// changed then, and no memory is wanted besides.
+    /// `StoreFailed` exactly where the store failed, which one event more tells; `Memory` where the store wanted memory. Nothing was
+    /// changed then.
     pub fn commit(
         &mut self,
         owner: u32,

@@ -19,8 +19,8 @@ impl<K: KvStore> State<K> {
     /// was made and its keys prepared before (`make_room`).
     ///
     /// # Errors
-    /// `StoreFailed` where the store failed, which one event more tells; `Memory` where the store wanted memory. Nothing was
-    /// changed then, and no memory is wanted besides.
+    /// `StoreFailed` exactly where the store failed, which one event more tells; `Memory` where the store wanted memory. Nothing was
+    /// changed then.
     pub fn reshape(
         &mut self,
         owner: u32,

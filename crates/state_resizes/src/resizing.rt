@@ -24,9 +24,9 @@ use std::alloc::Global;
 /// doesn't have stays absent, and nothing is laid. All of it is one change of the store. Growing touches no chunk.
 ///
 /// # Errors
-/// The first that holds, as `ResizeError` lists them: `TooManyChunks` and `NotAtomic` exactly where that is so, `Damaged` and
-/// `StoreFailed` of the first chunk that isn't read. After each but `StoreFailed`, which one event more tells, no event is new, and
-/// after each the store has what it had.
+/// The first that holds, as `ResizeError` lists them, but for `Memory`: `TooManyChunks` and `NotAtomic` where that is so, `Damaged` where
+/// a chunk that is cut in part is none of the array, `StoreFailed` exactly where a call of the store failed. After each but `StoreFailed`,
+/// which one event more tells, no event is new, and after each the store has what it had.
 pub fn resize<K: KvStore>(
     alloc: Global,
     state: &mut State<K>,
