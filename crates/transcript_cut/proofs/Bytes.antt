@@ -1,8 +1,8 @@
 -- Compact JSON, byte by byte.
 use Rattle.std.proofs.Common.{◌≡◌, ℕ, List, ◌∷◌, Bool, true, false, cond, Option, Some, None, refl, sym, subst}
 use Rattle.std.specs.Prelude.{◌==◌}
-use Rattle.answer_data.specs.Lines as json
-use Rattle.answer_data.specs.Lines.{is_white, is_compact}
+use Rattle.transcript_laws.specs.AnswerLines as json
+use Rattle.transcript_laws.specs.AnswerLines.{is_white, is_compact}
 use Rattle.transcript_cut.specs.Readings.{reading_of, reading_after}
 use Rattle.transcript_cut.specs.declared.compact.Reading.{Reading}
 use Rattle.transcript_cut.specs.declared.compact.Reading.TheVariants.{Outside, Inside, Escaped}

@@ -5,7 +5,7 @@ use Rattle.std.specs.List.{AllByRecursion, flat_map}
 use Rattle.serde_json.specs.Data.{Data}
 use Rattle.json_forms.specs.Bytes.{data_of}
 use Rattle.history.proofs.Laws.{some_inj}
-use Rattle.answer_data.specs.Lines.{has_lf}
+use Rattle.transcript_laws.specs.AnswerLines.{has_lf}
 use Rattle.transcript_laws.specs.Transcript.{ScriptLine, Told, asked_by, lines_of_scripts, IsToldOf, AreToldOf}
 use Rattle.transcript_laws.specs.Unchecked.{is_memory_answer, IsMemoryAnswer}
 use Rattle.transcript_laws.proofs.Laws.{cut_once, one_answer, regroup}

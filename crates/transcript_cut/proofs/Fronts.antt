@@ -4,7 +4,7 @@ use Rattle.std.specs.Prelude.{IsTrue}
 use Rattle.std.proofs.lemmas.List.{length-take-le, take_at}
 use Rattle.serde_json.specs.Data.{Data}
 use Rattle.json_forms.specs.Bytes.{data_of}
-use Rattle.answer_data.specs.Lines.{has_lf, outside, is_compact}
+use Rattle.transcript_laws.specs.AnswerLines.{has_lf, outside, is_compact}
 use Rattle.transcript_laws.specs.Unchecked.{IsMemoryAnswer}
 use Rattle.transcript_laws.proofs.Laws.{cut_once, regroup}
 use Rattle.transcript_cut.specs.LineEnds.{IsLineEnd}

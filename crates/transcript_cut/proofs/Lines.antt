@@ -5,7 +5,7 @@ use Rattle.std.specs.List.{onto_first}
 use Rattle.std.proofs.lemmas.List.{drop_all}
 use Rattle.cells.proofs.Laws.{less_or_not}
 use Rattle.script_lines.specs.Script.{lines_of, is_blank}
-use Rattle.answer_data.specs.Lines.{has_lf}
+use Rattle.transcript_laws.specs.AnswerLines.{has_lf}
 use Rattle.transcript_laws.specs.Transcript.{ScriptLine, lines_from}
 use Rattle.transcript_cut.specs.LineEnds.{IsLineEnd}
 

@@ -1,7 +1,7 @@
 -- What stands at the front of a text.
 use Rattle.std.specs.Prelude.{◌≡◌, ◌≤◌, ℕ, List, ◌∷◌, ◌++◌, false, length, take}
 use Rattle.serde_json.specs.Data.{Data}
-use Rattle.answer_data.specs.Lines.{has_lf, IsAnswerText}
+use Rattle.transcript_laws.specs.AnswerLines.{has_lf, IsAnswerText}
 use Rattle.transcript_laws.specs.Unchecked.{is_memory_answer, IsMemoryAnswer}
 use Rattle.transcript_cut.specs.Numbers.{PrintsNumbers}
 use Rattle.transcript_cut.specs.declared.numbers.EventNumbers.{EventNumbers}

@@ -4,7 +4,7 @@ use Rattle.serde_json.specs.Data.{Data, Members}
 use Rattle.serde_json.specs.Find.{get, as_object}
 use Rattle.json_forms.specs.Bytes.{data_of}
 use Rattle.json_forms.specs.Numbers.{whole_number}
-use Rattle.answer_data.specs.Lines.{outside, is_compact}
+use Rattle.transcript_laws.specs.AnswerLines.{outside, is_compact}
 use Rattle.transcript_laws.specs.Unchecked.{is_memory_answer, IsMemoryAnswer}
 use Rattle.transcript_cut.specs.Numbers.{PrintsNumbers}
 use Rattle.transcript_cut.specs.declared.answers.Judged.{Judged}

@@ -1,6 +1,6 @@
 -- Where the first line of a text ends.
 use Rattle.std.specs.Prelude.{◌≡◌, ◌<◌, ◌≤◌, ℕ, ◌+◌, List, ◌∷◌, ◌++◌, false, length, take, drop}
-use Rattle.answer_data.specs.Lines.{has_lf}
+use Rattle.transcript_laws.specs.AnswerLines.{has_lf}
 
 -- at the first LF, or where there is none at the text's end
 pub record IsLineEnd (text : List ℕ) (spot : ℕ) : Type 0 where

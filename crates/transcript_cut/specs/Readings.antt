@@ -1,7 +1,7 @@
 -- What the bytes of JSON are read in, one after another.
 use Rattle.std.specs.Prelude.{ℕ, ◌==◌, Option, Some, None, if◌then◌else◌}
-use Rattle.answer_data.specs.Lines as json
-use Rattle.answer_data.specs.Lines.{is_white}
+use Rattle.transcript_laws.specs.AnswerLines as json
+use Rattle.transcript_laws.specs.AnswerLines.{is_white}
 use Rattle.transcript_cut.specs.declared.compact.Reading.{Reading}
 use Rattle.transcript_cut.specs.declared.compact.Reading.TheVariants.{Outside, Inside, Escaped}
 

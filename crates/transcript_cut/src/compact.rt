@@ -1,6 +1,6 @@
 // White space between the tokens of JSON.
 ghost use Rattle.std.specs.Prelude.{◌≡◌};
-ghost use Rattle.answer_data.specs.Lines.{outside, is_white, is_compact};
+ghost use Rattle.transcript_laws.specs.AnswerLines.{outside, is_white, is_compact};
 ghost use Rattle.transcript_cut.specs.Readings.{reading_after};
 
 /// What a byte of JSON is read in: outside of texts, in a text, or behind a backslash in one.

@@ -15,7 +15,9 @@ pub mod ThreeCellsNumberless
 pub mod ReadConflict
 pub mod ReadConflictTold
 pub mod Stances
+pub mod Outputs
 -- names of crates below, given on to those above
+pub use Rattle.answer_data.specs.Lines as AnswerLines
 pub use Rattle.line_meanings.specs.Meanings
 pub use Rattle.line_meanings.specs.Openings
 pub use Rattle.serial_runs.specs.Numbered

@@ -5,6 +5,9 @@
 #![tactic(auto)]
 
 ghost use Rattle.transcript_laws.specs.ReadConflict as conflict;
+ghost use Rattle.transcript_laws.specs.Outputs.{OutputsAreAnswered, OutputsAreCut, OutputsAreNumbered};
+ghost use Rattle.transcript_laws.specs.Outputs.{OutputsArePrintable, OutputsAreYes, OutputsFit, OutputsHaveWords};
+ghost use Rattle.transcript_laws.specs.Outputs.{OutputsState, PrintableOutputsFit};
 ghost use Rattle.transcript_laws.specs.ThreeCells.{scripts, transcript};
 ghost use Rattle.transcript_laws.specs.ThreeCellsNumberless as numberless;
 ghost use Rattle.transcript_laws.specs.ThreeCellsWrong.{wrong_commit, wrong_value};
@@ -46,4 +49,41 @@ pub fn conflict_is_judged()
     ensures not_later { IsVerdict conflict.scripts (conflict.transcript_of conflict.late_4) (no 4) }
     ensures same_event { IsVerdict conflict.scripts (conflict.transcript_of conflict.same_4) (no 4) }
     ensures own_event { IsVerdict conflict.scripts (conflict.transcript_of conflict.own_4) (no 4) }
+{}
+
+/// What logs print is cut into their answers, line by line, where these read back.
+pub fn outputs_are_cut()
+    ensures { OutputsAreCut }
+{}
+
+/// What logs print has the number of each event once, and those of a session rise.
+pub fn outputs_are_numbered()
+    ensures { OutputsAreNumbered }
+{}
+
+/// The values that logs print have a word of their dtype for each cell.
+pub fn outputs_have_words()
+    ensures { OutputsHaveWords }
+{}
+
+/// What logs print states the history.
+pub fn outputs_state()
+    ensures { OutputsState }
+{}
+
+/// Each answer that logs print is one that its line may have.
+pub fn outputs_are_answered()
+    ensures { OutputsAreAnswered }
+{}
+
+/// What logs print fits their scripts, where the answers read back.
+pub fn printable_outputs_fit()
+    ensures fits { PrintableOutputsFit }
+    // What is left to show for all logs.
+    ensures rest { OutputsArePrintable → OutputsFit }
+{}
+
+/// What logs print is answered yes, by as many events as there are, where the answers read back.
+pub fn outputs_are_yes()
+    ensures { OutputsAreYes }
 {}

@@ -1,5 +1,5 @@
 use Rattle.std.proofs.Common.{◌≡◌, drop}
-use Rattle.answer_data.specs.Lines.{outside, is_compact}
+use Rattle.transcript_laws.specs.AnswerLines.{outside, is_compact}
 use Rattle.transcript_cut.specs.Readings.{reading_of}
 use Rattle.transcript_cut.proofs.compact.is_compact.Given as goal
 

@@ -1,5 +1,5 @@
 use Rattle.std.proofs.Common.{◌≡◌, take, false}
-use Rattle.answer_data.specs.Lines.{has_lf}
+use Rattle.transcript_laws.specs.AnswerLines.{has_lf}
 use Rattle.transcript_cut.proofs.line_end.line_end.Given as goal
 
 abbrev pub invariant-loop-spot : goal.invariant-loop-spot

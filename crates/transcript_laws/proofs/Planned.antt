@@ -1,0 +1,165 @@
+-- The tree of each Spec that a line opens keeps the rules of trees.
+use Rattle.std.proofs.Common.{◌≡◌, ℕ, List, [], ◌∷◌, length, Option, Some, None, Result, Ok, Err, ap}
+use Rattle.std.specs.Prelude.{codes, ◌==◌}
+use Rattle.serde_json.specs.Data.{Data}
+use Rattle.serde_json.specs.Find.{get}
+use Rattle.json_forms.specs.Bytes.{data_of}
+use Rattle.json_forms.specs.Members.{least_unknown}
+use Rattle.line_forms.specs.declared.SpecError.{SpecError}
+use Rattle.line_forms.specs.Specs.{plan_of_spec}
+use Rattle.line_forms.specs.Conditions.{IsTree}
+use Rattle.line_forms.specs.declared.OpenPlan.{OpenPlan}
+use Rattle.line_forms.proofs.Laws.{plan_sound}
+use Rattle.line_forms.specs.Form.{Form, opening, viewing, joining, reading, writing, beginning, committing, aborting, resizing, resolving}
+use Rattle.line_forms.specs.declared.command.JoinForm.{JoinForm}
+use Rattle.line_forms.specs.Lines.{command_of_line, command_of_found, command_in, command_count, other_form, small_form}
+use Rattle.line_forms.specs.Reads.{read_form, read_fault, read_so, read_as, down_at, write_form, write_fault, written, written_as, written_by}
+use Rattle.line_forms.specs.Small.{open_form, open_fault, opened, opened_as, plan_in, plan_read, begin_form, flags_given, word_form, not_true, resize_form, resize_fault, resized, resized_as, shape_at, resolve_form, resolved}
+use Rattle.line_forms.specs.Views.{view_form, of_form, view_fault, viewed, viewed_as, viewed_of, joined, join_in, join_as, join_by, join_of, overlay_form, concat_form, stack_form}
+use Rattle.line_forms.specs.Parts.{◌>>=◌, has, needed, name_in, steps_in, earlier, no_name}
+use Rattle.line_forms.specs.Within.{transform_in}
+use Rattle.line_forms.specs.declared.LineError.{LineError}
+use Rattle.line_meanings.proofs.Given.{Gives, one, nothing, then, sound, inside, either}
+
+-- a form that opens a Spec has such a tree
+abbrev pub IsPlanned : Form → Type 0
+IsPlanned (opening name plan) = IsTree (length plan.leaves) plan.tree
+IsPlanned (viewing name of transform steps) = Unit {0}
+IsPlanned (joining name kind layers transform steps) = Unit {0}
+IsPlanned (reading name steps down) = Unit {0}
+IsPlanned (writing name steps values) = Unit {0}
+IsPlanned (beginning atomic repeatable_read) = Unit {0}
+IsPlanned committing = Unit {0}
+IsPlanned aborting = Unit {0}
+IsPlanned (resizing name shape) = Unit {0}
+IsPlanned (resolving name) = Unit {0}
+
+module _ (mount : List ℕ) where
+  abbrev Good : Result Form LineError → Type 0
+  Good = Gives IsPlanned
+
+  plan_from : (r : Result OpenPlan SpecError) (plan : OpenPlan) → plan_read r ≡ Ok plan → r ≡ Ok plan
+  plan_from (Ok p) plan is = let same : p ≡ plan = cc in ap (λ q. Ok q) same
+  plan_from (Err e) plan is = absurd (let no_such : ⊥ = cc in no_such)
+
+  planned : (spec : Option Data) (plan : OpenPlan) → (needed (codes "spec") spec >>= (λ s. plan_read (plan_of_spec (mount ∷ []) s))) ≡ Ok plan → (s : Data) × (plan_of_spec (mount ∷ []) s ≡ Ok plan)
+  planned None plan is = absurd (let no_such : ⊥ = cc in no_such)
+  planned (Some s) plan is = (s, plan_from (plan_of_spec (mount ∷ []) s) plan is)
+
+  opens : (d : Data) (name : List ℕ) (plan : OpenPlan) → plan_in (mount ∷ []) d ≡ Ok plan → IsPlanned (opening name plan)
+  unfolding plan_in
+  opens d name plan is =
+      let spec = planned (get (codes "spec") d) plan is in
+      (plan_sound (mount ∷ []) spec.0 plan spec.1).over
+
+  open_good : (d : Data) → Good (open_form (mount ∷ []) d)
+  unfolding open_form
+  open_good d =
+      sound IsPlanned (open_fault d) (opened (mount ∷ []) d)
+      (then IsPlanned (name_in (codes "open") d) (opened_as (mount ∷ []) d)
+      (λ name is. then IsPlanned (plan_in (mount ∷ []) d) (λ plan. Ok (opening name plan)) (λ plan are. one IsPlanned (opening name plan) (opens d name plan are))))
+
+  read_good : (d : Data) → Good (read_form d)
+  unfolding read_form
+  read_good d =
+      sound IsPlanned (read_fault d) (read_so (down_at d) d)
+      (then IsPlanned (name_in (codes "read") d) (read_as (down_at d) d)
+      (λ name is. then IsPlanned (steps_in d) (λ steps. Ok (reading name steps (down_at d))) (λ steps are. one IsPlanned (reading name steps (down_at d)) tt)))
+
+  write_good : (d : Data) → Good (write_form d)
+  unfolding write_form
+  write_good d =
+      sound IsPlanned (write_fault d) (written d)
+      (then IsPlanned (name_in (codes "write") d) (written_as d)
+      (λ name is. then IsPlanned (steps_in d) (written_by d name)
+      (λ steps are. then IsPlanned (needed (codes "values") (get (codes "values") d)) (λ values. Ok (writing name steps values))
+      (λ values so. one IsPlanned (writing name steps values) tt))))
+
+  of_good : (d : Data) → Good (of_form d)
+  unfolding of_form
+  of_good d =
+      inside IsPlanned (codes "transform") (view_fault d) (transform_in d) (viewed d)
+      (λ transform. then IsPlanned (name_in (codes "view") d) (viewed_as transform d)
+      (λ name is. then IsPlanned (name_in (codes "of") d) (viewed_of transform d name)
+      (λ of are. then IsPlanned (steps_in d) (λ steps. Ok (viewing name of transform steps))
+      (λ steps so. one IsPlanned (viewing name of transform steps) tt))))
+
+  joined_good : (k : List ℕ) (fault : Option (List ℕ)) (form : Option JoinForm) (layers : Option (List (List ℕ))) (d : Data) → Good (joined k fault form layers d)
+  unfolding joined
+  joined_good k fault form layers d =
+      inside IsPlanned (codes "transform") fault (transform_in d) (join_in k form layers d)
+      (λ transform. then IsPlanned (name_in (codes "view") d) (join_as k form layers d transform)
+      (λ name is. then IsPlanned (needed (codes "axis") form) (join_by k layers d transform name)
+      (λ kind are. then IsPlanned (needed k layers) (join_of d transform name kind)
+      (λ names so. then IsPlanned (steps_in d) (λ steps. Ok (joining name kind names transform steps))
+      (λ steps all. one IsPlanned (joining name kind names transform steps) tt)))))
+
+  overlay_good : (d : Data) → Good (overlay_form d)
+  unfolding overlay_form
+  overlay_good d = joined_good _ _ _ _ d
+
+  concat_good : (d : Data) → Good (concat_form d)
+  unfolding concat_form
+  concat_good d = joined_good _ _ _ _ d
+
+  stack_good : (d : Data) → Good (stack_form d)
+  unfolding stack_form
+  stack_good d = joined_good _ _ _ _ d
+
+  view_good : (d : Data) → Good (view_form d)
+  unfolding view_form
+  view_good d =
+      either IsPlanned (has (codes "concat") d) _ _ (concat_good d)
+      (either IsPlanned (has (codes "of") d) _ _ (of_good d)
+      (either IsPlanned (has (codes "overlay") d) _ _ (overlay_good d)
+      (either IsPlanned (has (codes "stack") d) _ _ (stack_good d) (of_good d))))
+
+  begin_good : (d : Data) → Good (begin_form d)
+  unfolding begin_form
+  begin_good d =
+      inside IsPlanned (codes "begin") (least_unknown (codes "begin" ∷ []) d) (flags_given (get (codes "begin") d)) (λ flags. Ok (beginning flags.0 flags.1))
+      (λ flags. one IsPlanned (beginning flags.0 flags.1) tt)
+
+  word_good : (k : List ℕ) (form : Form) (d : Data) → IsPlanned form → Good (word_form k form d)
+  unfolding word_form
+  word_good k form d keeps = sound IsPlanned (earlier (least_unknown (k ∷ []) d) (not_true k d)) (Ok form) (one IsPlanned form keeps)
+
+  resize_good : (d : Data) → Good (resize_form d)
+  unfolding resize_form
+  resize_good d =
+      sound IsPlanned (resize_fault d) (resized (shape_at d) d)
+      (then IsPlanned (name_in (codes "resize") d) (resized_as (shape_at d))
+      (λ name is. then IsPlanned (needed (codes "shape") (shape_at d)) (λ sizes. Ok (resizing name sizes)) (λ sizes are. one IsPlanned (resizing name sizes) tt)))
+
+  resolve_good : (d : Data) → Good (resolve_form d)
+  unfolding resolve_form
+  resolve_good d =
+      sound IsPlanned (earlier (least_unknown (codes "resolve" ∷ []) d) (no_name (codes "resolve") d)) (resolved d)
+      (then IsPlanned (name_in (codes "resolve") d) (λ name. Ok (resolving name)) (λ name is. one IsPlanned (resolving name) tt))
+
+  small_good : (d : Data) → Good (small_form d)
+  unfolding small_form
+  small_good d =
+      either IsPlanned (has (codes "begin") d) _ _ (begin_good d)
+      (either IsPlanned (has (codes "commit") d) _ _ (word_good (codes "commit") committing d tt)
+      (either IsPlanned (has (codes "abort") d) _ _ (word_good (codes "abort") aborting d tt)
+      (either IsPlanned (has (codes "resize") d) _ _ (resize_good d) (resolve_good d))))
+
+  other_good : (d : Data) → Good (other_form d)
+  unfolding other_form
+  other_good d =
+      either IsPlanned (has (codes "view") d) _ _ (view_good d)
+      (either IsPlanned (has (codes "read") d) _ _ (read_good d)
+      (either IsPlanned (has (codes "write") d) _ _ (write_good d) (small_good d)))
+
+  in_good : (d : Data) → Good (command_in (mount ∷ []) d)
+  unfolding command_in
+  in_good d = either IsPlanned (has (codes "open") d) _ _ (open_good d) (other_good d)
+
+  found_good : (found : Option Data) → Good (command_of_found (mount ∷ []) found)
+  found_good None = nothing IsPlanned _
+  found_good (Some d) = either IsPlanned (command_count d == 1) (command_in (mount ∷ []) d) _ (in_good d) (nothing IsPlanned _)
+
+  -- so has each line's form
+  pub form_planned : (bytes : List ℕ) (form : Form) → command_of_line (mount ∷ []) bytes ≡ Ok form → IsPlanned form
+  form_planned bytes form is = (found_good (data_of bytes)).each form is
