@@ -29,8 +29,9 @@ test:
 	tools/program.sh bin/tensor_run
 	examples/with_zarr_python/compare.sh bin/tensor_run
 
+# after `rt ci`, over the libraries that it left
 edits:
-	tools/edits.sh
+	tools/edits.py
 
 # each allocation of the program refused in turn; wants a C compiler
 faults: bin/tensor_run
