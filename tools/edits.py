@@ -134,8 +134,7 @@ class Crate:
         for folder in sorted({os.path.dirname(it) for it in rlibs.values()} | {f"{kit}/rlibs"}):
             self.words += ["-L", f"dependency={folder}"]
         self.words += ["--antt-project", f"{kit}/rattle/logic/antt-project.json", "--logic-built", f"{kit}/logic_built"]
-        files = [it for end in ("edit", "md") for it in glob.glob(f"{self.folder}/must-fail/*.{end}")]
-        self.edits = [Edit(self.folder, it) for it in sorted(files)]
+        self.edits = [Edit(self.folder, it) for it in sorted(glob.glob(f"{self.folder}/must-fail/*.*"))]
 
     def check(self, edits, functions):
         """Checks these functions with edits made, or all if none is named: the status, what was said, the seconds."""
