@@ -33,6 +33,10 @@ chunk_place-row run k one = rw one (omega (arith, ints))
 pub view_place-row : (run : Run) (k : ℕ) → run.view_step ≡ 1 → view_place run k ≡ run.view + k
 view_place-row run k one = rw one (omega arith)
 
+-- one word is that of all pairs
+pub view_place-one : (run : Run) (k : ℕ) → run.view_step ≡ 0 → view_place run k ≡ run.view
+view_place-one run k none = rw none (omega arith)
+
 pub chunk_place-lt : (run : Run) (view n k : ℕ) → IsRunInside run view n → k < run.len → chunk_place run k < n
 chunk_place-lt run view n k inside less = omega (arith, ints, inside.from_first k less, inside.to_last k less)
 

@@ -203,8 +203,32 @@ fn put_run(dtype: Dtype, cells: usize, run: Run, words: &[u64], bytes: &mut [u8]
 {
     if run.view_step == 1 && run.chunk_step == 1 {
         put_row(dtype, cells, run, words, bytes)
+    } else if run.view_step == 0 && run.chunk_step == 1 {
+        put_one(dtype, cells, run, words, bytes)
     } else {
         put_steps(dtype, cells, run, words, bytes)
+    }
+}
+
+// One word along a run without gaps.
+#[inline(always)]
+fn put_one(dtype: Dtype, cells: usize, run: Run, words: &[u64], bytes: &mut [u8])
+    requires full { length bytes.old ≡ cells * byte_count dtype }
+    requires small { cells ≤ 2 ^ 24 }
+    requires run { IsRunInside run (length words.now) cells }
+    requires words { All (IsWord dtype) words.now }
+    requires view_step { run.view_step ≡ 0 }
+    requires chunk_step { run.chunk_step ≡ pos 1 }
+    ensures { words_in dtype cells bytes.new ≡ pairs_put (pairs_of run) words.now (words_in dtype cells bytes.old) }
+{
+    if run.len == 0 {
+        return;
+    }
+    let size = dtype.byte_count();
+    let word = words[run.view as usize];
+    for k in 0..run.len {
+        let at = run.chunk as usize + k as usize;
+        put(dtype, false, word, &mut bytes[at * size..at * size + size]);
     }
 }
 
