@@ -1,5 +1,5 @@
 ghost use Rattle.std.specs.Prelude.{◌≡◌, ℕ, ◌+◌, ◌*◌, ◌<◌, ◌^◌, pos, ◌≤ℤ◌, ◌<ℤ◌, Some, length, slice_set};
-ghost use Rattle.rebase_writes.specs.Staged.{staged_cells};
+ghost use Rattle.rebase_writes.specs.Staged.{staged_cells, staged_at};
 ghost use Rattle.cells.specs.Runs.{view_place, chunk_number, chunk_place, IsRunInside, pairs_of};
 ghost use Rattle.rebase_writes.specs.Runs.{pairs_written, pairs_read, pairs_shown};
 
@@ -48,6 +48,19 @@ pub(crate) fn show_run(mask: &[bool], staged: &[u64], run: &Run, out: &mut [u64]
         if mask[chunk] {
             out[view] = staged[chunk];
         }
+    }
+}
+
+/// The word that is staged at a place in a mask and words, if there is one.
+pub(crate) fn marked_word(mask: &[bool], staged: &[u64], place: usize) -> Option<u64>
+    requires same { length mask.now ≡ length staged.now }
+    requires inside { place < length mask.now }
+    ensures { result ≡ staged_at (staged_cells mask.now staged.now) place }
+{
+    if mask[place] {
+        Some(staged[place])
+    } else {
+        None
     }
 }
 

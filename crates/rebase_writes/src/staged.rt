@@ -5,7 +5,7 @@ ghost use Rattle.cells.specs.Runs.{IsRunInside, pairs_of};
 ghost use Rattle.rebase_writes.specs.Runs.{pairs_written, pairs_shown};
 
 use crate::rising::{add_run, cover_range, lay_runs, show_staged, spare_range, spread, word_at};
-use crate::run::{show_run, stage_cell, stage_run};
+use crate::run::{marked_word, show_run, stage_cell, stage_run};
 use cells::{Dense, Run};
 use std::alloc::{AllocError, Global};
 use std::marker::Model;
@@ -138,6 +138,18 @@ impl Staged {
             word_at(&self.runs, &self.kept, place).is_some()
         } else {
             self.mask[place]
+        }
+    }
+
+    /// The word that is staged at a place, if there is one.
+    pub fn word(&self, place: usize) -> Option<u64>
+        requires { place < length self.now }
+        ensures { result ≡ staged_at self.now place }
+    {
+        if self.by_runs {
+            word_at(&self.runs, &self.kept, place)
+        } else {
+            marked_word(&self.mask, &self.words, place)
         }
     }
 

@@ -1,0 +1,42 @@
+use Rattle.std.proofs.Common.{◌≡◌, ◌∙◌, ℕ, Bool, List, Option, Some, None, length, replicate, sym, ap, subst, arith}
+use Rattle.std.specs.Prelude.{IfSome, IfNone}
+use Rattle.std.proofs.lemmas.List.{length-replicate}
+use Rattle.rebase_writes.specs.Rising.{AreRising, runs_staged}
+use Rattle.rebase_writes.specs.Staged.{staged_at, staged_cells}
+use Rattle.rebase_writes.proofs.KeptLaws.{by_runs_is, by_cells_is, lent_runs}
+use Rattle.rebase_writes.proofs.RisingLaws.{none_at}
+use Rattle.rebase_writes.proofs.StagedLaws.{IsSized-staged}
+use Rattle.rebase_writes.proofs.staged.Staged.word.Goals as goal
+
+pub marked_word-requires-clause-inside : goal.marked_word-requires-clause-inside
+marked_word-requires-clause-inside c =
+    let s = c.self.inside in
+    let is = by_cells_is s.by_runs s.cells s.runs.items s.kept.items s.mask.items s.words.items c.args.self.now c.if-self.false c.self.view_is in
+    let size = IsSized-staged s.mask.items s.words.items c.args.self.now (c.self.invariant.same c.if-self.false) is in
+    let lent = c.deref-else-self.ensures.value in
+    let long : length c.deref-else-self.result.now ≡ length c.args.self.now = ap (λ (bs : List Bool). length bs) lent ∙ size.0 in
+    omega (arith, long, c.requires)
+
+pub returns-then-self : goal.returns-then-self
+returns-then-self c =
+    let s = c.self.inside in
+    let is = by_runs_is s.by_runs s.cells s.runs.items s.kept.items s.mask.items s.words.items c.args.self.now c.if-self.true c.self.view_is in
+    let base : List (Option ℕ) = replicate s.cells None in
+    let runs = c.deref.result.now in
+    let kept = c.deref-then-self.result.now in
+    let are = lent_runs 0 s.cells s.runs.items runs s.kept.items kept c.deref.ensures.value c.deref-then-self.ensures.value (c.self.invariant.rising c.if-self.true) in
+    let rising = subst (λ n. AreRising (length kept) n runs) (sym (length-replicate s.cells None)) are in
+    let same : staged_at (runs_staged runs kept base) c.args.place ≡ staged_at c.args.self.now c.args.place =
+    ap (λ (all : List (Option ℕ)). staged_at all c.args.place) ((λ i. runs_staged (c.deref.ensures.value i) (c.deref-then-self.ensures.value i) base) ∙ is) in
+    told (λ (cells : List (Option ℕ)). AreRising (length kept) (length cells) runs) (λ (cells : List (Option ℕ)). staged_at (runs_staged runs kept cells) c.args.place) (λ (cells : List (Option ℕ)). staged_at cells c.args.place)
+    c.word_at.result c.word_at.ensures.some c.word_at.ensures.none base rising (none_at s.cells c.args.place) ∙ same
+  where
+    told : (Q : List (Option ℕ) → Type 0) (F B : List (Option ℕ) → Option ℕ) (r : Option ℕ) → IfSome r (λ word. (cells : List (Option ℕ)) → Q cells → F cells ≡ Some word) → IfNone r ((cells : List (Option ℕ)) → F cells ≡ B cells) → (cells : List (Option ℕ)) → Q cells → B cells ≡ None → r ≡ F cells
+    told Q F B None some none cells q bare = sym (none cells ∙ bare)
+    told Q F B (Some word) some none cells q bare = sym (some cells q)
+
+pub returns-else-self : goal.returns-else-self
+returns-else-self c =
+    let s = c.self.inside in
+    let is = by_cells_is s.by_runs s.cells s.runs.items s.kept.items s.mask.items s.words.items c.args.self.now c.if-self.false c.self.view_is in
+    c.marked_word.ensures ∙ ap (λ (all : List (Option ℕ)). staged_at all c.args.place) ((λ i. staged_cells (c.deref-else-self.ensures.value i) (c.deref-else-self-2.ensures.value i)) ∙ is)
