@@ -21,3 +21,4 @@ pub mod AlongLaws
 pub mod GridPieces
 pub mod AlongCells
 pub mod LaneLaws
+pub mod MorePairs

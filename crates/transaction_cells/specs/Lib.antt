@@ -8,6 +8,7 @@ pub mod Staging
 pub mod Tables
 pub mod Operations
 pub mod Needs
+pub mod StagedWords
 pub mod Gathered
 pub mod Outside
 pub mod Along

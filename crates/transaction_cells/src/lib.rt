@@ -11,6 +11,7 @@ mod lane;
 mod lanes;
 mod locating;
 mod outside;
+mod staged_words;
 mod staging;
 mod view_cells;
 
