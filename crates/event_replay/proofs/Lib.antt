@@ -1,0 +1,13 @@
+pub mod Places
+pub mod Sites
+pub mod PutWords
+pub mod ShownWords
+pub mod PutLaws
+pub mod OpLaws
+pub mod AskLaws
+pub mod Covered
+pub mod OwnLaws
+pub mod PieceLaws
+pub mod SeenLaws
+pub mod Demanded
+pub mod MetLaws

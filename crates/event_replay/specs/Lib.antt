@@ -1,0 +1,4 @@
+pub mod Placed
+pub mod Replays
+pub mod Pieces
+pub mod Demands
