@@ -9,4 +9,5 @@ pub mod Kept
 pub mod Bridge
 pub mod Claims
 pub mod Told
+pub mod OutcomeLaws
 pub mod Laws

@@ -39,6 +39,7 @@ use Rattle.transcript_cut.proofs.Laws.{free_of}
 use Rattle.transcript_cut.proofs.Laws.{outline-more, outline_opening, known-outline}
 use Rattle.transcript_cut.specs.Takings.{made_info}
 use Rattle.stated_arrays.specs.Served.{AreOpenedAt, AreArraysOf, was_there, IsNewBy, IsNeverBy}
+use Rattle.stated_arrays.specs.Still.{IsStill, AreStill}
 use Rattle.stated_arrays.specs.declared.arrays.StatedArrays.{StatedArrays}
 
 -- the outline of a legal history is legal
@@ -84,9 +85,14 @@ made_stored (want.Zarr3 w) meta is = by w.shape w.dtype is
 none_opened : AreOpenedAt [] []
 none_opened = record { count = refl; each = λ a k is. absurd (no_array a k is) }
 
+still_more : (h : History) (e : Event) → AreStill h → IsStill e.kind → AreStill (h ++ e ∷ [])
+still_more [] e all is = (is, tt)
+still_more (f ∷ h) e all is = (all.0, still_more h e all.1 is)
+
 pub no_arrays : (arrays : StatedArrays) → arrays.events.items ≡ [] → arrays.opened.items ≡ [] → arrays.places ≡ finmap.empty → AreArraysOf arrays
 no_arrays arrays events opened places = record {
   legal = subst (IsLegal finmap.empty) (sym events) tt;
+  still = subst AreStill (sym events) tt;
   opened = subst (λ h. AreOpenedAt h arrays.opened.items) (sym events) (subst (AreOpenedAt []) (sym opened) none_opened);
   places = subst (λ h. IsTable h arrays.places) (sym events) (subst (IsTable []) (sym places) table_none);
 }
@@ -116,6 +122,7 @@ fault_arrays old new owner mount are events opened places =
     let e = fault owner mount in
     record {
       legal = subst (IsLegal finmap.empty) (sym events) (legal_more finmap.empty h e are.legal tt);
+      still = subst AreStill (sym events) (still_more h e are.still tt);
       opened = subst (λ g. AreOpenedAt g new.opened.items) (sym events) (subst (AreOpenedAt (h ++ e ∷ [])) (sym opened) (fault_opened h owner mount old.opened.items are.opened));
       places = subst (λ g. IsTable g new.places) (sym events) (subst (IsTable (h ++ e ∷ [])) (sym places) (table_same h e old.places tt are.places));
     }
@@ -162,6 +169,7 @@ opening_arrays old new owner info are legal events opened places =
     let e = opened_event owner info in
     record {
       legal = subst (IsLegal finmap.empty) (sym events) (legal_more finmap.empty h e are.legal legal);
+      still = subst AreStill (sym events) (still_more h e are.still tt);
       opened = subst (λ g. AreOpenedAt g new.opened.items) (sym events) (subst (AreOpenedAt (h ++ e ∷ [])) (sym opened) (opening_opened h owner info old.opened.items legal are.opened));
       places = subst (λ g. IsTable g new.places) (sym events) places;
     }

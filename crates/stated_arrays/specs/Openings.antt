@@ -13,6 +13,7 @@ use Rattle.transcript_cut.specs.Said.{AreSaid}
 use Rattle.transcript_cut.specs.declared.said.Said.{Said}
 use Rattle.stated_arrays.specs.Outlined.{leaves_at, IsStatedOutline}
 use Rattle.stated_arrays.specs.Served.{AreOpenedAt}
+use Rattle.stated_arrays.specs.Still.{AreStill}
 use Rattle.stated_arrays.specs.declared.openings.Openings.{Openings}
 
 -- what is kept of the answers of a transcript that is cut, and its numbers
@@ -43,9 +44,10 @@ pub record IsStatedBy (told : List Told) (openings : Openings) : Type 0 where
   pub claimed : (history : History) → IsClaimed told history → outline history ≡ openings.events
   pub takings : AreTakenBy openings.events [] told openings.takings
 
--- it is, and the tables are those of its arrays
+-- it is, none of its arrays gets another shape, and the tables are those of them
 pub record AreStatedBy (scripts : List (List ℕ)) (said : List Said) (openings : Openings) : Type 0 where
   pub stated : (transcript : List ℕ) (told : List Told) → AreSaid scripts transcript said told → IsStatedBy told openings
+  pub still : AreStill openings.events
   pub opened : AreOpenedAt openings.events openings.opened
   pub places : IsTable openings.events openings.places
 

@@ -16,6 +16,7 @@ use Rattle.transcript_cut.specs.Numbered.{PrintsAt, said_numbers}
 use Rattle.transcript_cut.specs.declared.said.Said.{Said}
 use Rattle.stated_arrays.specs.Outlined.{AreOpenedBy, undone}
 use Rattle.stated_arrays.specs.Lines.{bare}
+use Rattle.stated_arrays.specs.Still.{AreStill}
 use Rattle.stated_arrays.specs.Served.{IsServing, untaken, AreOpenedAt}
 use Rattle.stated_arrays.specs.declared.openings.Openings.{Openings}
 use Rattle.history.specs.Places.{IsTable}
@@ -104,6 +105,7 @@ pub record AreOpeningsOf (said : List Said) (lines : List OpenLine) (openings : 
   pub count : length openings.takings ≡ length lines
   pub takings : (k : ℕ) (s : Said) (l : OpenLine) → slice_get said k ≡ Some s → slice_get lines k ≡ Some l
       → slice_get openings.takings k ≡ Some (numbers_taken openings.events (bare l.rest.items) s.numbers.opened)
+  pub still : AreStill openings.events
   pub opened : AreOpenedAt openings.events openings.opened
   pub places : IsTable openings.events openings.places
 

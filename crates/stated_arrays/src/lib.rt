@@ -10,8 +10,14 @@ mod arrays;
 mod asked;
 mod lines;
 mod openings;
+mod outcomes;
 mod serving;
 mod stating;
 
+pub use asked::{Asked, Wanted, wanted_by};
 pub use openings::{Openings, state_openings};
-pub use transcript_cut::{AskedLine, Cutting, Said, cut, first_unchecked, number_events};
+pub use outcomes::{LeafOutcome, array_at, array_opened, outcome_after, place_next};
+pub use transcript_cut::{
+    AskedLine, Command, Cutting, EventNumbers, LineError, OpenPlan, Said, SpecLeaf, Tree, cut,
+    first_unchecked, number_events, read_command,
+};

@@ -24,3 +24,4 @@ pub use Rattle.transcript_laws.specs.Stances
 pub use Rattle.transcript_laws.specs.Standings
 pub use Rattle.transcript_laws.specs.Takings
 pub use Rattle.transcript_laws.specs.Transcript
+pub use Rattle.transcript_laws.specs.Unchecked
