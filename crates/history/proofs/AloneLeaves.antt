@@ -37,7 +37,7 @@ is_outcome : (events : History) (leaf : Leaf) (outcome : Outcome) → outcome_al
 is_outcome events leaf outcome is = record { stored = nothing; read = λ none. finmap.get-empty _ (metadata_key_asked leaf); same = sym is }
 
 -- no metadata is found where the store starts empty
-never_found : (events : History) (leaf : Leaf) (meta : Form) → outcome_alone events leaf ≢ found meta
+pub never_found : (events : History) (leaf : Leaf) (meta : Form) → outcome_alone events leaf ≢ found meta
 never_found events leaf meta = by (taken events (location_of_leaf leaf)) (array_at events (location_of_leaf leaf))
   where
     making : (r : Result Form (List ℕ)) → making_outcome r ≢ found meta
@@ -58,7 +58,7 @@ never_found events leaf meta = by (taken events (location_of_leaf leaf)) (array_
     by None (Some k) = either leaf.may_open (unless_differs (mismatch_of leaf.want (form_of k.info.home) k.shape) (there k)) exists (there_or (mismatch_of leaf.want (form_of k.info.home) k.shape) k) (λ is. absurd (cc))
 
 -- what is made is what is asked
-made_is : (events : History) (leaf : Leaf) (meta : Form) → outcome_alone events leaf ≡ made meta → form_made leaf.want ≡ Ok meta
+pub made_is : (events : History) (leaf : Leaf) (meta : Form) → outcome_alone events leaf ≡ made meta → form_made leaf.want ≡ Ok meta
 made_is events leaf meta = by (taken events (location_of_leaf leaf)) (array_at events (location_of_leaf leaf))
   where
     making : (r : Result Form (List ℕ)) → making_outcome r ≡ made meta → r ≡ Ok meta

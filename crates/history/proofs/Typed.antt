@@ -43,7 +43,7 @@ use Rattle.history.specs.Chunks.{chunk_of, chunk_index, within_chunk, chunk_key}
 use Rattle.history.specs.Content.{content_after, word_by, cut_to, present_shape, word_outside}
 use Rattle.history.specs.Start.{dense_word, word_at_start, opening_word, opening_word_in}
 use Rattle.history.specs.Touch.{touches, touches_by}
-use Rattle.history.specs.Legal.{IsLegal, IsLegalKind, IsLegalOp, IsAsMetadata, IsAsKept, viewed}
+use Rattle.history.specs.Legal.{IsLegal, IsLegalKind, IsLegalOp, AreWritten, IsAsMetadata, IsAsKept, viewed}
 use Rattle.history.specs.Refs.{IsKnownRef, HasKnownRef, HasKnownRefs}
 use Rattle.history.specs.Writes.{written, Put, Content, put, put_at, puts_of, puts_of_op}
 use Rattle.history.specs.declared.event.Op.{Op}
@@ -65,11 +65,11 @@ use Rattle.history.proofs.Written.{same_cells}
 use Rattle.stack_driver.specs.Cells.{cells_of}
 
 -- a target lies in an array, and the casts lead from that one's dtype to this one
-record IsTyped (events : History) (dtype : Dtype) (t : Target) : Type 0 where
-  known : Known
-  is_known : known_after events t.cell.array ≡ Some known
-  begins : BeginsWith known.info.dtype t.casts
-  ends : dtype_after known.info.dtype t.casts ≡ dtype
+pub record IsTyped (events : History) (dtype : Dtype) (t : Target) : Type 0 where
+  pub known : Known
+  pub is_known : known_after events t.cell.array ≡ Some known
+  pub begins : BeginsWith known.info.dtype t.casts
+  pub ends : dtype_after known.info.dtype t.casts ≡ dtype
 
 Typed : History → View → Type 0
 Typed events v = IsView v → HasKnownRefs events v → (index : List ℤ) (t : Target) → target_of v index ≡ Ok t → IsTyped events (look_of v).dtype t
@@ -148,7 +148,7 @@ module _ (start : Contents) (events : History) (legal : IsLegal start events) wh
   typed v = ind-View (Typed events) typed_step v
 
 -- a word is put at a cell of its dtype
-abbrev IsPutTyped : History → Put → Type 0
+abbrev pub IsPutTyped : History → Put → Type 0
 IsPutTyped events p = (k : Known) → known_after events p.0.array ≡ Some k → IsWord k.info.dtype p.1
 
 typed_puts : (start : Contents) (events : History) (view : View) (ts : List (Result Target TargetError)) (words : List ℕ) → IsLegal start events → AllByRecursion (λ r. (t : Target) → r ≡ Ok t → IsTyped events (look_of view).dtype t) ts → AllByRecursion (IsWord (look_of view).dtype) words
@@ -169,27 +169,34 @@ unfolding Typed
 typed_targets start events view legal valid refs [] = tt
 typed_targets start events view legal valid refs (x ∷ xs) = (typed start events legal view valid refs x, typed_targets start events view legal valid refs xs)
 
-all_targets : (start : Contents) (events : History) (view : View) → IsLegal start events → IsView view → HasKnownRefs events view → AllByRecursion (λ r. (t : Target) → r ≡ Ok t → IsTyped events (look_of view).dtype t) (targets_of view)
+-- each target of a view of known arrays
+pub all_targets : (start : Contents) (events : History) (view : View) → IsLegal start events → IsView view → HasKnownRefs events view → AllByRecursion (λ r. (t : Target) → r ≡ Ok t → IsTyped events (look_of view).dtype t) (targets_of view)
 unfolding targets_of
 all_targets start events view legal valid refs = typed_targets start events view legal valid refs (cells_of (look_of view).dims)
 
-typed_ops : (start : Contents) (events : History) (ops : List Op) → IsLegal start events → AllByRecursion (λ op. IsView (viewed op) × HasKnownRefs events (viewed op)) ops → AllByRecursion (IsLegalOp events) ops → AllByRecursion (IsPutTyped events) (puts_of ops)
+-- what operations put
+pub typed_ops : (start : Contents) (events : History) (ops : List Op) → IsLegal start events → AllByRecursion (λ op. IsView (viewed op) × HasKnownRefs events (viewed op)) ops → AllByRecursion AreWritten ops → AllByRecursion (IsPutTyped events) (puts_of ops)
 typed_ops start events [] legal known each = tt
 typed_ops start events (Write view words ∷ ops) legal known each =
-    all_with (IsPutTyped events) (puts_of_op (Write view words)) (puts_of ops) (typed_puts start events view (targets_of view) words legal (all_targets start events view legal known.0.0 known.0.1) each.0.words) (typed_ops start events ops legal known.1 each.1)
+    all_with (IsPutTyped events) (puts_of_op (Write view words)) (puts_of ops) (typed_puts start events view (targets_of view) words legal (all_targets start events view legal known.0.0 known.0.1) each.0) (typed_ops start events ops legal known.1 each.1)
 typed_ops start events (Read view words ∷ ops) legal known each = typed_ops start events ops legal known.1 each.1
+
+legal_words : (events : History) (ops : List Op) → AllByRecursion (IsLegalOp events) ops → AllByRecursion AreWritten ops
+legal_words events [] each = tt
+legal_words events (op ∷ ops) each = (each.0.words, legal_words events ops each.1)
 
 -- a word, if there is one, is of the dtype
 abbrev pub IsOf : Dtype → Option ℕ → Type 0
 IsOf dtype o = (w : ℕ) → o ≡ Some w → IsWord dtype w
 
-some_of : (dtype : Dtype) (w : ℕ) → IsWord dtype w → IsOf dtype (Some w)
+pub some_of : (dtype : Dtype) (w : ℕ) → IsWord dtype w → IsOf dtype (Some w)
 some_of dtype w word v is = subst (IsWord dtype) (some_inj w v is) word
 
-none_of : (dtype : Dtype) → IsOf dtype None
+pub none_of : (dtype : Dtype) → IsOf dtype None
 none_of dtype w is = absurd (none_is_none w is)
 
-puts_of_dtype : (events : History) (ps : List Put) (x : Cell) (k : Known) (f : Content) → known_after events x.array ≡ Some k → AllByRecursion (IsPutTyped events) ps → IsOf k.info.dtype (f x) → IsOf k.info.dtype (fold put f ps x)
+-- a cell that is put is of the dtype too
+pub puts_of_dtype : (events : History) (ps : List Put) (x : Cell) (k : Known) (f : Content) → known_after events x.array ≡ Some k → AllByRecursion (IsPutTyped events) ps → IsOf k.info.dtype (f x) → IsOf k.info.dtype (fold put f ps x)
 puts_of_dtype events [] x k f is each old = old
 puts_of_dtype events (p ∷ ps) x k f is each old = puts_of_dtype events ps x k (put f p) is each.1 (first (is_cell p.0 x) refl)
   where
@@ -279,7 +286,7 @@ module _ (start : Contents) (h : History) (x : Cell) (k : Known) (is : known_aft
       absurd (cc)
   touched_is (Done line mode ops key) next known t =
       let good = known_good start x.array h legal k is in
-      let new : IsOf k.info.dtype (written ops (λ y. content_after start h x) x) = puts_of_dtype h (puts_of ops) x k (λ y. content_after start h x) is (typed_ops start h ops legal known next.each) old in
+      let new : IsOf k.info.dtype (written ops (λ y. content_after start h x) x) = puts_of_dtype h (puts_of ops) x k (λ y. content_after start h x) is (typed_ops start h ops legal known (legal_words h ops next.each)) old in
       subst (λ o. IsOf k.info.dtype (cut_to o (present_shape o) x (written ops (λ y. content_after start h x) x))) (sym is) (cut_is k k.shape x (written ops (λ y. content_after start h x) x) good.kept new)
   touched_is (Resized a shape) next known t =
       let good = known_good start x.array h legal k is in

@@ -1,4 +1,4 @@
--- Each line that has a form is on the one mount, and brings in no array.
+-- The Spec that a line opens keeps the rules of Specs; so each line that has a form is on the one mount, and brings in no array.
 use Rattle.std.proofs.Common.{◌≡◌, ℕ, List, [], ◌∷◌, Option, Some, None, Result, Ok, Err, refl, ap}
 use Rattle.std.specs.Prelude.{codes, ◌==◌}
 use Rattle.serde_json.specs.Data.{Data}
@@ -9,6 +9,7 @@ use Rattle.line_forms.specs.declared.SpecError.{SpecError}
 use Rattle.line_forms.specs.Specs.{plan_of_spec}
 use Rattle.line_forms.specs.declared.OpenPlan.{OpenPlan}
 use Rattle.line_forms.proofs.Laws.{plan_sound}
+use Rattle.line_forms.specs.Form as forms
 use Rattle.history.specs.Alone.{IsLineOn}
 use Rattle.history.specs.Bound.{IsLineWithin}
 use Rattle.line_forms.specs.Form.{Form, opening, viewing, joining, reading, writing, beginning, committing, aborting, resizing, resolving}
@@ -28,14 +29,22 @@ use Rattle.line_meanings.proofs.KnownUnder.{changes_within}
 use Rattle.line_meanings.proofs.KnownJoined.{join_within}
 use Rattle.line_meanings.proofs.Given.{Gives, one, nothing, then, sound, inside, either}
 
-module _ (mount : List ℕ) where
-  -- what the form asks is on the mount, and within what it is given
-  pub record IsOfMount (form : Form) : Type 0 where
-    pub on : IsLineOn mount (line_of form)
-    pub within : IsLineWithin (line_of form)
+-- a form that opens a Spec opens a sound one
+abbrev pub OpensSound : List (List ℕ) → Form → Type 0
+OpensSound names (opening name plan) = forms.IsSound names (Open name plan)
+OpensSound names (viewing name of transform steps) = Unit {0}
+OpensSound names (joining name kind layers transform steps) = Unit {0}
+OpensSound names (reading name steps down) = Unit {0}
+OpensSound names (writing name steps values) = Unit {0}
+OpensSound names (beginning atomic repeatable_read) = Unit {0}
+OpensSound names committing = Unit {0}
+OpensSound names aborting = Unit {0}
+OpensSound names (resizing name shape) = Unit {0}
+OpensSound names (resolving name) = Unit {0}
 
+module _ (mount : List ℕ) where
   abbrev Good : Result Form LineError → Type 0
-  Good = Gives IsOfMount
+  Good = Gives (OpensSound (mount ∷ []))
 
   plan_from : (r : Result OpenPlan SpecError) (plan : OpenPlan) → plan_read r ≡ Ok plan → r ≡ Ok plan
   plan_from (Ok p) plan is = let same : p ≡ plan = cc in ap (λ q. Ok q) same
@@ -45,54 +54,53 @@ module _ (mount : List ℕ) where
   planned None plan is = absurd (let no_such : ⊥ = cc in no_such)
   planned (Some s) plan is = (s, plan_from (plan_of_spec (mount ∷ []) s) plan is)
 
-  opens : (d : Data) (name : List ℕ) (plan : OpenPlan) → plan_in (mount ∷ []) d ≡ Ok plan → IsOfMount (opening name plan)
+  opens : (d : Data) (name : List ℕ) (plan : OpenPlan) → plan_in (mount ∷ []) d ≡ Ok plan → OpensSound (mount ∷ []) (opening name plan)
   unfolding plan_in
   opens d name plan is =
       let spec = planned (get (codes "spec") d) plan is in
-      let fit = plan_sound (mount ∷ []) spec.0 plan spec.1 in
-      record { on = line_on mount (Open name plan) fit; within = line_within (mount ∷ []) (Open name plan) fit }
+      plan_sound (mount ∷ []) spec.0 plan spec.1
 
   open_good : (d : Data) → Good (open_form (mount ∷ []) d)
   unfolding open_form
   open_good d =
-      sound IsOfMount (open_fault d) (opened (mount ∷ []) d)
-      (then IsOfMount (name_in (codes "open") d) (opened_as (mount ∷ []) d)
-      (λ name is. then IsOfMount (plan_in (mount ∷ []) d) (λ plan. Ok (opening name plan)) (λ plan are. one IsOfMount (opening name plan) (opens d name plan are))))
+      sound (OpensSound (mount ∷ [])) (open_fault d) (opened (mount ∷ []) d)
+      (then (OpensSound (mount ∷ [])) (name_in (codes "open") d) (opened_as (mount ∷ []) d)
+      (λ name is. then (OpensSound (mount ∷ [])) (plan_in (mount ∷ []) d) (λ plan. Ok (opening name plan)) (λ plan are. one (OpensSound (mount ∷ [])) (opening name plan) (opens d name plan are))))
 
   read_good : (d : Data) → Good (read_form d)
   unfolding read_form
   read_good d =
-      sound IsOfMount (read_fault d) (read_so (down_at d) d)
-      (then IsOfMount (name_in (codes "read") d) (read_as (down_at d) d)
-      (λ name is. then IsOfMount (steps_in d) (λ steps. Ok (reading name steps (down_at d))) (λ steps are. one IsOfMount (reading name steps (down_at d)) (record { on = tt; within = changes_within None steps }))))
+      sound (OpensSound (mount ∷ [])) (read_fault d) (read_so (down_at d) d)
+      (then (OpensSound (mount ∷ [])) (name_in (codes "read") d) (read_as (down_at d) d)
+      (λ name is. then (OpensSound (mount ∷ [])) (steps_in d) (λ steps. Ok (reading name steps (down_at d))) (λ steps are. one (OpensSound (mount ∷ [])) (reading name steps (down_at d)) tt)))
 
   write_good : (d : Data) → Good (write_form d)
   unfolding write_form
   write_good d =
-      sound IsOfMount (write_fault d) (written d)
-      (then IsOfMount (name_in (codes "write") d) (written_as d)
-      (λ name is. then IsOfMount (steps_in d) (written_by d name)
-      (λ steps are. then IsOfMount (needed (codes "values") (get (codes "values") d)) (λ values. Ok (writing name steps values))
-      (λ values so. one IsOfMount (writing name steps values) (record { on = tt; within = changes_within None steps })))))
+      sound (OpensSound (mount ∷ [])) (write_fault d) (written d)
+      (then (OpensSound (mount ∷ [])) (name_in (codes "write") d) (written_as d)
+      (λ name is. then (OpensSound (mount ∷ [])) (steps_in d) (written_by d name)
+      (λ steps are. then (OpensSound (mount ∷ [])) (needed (codes "values") (get (codes "values") d)) (λ values. Ok (writing name steps values))
+      (λ values so. one (OpensSound (mount ∷ [])) (writing name steps values) tt))))
 
   of_good : (d : Data) → Good (of_form d)
   unfolding of_form
   of_good d =
-      inside IsOfMount (codes "transform") (view_fault d) (transform_in d) (viewed d)
-      (λ transform. then IsOfMount (name_in (codes "view") d) (viewed_as transform d)
-      (λ name is. then IsOfMount (name_in (codes "of") d) (viewed_of transform d name)
-      (λ of are. then IsOfMount (steps_in d) (λ steps. Ok (viewing name of transform steps))
-      (λ steps so. one IsOfMount (viewing name of transform steps) (record { on = tt; within = changes_within transform steps })))))
+      inside (OpensSound (mount ∷ [])) (codes "transform") (view_fault d) (transform_in d) (viewed d)
+      (λ transform. then (OpensSound (mount ∷ [])) (name_in (codes "view") d) (viewed_as transform d)
+      (λ name is. then (OpensSound (mount ∷ [])) (name_in (codes "of") d) (viewed_of transform d name)
+      (λ of are. then (OpensSound (mount ∷ [])) (steps_in d) (λ steps. Ok (viewing name of transform steps))
+      (λ steps so. one (OpensSound (mount ∷ [])) (viewing name of transform steps) tt))))
 
   joined_good : (k : List ℕ) (fault : Option (List ℕ)) (form : Option JoinForm) (layers : Option (List (List ℕ))) (d : Data) → Good (joined k fault form layers d)
   unfolding joined
   joined_good k fault form layers d =
-      inside IsOfMount (codes "transform") fault (transform_in d) (join_in k form layers d)
-      (λ transform. then IsOfMount (name_in (codes "view") d) (join_as k form layers d transform)
-      (λ name is. then IsOfMount (needed (codes "axis") form) (join_by k layers d transform name)
-      (λ kind are. then IsOfMount (needed k layers) (join_of d transform name kind)
-      (λ names so. then IsOfMount (steps_in d) (λ steps. Ok (joining name kind names transform steps))
-      (λ steps all. one IsOfMount (joining name kind names transform steps) (record { on = tt; within = (join_within kind, changes_within transform steps) }))))))
+      inside (OpensSound (mount ∷ [])) (codes "transform") fault (transform_in d) (join_in k form layers d)
+      (λ transform. then (OpensSound (mount ∷ [])) (name_in (codes "view") d) (join_as k form layers d transform)
+      (λ name is. then (OpensSound (mount ∷ [])) (needed (codes "axis") form) (join_by k layers d transform name)
+      (λ kind are. then (OpensSound (mount ∷ [])) (needed k layers) (join_of d transform name kind)
+      (λ names so. then (OpensSound (mount ∷ [])) (steps_in d) (λ steps. Ok (joining name kind names transform steps))
+      (λ steps all. one (OpensSound (mount ∷ [])) (joining name kind names transform steps) tt)))))
 
   overlay_good : (d : Data) → Good (overlay_form d)
   unfolding overlay_form
@@ -109,69 +117,82 @@ module _ (mount : List ℕ) where
   view_good : (d : Data) → Good (view_form d)
   unfolding view_form
   view_good d =
-      either IsOfMount (has (codes "concat") d) _ _ (concat_good d)
-      (either IsOfMount (has (codes "of") d) _ _ (of_good d)
-      (either IsOfMount (has (codes "overlay") d) _ _ (overlay_good d)
-      (either IsOfMount (has (codes "stack") d) _ _ (stack_good d) (of_good d))))
+      either (OpensSound (mount ∷ [])) (has (codes "concat") d) _ _ (concat_good d)
+      (either (OpensSound (mount ∷ [])) (has (codes "of") d) _ _ (of_good d)
+      (either (OpensSound (mount ∷ [])) (has (codes "overlay") d) _ _ (overlay_good d)
+      (either (OpensSound (mount ∷ [])) (has (codes "stack") d) _ _ (stack_good d) (of_good d))))
 
   begin_good : (d : Data) → Good (begin_form d)
   unfolding begin_form
   begin_good d =
-      inside IsOfMount (codes "begin") (least_unknown (codes "begin" ∷ []) d) (flags_given (get (codes "begin") d)) (λ flags. Ok (beginning flags.0 flags.1))
-      (λ flags. one IsOfMount (beginning flags.0 flags.1) (record { on = tt; within = tt }))
+      inside (OpensSound (mount ∷ [])) (codes "begin") (least_unknown (codes "begin" ∷ []) d) (flags_given (get (codes "begin") d)) (λ flags. Ok (beginning flags.0 flags.1))
+      (λ flags. one (OpensSound (mount ∷ [])) (beginning flags.0 flags.1) tt)
 
-  word_good : (k : List ℕ) (form : Form) (d : Data) → IsOfMount form → Good (word_form k form d)
+  word_good : (k : List ℕ) (form : Form) (d : Data) → OpensSound (mount ∷ []) form → Good (word_form k form d)
   unfolding word_form
-  word_good k form d keeps = sound IsOfMount (earlier (least_unknown (k ∷ []) d) (not_true k d)) (Ok form) (one IsOfMount form keeps)
+  word_good k form d keeps = sound (OpensSound (mount ∷ [])) (earlier (least_unknown (k ∷ []) d) (not_true k d)) (Ok form) (one (OpensSound (mount ∷ [])) form keeps)
 
   resize_good : (d : Data) → Good (resize_form d)
   unfolding resize_form
   resize_good d =
-      sound IsOfMount (resize_fault d) (resized (shape_at d) d)
-      (then IsOfMount (name_in (codes "resize") d) (resized_as (shape_at d))
-      (λ name is. then IsOfMount (needed (codes "shape") (shape_at d)) (λ sizes. Ok (resizing name sizes)) (λ sizes are. one IsOfMount (resizing name sizes) (record { on = tt; within = tt }))))
+      sound (OpensSound (mount ∷ [])) (resize_fault d) (resized (shape_at d) d)
+      (then (OpensSound (mount ∷ [])) (name_in (codes "resize") d) (resized_as (shape_at d))
+      (λ name is. then (OpensSound (mount ∷ [])) (needed (codes "shape") (shape_at d)) (λ sizes. Ok (resizing name sizes)) (λ sizes are. one (OpensSound (mount ∷ [])) (resizing name sizes) tt)))
 
   resolve_good : (d : Data) → Good (resolve_form d)
   unfolding resolve_form
   resolve_good d =
-      sound IsOfMount (earlier (least_unknown (codes "resolve" ∷ []) d) (no_name (codes "resolve") d)) (resolved d)
-      (then IsOfMount (name_in (codes "resolve") d) (λ name. Ok (resolving name)) (λ name is. one IsOfMount (resolving name) (record { on = tt; within = tt })))
+      sound (OpensSound (mount ∷ [])) (earlier (least_unknown (codes "resolve" ∷ []) d) (no_name (codes "resolve") d)) (resolved d)
+      (then (OpensSound (mount ∷ [])) (name_in (codes "resolve") d) (λ name. Ok (resolving name)) (λ name is. one (OpensSound (mount ∷ [])) (resolving name) tt))
 
   small_good : (d : Data) → Good (small_form d)
   unfolding small_form
   small_good d =
-      either IsOfMount (has (codes "begin") d) _ _ (begin_good d)
-      (either IsOfMount (has (codes "commit") d) _ _ (word_good (codes "commit") committing d (record { on = tt; within = tt }))
-      (either IsOfMount (has (codes "abort") d) _ _ (word_good (codes "abort") aborting d (record { on = tt; within = tt }))
-      (either IsOfMount (has (codes "resize") d) _ _ (resize_good d) (resolve_good d))))
+      either (OpensSound (mount ∷ [])) (has (codes "begin") d) _ _ (begin_good d)
+      (either (OpensSound (mount ∷ [])) (has (codes "commit") d) _ _ (word_good (codes "commit") committing d tt)
+      (either (OpensSound (mount ∷ [])) (has (codes "abort") d) _ _ (word_good (codes "abort") aborting d tt)
+      (either (OpensSound (mount ∷ [])) (has (codes "resize") d) _ _ (resize_good d) (resolve_good d))))
 
   other_good : (d : Data) → Good (other_form d)
   unfolding other_form
   other_good d =
-      either IsOfMount (has (codes "view") d) _ _ (view_good d)
-      (either IsOfMount (has (codes "read") d) _ _ (read_good d)
-      (either IsOfMount (has (codes "write") d) _ _ (write_good d) (small_good d)))
+      either (OpensSound (mount ∷ [])) (has (codes "view") d) _ _ (view_good d)
+      (either (OpensSound (mount ∷ [])) (has (codes "read") d) _ _ (read_good d)
+      (either (OpensSound (mount ∷ [])) (has (codes "write") d) _ _ (write_good d) (small_good d)))
 
   in_good : (d : Data) → Good (command_in (mount ∷ []) d)
   unfolding command_in
-  in_good d = either IsOfMount (has (codes "open") d) _ _ (open_good d) (other_good d)
+  in_good d = either (OpensSound (mount ∷ [])) (has (codes "open") d) _ _ (open_good d) (other_good d)
 
   found_good : (found : Option Data) → Good (command_of_found (mount ∷ []) found)
-  found_good None = nothing IsOfMount _
-  found_good (Some d) = either IsOfMount (command_count d == 1) (command_in (mount ∷ []) d) _ (in_good d) (nothing IsOfMount _)
+  found_good None = nothing (OpensSound (mount ∷ [])) _
+  found_good (Some d) = either (OpensSound (mount ∷ [])) (command_count d == 1) (command_in (mount ∷ []) d) _ (in_good d) (nothing (OpensSound (mount ∷ [])) _)
 
-  refused_on : (fault : Option _) → IsLineOn mount (refused_by fault)
-  refused_on None = tt
-  refused_on (Some f) = tt
+  -- so does each line's form
+  pub form_sound : (bytes : List ℕ) (form : Form) → command_of_line (mount ∷ []) bytes ≡ Ok form → OpensSound (mount ∷ []) form
+  form_sound bytes form is = (found_good (data_of bytes)).each form is
 
-  refused_within : (fault : Option _) → IsLineWithin (refused_by fault)
-  refused_within None = tt
-  refused_within (Some f) = tt
+  -- what a form asks is on the mount, and within what it is given
+  form_of_mount : (form : Form) → OpensSound (mount ∷ []) form → IsLineOn mount (line_of form) × IsLineWithin (line_of form)
+  form_of_mount (opening name plan) sound = (line_on mount (Open name plan) sound, line_within (mount ∷ []) (Open name plan) sound)
+  form_of_mount (viewing name of transform steps) sound = (tt, changes_within transform steps)
+  form_of_mount (joining name kind layers transform steps) sound = (tt, (join_within kind, changes_within transform steps))
+  form_of_mount (reading name steps down) sound = (tt, changes_within None steps)
+  form_of_mount (writing name steps values) sound = (tt, changes_within None steps)
+  form_of_mount (beginning atomic repeatable_read) sound = (tt, tt)
+  form_of_mount committing sound = (tt, tt)
+  form_of_mount aborting sound = (tt, tt)
+  form_of_mount (resizing name shape) sound = (tt, tt)
+  form_of_mount (resolving name) sound = (tt, tt)
 
-  line_good : (r : Result Form LineError) → Good r → IsLineOn mount (line_in r) × IsLineWithin (line_in r)
-  line_good (Ok form) keeps = let each = keeps.each form refl in (each.on, each.within)
-  line_good (Err e) keeps = (refused_on (form_error e), refused_within (form_error e))
+  refused_of_mount : (fault : Option _) → IsLineOn mount (refused_by fault) × IsLineWithin (refused_by fault)
+  refused_of_mount None = (tt, tt)
+  refused_of_mount (Some f) = (tt, tt)
 
   -- the bytes of a line
   pub bytes_of_mount : (bytes : List ℕ) → IsLineOn mount (line_of_bytes (mount ∷ []) bytes) × IsLineWithin (line_of_bytes (mount ∷ []) bytes)
-  bytes_of_mount bytes = line_good (command_of_line (mount ∷ []) bytes) (found_good (data_of bytes))
+  bytes_of_mount bytes = by (command_of_line (mount ∷ []) bytes) refl
+    where
+      by : (r : Result Form LineError) → command_of_line (mount ∷ []) bytes ≡ r → IsLineOn mount (line_in r) × IsLineWithin (line_in r)
+      by (Ok form) is = form_of_mount form (form_sound bytes form is)
+      by (Err e) is = refused_of_mount (form_error e)

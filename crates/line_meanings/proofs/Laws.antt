@@ -15,5 +15,7 @@ pub use Rattle.line_meanings.proofs.KnownForms.{known_leaf, known_cast, known_st
 pub use Rattle.line_meanings.proofs.Outputs.{applied-outputs}
 -- where one mount has a name, the bytes of a line ask for stored arrays of that mount alone, and bring in no array that they weren't given
 pub use Rattle.line_meanings.proofs.Forms.{bytes_of_mount}
+-- and the Spec that it opens keeps the rules of Specs
+pub use Rattle.line_meanings.proofs.Forms.{OpensSound, form_sound}
 -- a law of a crate below, given on to those above
 pub use Rattle.line_answers.proofs.Laws.{refusal_told}

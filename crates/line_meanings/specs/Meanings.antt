@@ -1,11 +1,12 @@
 -- What a line means to the history.
-use Rattle.std.specs.Prelude.{ℕ, List, [], Option, Some, None, Result, Ok, Err}
+use Rattle.std.specs.Prelude.{ℕ, List, [], map, Option, Some, None, Result, Ok, Err, if◌then◌else◌}
 use Rattle.history.specs.Lines.{FormError, bad_line, Line}
 use Rattle.history.specs.Lines as history
 use Rattle.line_answers.specs.Refusals.{form_error}
 use Rattle.line_forms.specs.Form.{Form, opening, viewing, joining, reading, writing, beginning, committing, aborting, resizing, resolving}
 use Rattle.line_forms.specs.Lines.{command_of_line}
 use Rattle.line_forms.specs.declared.LineError.{LineError}
+use Rattle.script_lines.specs.Script.{lines_of, is_blank}
 use Rattle.line_meanings.specs.Changes.{changes_of}
 use Rattle.line_meanings.specs.Openings.{leaves_of, build_of}
 use Rattle.line_meanings.specs.Joins.{join_of}
@@ -36,3 +37,11 @@ line_in (Err e) = refused_by (form_error e)
 -- what the bytes of a line mean, where these are the names of mounts
 abbrev pub line_of_bytes : List (List ℕ) → List ℕ → Line
 line_of_bytes names bytes = line_in (command_of_line names bytes)
+
+-- what a line of a script asks, where these are the names of mounts: nothing where it is blank
+abbrev pub asked_line : List (List ℕ) → List ℕ → Option Line
+asked_line names line = if is_blank line then None else Some (line_of_bytes names line)
+
+-- what a script asks, line by line
+abbrev pub asked_by : List (List ℕ) → List ℕ → List (Option Line)
+asked_by names script = map (asked_line names) (lines_of script)

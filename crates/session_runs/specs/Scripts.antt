@@ -1,19 +1,10 @@
 -- A session that is given the lines of a script.
-use Rattle.std.specs.Prelude.{◌≡◌, ◌⊎◌, ℕ, ◌+◌, List, [], ◌∷◌, ◌++◌, length, map, true, false, Option, Some, None, if◌then◌else◌}
+use Rattle.std.specs.Prelude.{◌≡◌, ◌⊎◌, ℕ, ◌+◌, List, [], ◌∷◌, ◌++◌, length, true, false, Option}
 use Rattle.history.specs.Lines.{Line}
-use Rattle.session_openings.specs.Meanings.{line_of_bytes}
-use Rattle.script_lines.specs.Script.{lines_of, is_blank}
+pub use Rattle.session_openings.specs.Meanings.{asked_line, asked_by}
 use Rattle.session_runs.specs.Session.{SessionSeen, IsSessionOn}
 use Rattle.state_laws.specs.Agreement.{Opening}
 use Rattle.turn_book.specs.Passes.{BookView}
-
--- what a line asks, where these are the names of the mounts: nothing where it is blank
-abbrev pub asked_line : List (List ℕ) → List ℕ → Option Line
-asked_line mounts line = if is_blank line then None else Some (line_of_bytes mounts line)
-
--- what a script asks, line by line
-abbrev pub asked_by : List (List ℕ) → List ℕ → List (Option Line)
-asked_by mounts script = map (asked_line mounts) (lines_of script)
 
 -- the session was given the script's lines from the first on: all of them, or up to where memory was wanting
 pub record HasRunScript (book : BookView Opening) (mounts : List (List ℕ)) (script : List ℕ) (s : SessionSeen) : Type 0 where

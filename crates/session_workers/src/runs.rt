@@ -31,7 +31,7 @@ pub struct Finished<K: KvStore> {
     pub unfinished: Vec<u32>,
 }
 
-/// Runs each script in a session of its own over the mounts, which come back finished. Session i is dealt to worker i modulo their number,
+/// Runs each script in a session of its own over the mounts, which come back finished or listed. Session i is dealt to worker i modulo their number,
 /// and the last `behind` sessions to a worker of their own, behind all others; the cache is to hold at most so many cells. No clause says
 /// which worker had which session, or what the cache held.
 ///

@@ -6,7 +6,7 @@ use Rattle.line_forms.specs.Form as form
 use Rattle.line_forms.specs.Lines.{command_of_line}
 use Rattle.line_forms.specs.declared.LineError.{LineError}
 use Rattle.line_meanings.specs.Refusals.{form_error}
-use Rattle.line_meanings.specs.Meanings.{line_of, line_in, line_of_bytes, refused_by}
+use Rattle.line_meanings.specs.Meanings.{line_of, line_in, line_of_bytes, refused_by, asked_line}
 use Rattle.script_lines.specs.Script.{lines_of, is_blank}
 use Rattle.stack_driver.specs.Views.{look_of}
 use Rattle.stack_driver.specs.declared.view.View.{View}
@@ -19,7 +19,7 @@ use Rattle.history.proofs.Asking.{IsAskedBy, named_by, changes_by, without_by, v
 use Rattle.serial_runs.specs.Runs.{Script}
 use Rattle.transcript_laws.specs.Transcript.{mount, ScriptLine, lines_from, lines_of_scripts}
 use Rattle.transcript_laws.specs.Unchecked.{is_unchecked_form, is_unchecked_in, is_unchecked, AreChecked}
-use Rattle.transcript_laws.specs.Outputs.{asked_line, scripts_of}
+use Rattle.transcript_laws.specs.Outputs.{scripts_of}
 
 -- a line that is checked: no resize, resolve, downsampled read or join
 abbrev pub IsCheckedLine : Line → Type 0
@@ -96,9 +96,9 @@ by_blank : (session n : ℕ) (bytes : List ℕ) (rest : List ScriptLine) (lines 
 by_blank session n bytes rest lines true more are = (tt, more are)
 by_blank session n bytes rest lines false more are = (line_checked session n bytes are.0, more are.1)
 
-lines_checked : (session n : ℕ) (lines : List (List ℕ)) → AreAllChecked (lines_from session n lines) → AreCheckedLines (map asked_line lines)
+lines_checked : (session n : ℕ) (lines : List (List ℕ)) → AreAllChecked (lines_from session n lines) → AreCheckedLines (map (asked_line (mount ∷ [])) lines)
 lines_checked session n [] are = tt
-lines_checked session n (bytes ∷ lines) are = by_blank session n bytes (lines_from session (n + 1) lines) (map asked_line lines) (is_blank bytes) (lines_checked session (n + 1) lines) are
+lines_checked session n (bytes ∷ lines) are = by_blank session n bytes (lines_from session (n + 1) lines) (map (asked_line (mount ∷ [])) lines) (is_blank bytes) (lines_checked session (n + 1) lines) are
 
 scripts_checked : (session : ℕ) (scripts : List (List ℕ)) → AreAllChecked (lines_of_scripts session scripts) → AllByRecursion AreCheckedLines (scripts_of scripts)
 scripts_checked session [] are = tt

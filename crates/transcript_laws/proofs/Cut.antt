@@ -11,11 +11,11 @@ use Rattle.history.specs.Answers.{Answer}
 use Rattle.history.specs.Commit.{Fixed}
 use Rattle.history.specs.History.{History}
 use Rattle.line_meanings.specs.Bodies.{answer_of, text_of}
-use Rattle.line_meanings.specs.Meanings.{line_of_bytes}
+use Rattle.line_meanings.specs.Meanings.{line_of_bytes, asked_line, asked_by}
 use Rattle.script_lines.specs.Script.{lines_of, is_blank}
 use Rattle.serial_runs.specs.Runs.{Script}
 use Rattle.transcript_laws.specs.Transcript.{mount, ScriptLine, lines_from, lines_of_scripts, Told, IsToldOf, AreToldOf, IsCut}
-use Rattle.transcript_laws.specs.Outputs.{asked_line, script_of, scripts_of, text_of_logs, ArePrintable, told_answer, told_log, told_logs, IsOutput, told_of_output}
+use Rattle.transcript_laws.specs.Outputs.{scripts_of, text_of_logs, ArePrintable, told_answer, told_log, told_logs, IsOutput, told_of_output}
 use Rattle.transcript_laws.proofs.Runs.{AreAnswersTo, HaveRunAll, run_answers, all_run}
 
 abbrev IsReadBack : Answer → Type 0
@@ -52,11 +52,11 @@ by_blank session n bytes rest lines true log more are printable = more log are p
 by_blank session n bytes rest lines false [] more are printable = absurd are
 by_blank session n bytes rest lines false (a ∷ log) more are printable = (told_of_line session n bytes a are.0 printable.0, more log are.1 printable.1)
 
-told_each : (session n : ℕ) (lines : List (List ℕ)) (log : List Answer) → AreAnswersTo n (map asked_line lines) log → AllByRecursion IsReadBack log → AreToldOf (lines_from session n lines) (told_log session n (map asked_line lines) log)
+told_each : (session n : ℕ) (lines : List (List ℕ)) (log : List Answer) → AreAnswersTo n (map (asked_line (mount ∷ [])) lines) log → AllByRecursion IsReadBack log → AreToldOf (lines_from session n lines) (told_log session n (map (asked_line (mount ∷ [])) lines) log)
 told_each session n [] [] are printable = tt
 told_each session n [] (a ∷ log) are printable = absurd are
 told_each session n (bytes ∷ lines) log are printable =
-    by_blank session n bytes (lines_from session (n + 1) lines) (map asked_line lines) (is_blank bytes) log (told_each session (n + 1) lines) are printable
+    by_blank session n bytes (lines_from session (n + 1) lines) (map (asked_line (mount ∷ [])) lines) (is_blank bytes) log (told_each session (n + 1) lines) are printable
 
 told_both : (lines more : List ScriptLine) (told other : List Told) → AreToldOf lines told → AreToldOf more other → AreToldOf (lines ++ more) (told ++ other)
 told_both [] more [] other is are = are
@@ -69,7 +69,7 @@ told_all session [] [] are printable = tt
 told_all session [] (log ∷ logs) are printable = absurd are
 told_all session (script ∷ scripts) [] are printable = absurd are
 told_all session (script ∷ scripts) (log ∷ logs) are printable =
-    told_both (lines_from session 1 (lines_of script)) (lines_of_scripts (session + 1) scripts) (told_log session 1 (script_of script) log) (told_logs (session + 1) (scripts_of scripts) logs)
+    told_both (lines_from session 1 (lines_of script)) (lines_of_scripts (session + 1) scripts) (told_log session 1 (asked_by (mount ∷ []) script) log) (told_logs (session + 1) (scripts_of scripts) logs)
     (told_each session 1 (lines_of script) log are.0 printable.0) (told_all (session + 1) scripts logs are.1 printable.1)
 
 abbrev texts : List Told → List ℕ

@@ -34,7 +34,6 @@ pub mod Refusing
 pub mod OpenFits
 pub mod Answering
 pub mod Answered
-pub mod Planned
 pub mod Views
 pub mod Valid
 pub mod Typed

@@ -8,7 +8,7 @@ use Rattle.history.specs.Commit.{Fixed}
 use Rattle.history.specs.History.{History}
 use Rattle.history.specs.Own as own
 use Rattle.history.specs.Own.{own_events}
-use Rattle.line_meanings.specs.Meanings.{line_of_bytes}
+use Rattle.line_meanings.specs.Meanings.{line_of_bytes, asked_line}
 use Rattle.line_meanings.proofs.Laws.{bytes_of_mount}
 use Rattle.script_lines.specs.Script.{lines_of, is_blank}
 use Rattle.serial_runs.specs.Attempts.{blames_store}
@@ -18,7 +18,7 @@ use Rattle.serial_runs.specs.Serial.{IsSerialSession}
 use Rattle.serial_runs.proofs.Laws.{serial_session}
 use Rattle.transcript_laws.specs.Transcript.{mount}
 use Rattle.transcript_laws.specs.Numbers.{numbers_of, AreNumbered}
-use Rattle.transcript_laws.specs.Outputs.{asked_line, scripts_of, told_log, IsOutput, told_of_output}
+use Rattle.transcript_laws.specs.Outputs.{scripts_of, told_log, IsOutput, told_of_output}
 use Rattle.transcript_laws.proofs.Apart.{IsApart, counted_of, run_apart}
 use Rattle.transcript_laws.proofs.Checked.{AreCheckedLines, all_checked}
 use Rattle.transcript_laws.proofs.Numbers.{IsNumbered, AreOwnNumbers, log_numbers, are_numbered}
@@ -32,11 +32,11 @@ one_within : (blank : Bool) (line : List ℕ) → IsWithin (cond blank None (Som
 one_within true line = tt
 one_within false line = (bytes_of_mount mount line).1
 
-each_on : (lines : List (List ℕ)) → AllByRecursion (IsOn mount) (map asked_line lines)
+each_on : (lines : List (List ℕ)) → AllByRecursion (IsOn mount) (map (asked_line (mount ∷ [])) lines)
 each_on [] = tt
 each_on (line ∷ lines) = (one_on (is_blank line) line, each_on lines)
 
-each_within : (lines : List (List ℕ)) → AllByRecursion IsWithin (map asked_line lines)
+each_within : (lines : List (List ℕ)) → AllByRecursion IsWithin (map (asked_line (mount ∷ [])) lines)
 each_within [] = tt
 each_within (line ∷ lines) = (one_within (is_blank line) line, each_within lines)
 

@@ -15,11 +15,12 @@ use Rattle.history.specs.Leaves.{Leaf, nothing, location_of_leaf}
 use Rattle.history.specs.Legal.{IsLegal}
 use Rattle.history.specs.Lines.{SpecLeaf, given, stored}
 use Rattle.history.specs.OpenRows.{AreOpened, no_leaf, known_leaf, new_leaf, given_leaf, IsNew, read_there, made_here, next_array, new_ref, given_info}
-use Rattle.history.specs.Outcomes.{Outcome, exists, there, found, not_found, made, IsOutcome, unless_differs, making_outcome, outcome_at, unless_taken, new_info}
+use Rattle.history.specs.Outcomes.{exists, there, found, not_found, made, IsOutcome, unless_differs, making_outcome, outcome_at, unless_taken, new_info}
 use Rattle.history.specs.Own as own
 use Rattle.history.specs.Own.{Numbered, opened_event}
 use Rattle.history.specs.Places.{array_at, taken}
 use Rattle.history.specs.SingleOpen.{outcome_alone}
+use Rattle.history.proofs.AloneLeaves.{made_is, never_found}
 use Rattle.history.proofs.AloneOpens.{outcome_is}
 use Rattle.history.proofs.Openings.{free_of_made}
 use Rattle.transcript_laws.specs.Claimed.{at_number, opening_of}
@@ -52,52 +53,6 @@ module _ (events : History) (leaf : Leaf) where
       by None None is = absurd (at_none leaf.may_create is)
       by None (Some l) is = at_some leaf.may_open l is
 
-  -- over a store that starts empty none is read from it
-  never_read : (meta : Form) → outcome_alone events leaf ≢ found meta
-  never_read meta = by (taken events (location_of_leaf leaf)) (array_at events (location_of_leaf leaf))
-    where
-      making : (r : Result Form (List ℕ)) → making_outcome r ≢ found meta
-      making (Ok other) = λ is. absurd (cc)
-      making (Err member) = λ is. absurd (cc)
-
-      there_or : (o : Option (List ℕ)) (k : Known) → unless_differs o (there k) ≢ found meta
-      there_or None k = λ is. absurd (cc)
-      there_or (Some member) k = λ is. absurd (cc)
-
-      either : (b : Bool) (x y : Outcome) → x ≢ found meta → y ≢ found meta → cond b x y ≢ found meta
-      either true x y p q = p
-      either false x y p q = q
-
-      by : (t : Option (List ℕ)) (o : Option Known) → unless_taken t (outcome_at leaf nothing o) ≢ found meta
-      by (Some other) o = λ is. absurd (cc)
-      by None None = either leaf.may_create (making_outcome (form_made leaf.want)) not_found (making (form_made leaf.want)) (λ is. absurd (cc))
-      by None (Some k) = either leaf.may_open (unless_differs (mismatch_of leaf.want (form_of k.info.home) k.shape) (there k)) exists (there_or (mismatch_of leaf.want (form_of k.info.home) k.shape) k) (λ is. absurd (cc))
-
-  -- what is made is what is asked
-  made_asked : (meta : Form) → outcome_alone events leaf ≡ made meta → form_made leaf.want ≡ Ok meta
-  made_asked meta = by (taken events (location_of_leaf leaf)) (array_at events (location_of_leaf leaf))
-    where
-      making : (r : Result Form (List ℕ)) → making_outcome r ≡ made meta → r ≡ Ok meta
-      making (Ok other) is = let same : other ≡ meta = cc in ap Ok same
-      making (Err member) is = absurd (cc)
-
-      there_or : (o : Option (List ℕ)) (k : Known) → unless_differs o (there k) ≢ made meta
-      there_or None k = λ is. absurd (cc)
-      there_or (Some member) k = λ is. absurd (cc)
-
-      at_none : (b : Bool) → cond b (making_outcome (form_made leaf.want)) not_found ≡ made meta → form_made leaf.want ≡ Ok meta
-      at_none true is = making (form_made leaf.want) is
-      at_none false is = absurd (cc)
-
-      at_some : (b : Bool) (k : Known) → cond b (unless_differs (mismatch_of leaf.want (form_of k.info.home) k.shape) (there k)) exists ≢ made meta
-      at_some true k = there_or (mismatch_of leaf.want (form_of k.info.home) k.shape) k
-      at_some false k = λ is. absurd (cc)
-
-      by : (t : Option (List ℕ)) (o : Option Known) → unless_taken t (outcome_at leaf nothing o) ≡ made meta → form_made leaf.want ≡ Ok meta
-      by (Some other) o is = absurd (cc)
-      by None None is = at_none leaf.may_create is
-      by None (Some k) is = absurd (at_some leaf.may_open k is)
-
   -- a new array is made as it is asked, at a free place
   pub record IsMade (meta : Form) : Type 0 where
     pub asked : form_made leaf.want ≡ Ok meta
@@ -105,8 +60,8 @@ module _ (events : History) (leaf : Leaf) where
     pub empty : array_at events (location_of_leaf leaf) ≡ None
 
   pub new_made : (meta : Form) → IsNew finmap.empty events leaf meta → IsMade meta
-  new_made meta (read_there is) = absurd (never_read meta (outcome_is finmap.empty events leaf (found meta) refl is))
-  new_made meta (made_here is) = record { asked = made_asked meta (outcome_is finmap.empty events leaf (made meta) refl is); comes = is; empty = (free_of_made events leaf is.stored meta (sym is.same)).empty }
+  new_made meta (read_there is) = absurd (never_found events leaf meta (outcome_is finmap.empty events leaf (found meta) refl is))
+  new_made meta (made_here is) = record { asked = made_is events leaf meta (outcome_is finmap.empty events leaf (made meta) refl is); comes = is; empty = (free_of_made events leaf is.stored meta (sym is.same)).empty }
 
   pub there_at : (k : Known) → IsOutcome finmap.empty events leaf (there k) → array_at events (location_of_leaf leaf) ≡ Some k
   there_at k is = found_there k (outcome_is finmap.empty events leaf (there k) refl is)

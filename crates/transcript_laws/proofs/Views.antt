@@ -43,10 +43,9 @@ use Rattle.line_meanings.specs.Changes.{by_view, by_transform, under_steps, by_s
 use Rattle.line_meanings.specs.Meanings.{line_of, line_in, line_of_bytes, refused_by}
 use Rattle.line_meanings.specs.Openings.{by_built, build_of}
 use Rattle.line_meanings.specs.Refusals.{form_error}
-use Rattle.line_meanings.proofs.Laws.{applied-outputs}
+use Rattle.line_meanings.proofs.Laws.{OpensSound, applied-outputs, form_sound}
 use Rattle.line_meanings.proofs.TreeForms.{built-Leaf, built-Cast, built-Stack, every_base, every_layer}
 use Rattle.transcript_laws.specs.Transcript.{mount}
-use Rattle.transcript_laws.proofs.Planned.{IsPlanned, form_planned}
 
 pub moved_view : (v made : View) (t : DomainAndMaps) → IsView v → moved v t ≡ Ok made → IsView made
 moved_view v made t valid e = by (composed (own_transform v) t) refl e
@@ -228,17 +227,17 @@ AreViewLines [] = Unit {0}
 AreViewLines (None ∷ lines) = AreViewLines lines
 AreViewLines (Some line ∷ lines) = IsViewLine line × AreViewLines lines
 
-form_views : (f : Form) → IsPlanned f → IsViewLine (line_of f)
-form_views (form.opening name plan) planned = build_views plan planned
-form_views (form.viewing name of transform steps) planned = changes_keep transform steps
-form_views (form.joining name kind layers transform steps) planned = tt
-form_views (form.reading name steps down) planned = changes_keep None steps
-form_views (form.writing name steps values) planned = changes_keep None steps
-form_views (form.beginning atomic repeatable_read) planned = tt
-form_views form.committing planned = tt
-form_views form.aborting planned = tt
-form_views (form.resizing name shape) planned = tt
-form_views (form.resolving name) planned = tt
+form_views : (f : Form) → OpensSound (mount ∷ []) f → IsViewLine (line_of f)
+form_views (form.opening name plan) sound = build_views plan sound.over
+form_views (form.viewing name of transform steps) sound = changes_keep transform steps
+form_views (form.joining name kind layers transform steps) sound = tt
+form_views (form.reading name steps down) sound = changes_keep None steps
+form_views (form.writing name steps values) sound = changes_keep None steps
+form_views (form.beginning atomic repeatable_read) sound = tt
+form_views form.committing sound = tt
+form_views form.aborting sound = tt
+form_views (form.resizing name shape) sound = tt
+form_views (form.resolving name) sound = tt
 
 refused_views : (fault : Option FormError) → IsViewLine (refused_by fault)
 refused_views None = tt
@@ -249,5 +248,5 @@ pub bytes_views : (bytes : List ℕ) → IsViewLine (line_of_bytes (mount ∷ []
 bytes_views bytes = by (command_of_line (mount ∷ []) bytes) refl
   where
     by : (r : Result Form LineError) → command_of_line (mount ∷ []) bytes ≡ r → IsViewLine (line_in r)
-    by (Ok f) is = form_views f (form_planned mount bytes f is)
+    by (Ok f) is = form_views f (form_sound mount bytes f is)
     by (Err e) is = refused_views (form_error e)

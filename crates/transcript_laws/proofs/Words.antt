@@ -29,7 +29,7 @@ use Rattle.history.proofs.Asking.{IsAskedBy}
 use Rattle.history.proofs.Laws.{view_later, step_staged}
 use Rattle.history.proofs.StepsKnown.{AreKnown, step_known, IsActKnown, act_of-known}
 use Rattle.line_forms.specs.Lines.{command_of_line}
-use Rattle.line_meanings.specs.Meanings.{line_in, line_of_bytes, refused_by}
+use Rattle.line_meanings.specs.Meanings.{line_in, line_of_bytes, refused_by, asked_line}
 use Rattle.line_meanings.specs.Refusals.{form_error}
 use Rattle.line_meanings.proofs.Laws.{fitting_line}
 use Rattle.script_lines.specs.Script.{lines_of, is_blank}
@@ -37,7 +37,7 @@ use Rattle.serial_runs.specs.Attempts.{is_ok}
 use Rattle.serial_runs.specs.Runs.{Script}
 use Rattle.serial_runs.proofs.Refused.{IsRefusedAsked, act_of-refused}
 use Rattle.transcript_laws.specs.Transcript.{mount}
-use Rattle.transcript_laws.specs.Outputs.{asked_line, scripts_of, HasWords, HaveWords, IsOutput}
+use Rattle.transcript_laws.specs.Outputs.{scripts_of, HasWords, HaveWords, IsOutput}
 use Rattle.transcript_laws.proofs.Checked.{IsCheckedAct, AreCheckedLines, act_checked, all_checked}
 use Rattle.transcript_laws.proofs.Claims.{good_scripts}
 use Rattle.transcript_laws.proofs.Commits.{AreKnownEvents, run_known_events, commits_known}
@@ -160,7 +160,7 @@ one_fits bytes = by (command_of_line (mount ∷ []) bytes)
     by (Ok f) = fitting_line f
     by (Err e) = refused_fits (form_error e)
 
-script_fits : (lines : List (List ℕ)) → AllByRecursion FitsInLine (map asked_line lines)
+script_fits : (lines : List (List ℕ)) → AllByRecursion FitsInLine (map (asked_line (mount ∷ [])) lines)
 script_fits [] = tt
 script_fits (bytes ∷ lines) = (by (is_blank bytes), script_fits lines)
   where
@@ -168,11 +168,11 @@ script_fits (bytes ∷ lines) = (by (is_blank bytes), script_fits lines)
     by true = tt
     by false = one_fits bytes
 
-script_views : (lines : List (List ℕ)) → AreViewLines (map asked_line lines)
+script_views : (lines : List (List ℕ)) → AreViewLines (map (asked_line (mount ∷ [])) lines)
 script_views [] = tt
 script_views (bytes ∷ lines) = by (is_blank bytes) (script_views lines)
   where
-    by : (b : Bool) → AreViewLines (map asked_line lines) → AreViewLines (cond b None (Some (line_of_bytes (mount ∷ []) bytes)) ∷ map asked_line lines)
+    by : (b : Bool) → AreViewLines (map (asked_line (mount ∷ [])) lines) → AreViewLines (cond b None (Some (line_of_bytes (mount ∷ []) bytes)) ∷ map (asked_line (mount ∷ [])) lines)
     by true rest = rest
     by false rest = (bytes_views bytes, rest)
 

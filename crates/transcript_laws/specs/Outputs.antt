@@ -1,6 +1,5 @@
 -- What a run prints fits.
 use Rattle.std.specs.Prelude.{◌≡◌, ◌<◌, ◌^◌, ℕ, ◌+◌, List, [], ◌∷◌, ◌++◌, length, map, All, Option, Some, None, false}
-use Rattle.std.specs.Prelude.{if◌then◌else◌}
 use Rattle.std.specs.List.{flat_map, AllByRecursion}
 use Rattle.std.specs.FinMap as finmap
 use Rattle.answer_text.specs.Text.{answer_text}
@@ -16,8 +15,7 @@ use Rattle.history.specs.Legal.{IsLegal}
 use Rattle.history.specs.Lines.{Line}
 use Rattle.history.specs.Steps.{is_memory}
 use Rattle.line_meanings.specs.Bodies.{answer_of, text_of}
-use Rattle.line_meanings.specs.Meanings.{line_of_bytes}
-use Rattle.script_lines.specs.Script.{lines_of, is_blank}
+use Rattle.line_meanings.specs.Meanings.{asked_by}
 use Rattle.serial_runs.specs.Runs.{Script, AreLogs, AreWholeLogs}
 use Rattle.transcript_laws.specs.Transcript.{mount, Told, IsCut}
 use Rattle.transcript_laws.specs.Numbers.{AreNumbered}
@@ -26,17 +24,9 @@ use Rattle.transcript_laws.specs.Fitting.{IsAnswered, Fits}
 use Rattle.transcript_laws.specs.Unchecked.{AreChecked}
 use Rattle.transcript_laws.specs.Verdicts.{IsVerdict, yes}
 
--- what a line of a script asks for, if it isn't blank
-abbrev pub asked_line : List ℕ → Option Line
-asked_line line = if is_blank line then None else Some (line_of_bytes (mount ∷ []) line)
-
--- what a script asks for, line by line
-abbrev pub script_of : List ℕ → Script
-script_of bytes = map asked_line (lines_of bytes)
-
 -- what all scripts ask for
 abbrev pub scripts_of : List (List ℕ) → List Script
-scripts_of scripts = map script_of scripts
+scripts_of scripts = map (asked_by (mount ∷ [])) scripts
 
 -- what logs print, one after another
 abbrev pub text_of_logs : List (List Answer) → List ℕ
