@@ -1,16 +1,16 @@
 -- What a line that opens adds to its events in a turn.
 use Rattle.std.proofs.Common.{◌≡◌, ◌∙◌, ℕ, ◌+◌, List, [], ◌∷◌, ◌++◌, length, Option, Some, None, inl, inr, refl, sym, ap, subst, append-nil}
 use Rattle.std.specs.List.{AllByRecursion}
-use Rattle.session_turns.specs.declared.Body.{Body}
-use Rattle.session_turns.specs.declared.Body.TheVariants as body
+use Rattle.sessions.specs.declared.Body.{Body}
+use Rattle.sessions.specs.declared.Body.TheVariants as body
 use Rattle.history.specs.declared.event.Event.{Event}
 use Rattle.history.specs.Answers.{Text}
 use Rattle.history.specs.History.{History}
 use Rattle.history.specs.Own.{Numbered, numbered, numbers_of, fault}
 use Rattle.session_openings.specs.Events.{IsArrayOpened, failure_in, TellsOpenings, HasFailed, AreOpenings, AreTold}
-use Rattle.session_turns.specs.Turns.{IsTurn, HasPassed, added_by}
-use Rattle.session_turns.proofs.Laws.{own_of_turn, added_then, same_rest}
-use Rattle.session_turns.specs.Agreement.{Opening}
+use Rattle.sessions.specs.Turns.{IsTurn, HasPassed, added_by}
+use Rattle.sessions.proofs.Laws.{own_of_turn, added_then, same_rest}
+use Rattle.sessions.specs.Agreement.{Opening}
 use Rattle.turn_book.specs.Passes.{BookView, PassView}
 
 -- openings, and behind them others

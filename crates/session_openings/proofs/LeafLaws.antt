@@ -2,9 +2,9 @@
 use Rattle.std.proofs.Common.{◌≡◌, ◌∙◌, ℕ, ◌+◌, List, [], ◌∷◌, ◌++◌, length, ◌⊎◌, inl, inr, Option, Some, None, Result, Ok, Err, refl, sym, ap, subst, append-nil}
 use Rattle.std.specs.Prelude.{false, option_to_list}
 use Rattle.std.specs.List.{AllByRecursion}
-use Rattle.session_turns.specs.Status.{is_ok_body}
-use Rattle.session_turns.specs.declared.Body as printed
-use Rattle.session_turns.specs.declared.Body.TheVariants as body
+use Rattle.sessions.specs.Status.{is_ok_body}
+use Rattle.sessions.specs.declared.Body as printed
+use Rattle.sessions.specs.declared.Body.TheVariants as body
 use Rattle.cells.specs.Dense.{DenseCells}
 use Rattle.history.specs.declared.event.Event.{Event}
 use Rattle.history.specs.Acts.{opens}
@@ -18,23 +18,23 @@ use Rattle.history.specs.Own.{numbers_of, opened_event}
 use Rattle.history.specs.Sessions.{Names}
 use Rattle.history.specs.Steps.{IsRow}
 use Rattle.kv_face.specs.Store.{Contents}
-use Rattle.session_turns.specs.Bodies.{body_of}
+use Rattle.sessions.specs.AnswerBodies.{body_of}
 use Rattle.session_openings.specs.Events.{IsArrayOpened, AreTold, IsRefusalWith}
 use Rattle.session_openings.specs.Openings.{AreAllOpened, OpensOne, IsLeafRefused, RefusesOne}
 use Rattle.session_openings.proofs.EventLaws.{added_are, added_nothing, openings_more, failed_told, openings_told}
 use Rattle.session_openings.proofs.RefusalLaws.{memory_with, unseen_with, unseen_or}
-use Rattle.session_turns.specs.Opening.{IsLeafTurn, IsGivenTurn, AreOpenedBy, open_answer, IsUnseen}
-use Rattle.session_turns.specs.Turns.{IsRested, IsTurn, HasPassed, added_by}
-use Rattle.session_turns.proofs.Laws.{passed_of_turn, passed_then, opens_stored, opens_given, refused_row, wanting_before, wanting_behind, adds_none}
-use Rattle.session_turns.specs.Standing.{session_state, transaction_in}
+use Rattle.sessions.specs.Opening.{IsLeafTurn, IsGivenTurn, AreOpenedBy, open_answer, IsUnseen}
+use Rattle.sessions.specs.Turns.{IsRested, IsTurn, HasPassed, added_by}
+use Rattle.sessions.proofs.Laws.{passed_of_turn, passed_then, opens_stored, opens_given, refused_row, wanting_before, wanting_behind, adds_none}
+use Rattle.sessions.specs.Standing.{session_state, transaction_in}
 use Rattle.stack_driver.specs.References.{Reference}
-use Rattle.session_turns.specs.Agreement.{Opening}
-use Rattle.session_turns.specs.Openings.{IsOpening, IsOpenedBy, HasFailedLeaf}
-use Rattle.session_turns.specs.declared.Opened.{Opened}
-use Rattle.session_turns.specs.declared.OpenError.{OpenError}
-use Rattle.session_turns.specs.declared.OpenError.TheVariants as error
-use Rattle.session_turns.specs.Answers.{fixed_by}
-use Rattle.session_turns.specs.Txn.{TxnSeen}
+use Rattle.sessions.specs.Agreement.{Opening}
+use Rattle.sessions.specs.Openings.{IsOpening, IsOpenedBy, HasFailedLeaf}
+use Rattle.sessions.specs.declared.Opened.{Opened}
+use Rattle.sessions.specs.declared.OpenError.{OpenError}
+use Rattle.sessions.specs.declared.OpenError.TheVariants as error
+use Rattle.sessions.specs.Answers.{fixed_by}
+use Rattle.sessions.specs.Txn.{TxnSeen}
 use Rattle.turn_book.specs.Passes.{BookView, PassView}
 
 -- a stored array

@@ -2,9 +2,9 @@
 use Rattle.std.proofs.Common.{◌≡◌, ◌∙◌, ℕ, ◌+◌, suc, Bool, List, [], ◌∷◌, length, ◌⊎◌, inl, inr, Option, Some, None, Result, Ok, Err, refl, sym, ap, subst, arith, is_some}
 use Rattle.std.specs.Prelude.{false}
 use Rattle.std.specs.List.{AllByRecursion}
-use Rattle.session_turns.specs.Status.{is_ok_body}
-use Rattle.session_turns.specs.declared.Body as printed
-use Rattle.session_turns.specs.declared.Body.TheVariants as body
+use Rattle.sessions.specs.Status.{is_ok_body}
+use Rattle.sessions.specs.declared.Body as printed
+use Rattle.sessions.specs.declared.Body.TheVariants as body
 use Rattle.history.specs.declared.event.Event.{Event}
 use Rattle.history.specs.Acts.{Asked, opens, act_of}
 use Rattle.history.specs.Answers as old
@@ -18,21 +18,21 @@ use Rattle.history.specs.Sessions.{Names, bind}
 use Rattle.history.specs.Steps.{IsRow, IsAnswered, done_line, open_done, open_unbuilt, open_wanting}
 use Rattle.history.specs.Viewing.{opened_body}
 use Rattle.kv_face.specs.Store.{Contents}
-use Rattle.session_turns.specs.Bodies.{body_of}
-use Rattle.session_turns.specs.Causes.{build_cause}
-use Rattle.session_turns.specs.MeaningOpenings.{leaf_of, node_of, leaves_from, leaves_of, build_cause_of, by_built, build_of}
-use Rattle.session_turns.proofs.Laws.{build_within}
+use Rattle.sessions.specs.AnswerBodies.{body_of}
+use Rattle.sessions.specs.Causes.{build_cause}
+use Rattle.sessions.specs.MeaningOpenings.{leaf_of, node_of, leaves_from, leaves_of, build_cause_of, by_built, build_of}
+use Rattle.sessions.proofs.Laws.{build_within}
 use Rattle.session_openings.specs.Events.{IsArrayOpened, TellsOpenings, failure_in, AreTold}
 use Rattle.session_openings.specs.Opened.{IsUnbuilt, IsBuiltBy, IsBoundToPlan, IsBoundOrNot, IsLineOpened}
 use Rattle.session_openings.specs.Openings.{AreAllOpened, IsLeafRefused}
 use Rattle.session_openings.proofs.EventLaws.{openings_told}
 use Rattle.session_openings.proofs.PlanLaws.{length-leaves, build-full}
 use Rattle.session_openings.proofs.RefusalLaws.{memory_with}
-use Rattle.session_turns.specs.Opening.{AreOpenedBy}
-use Rattle.session_turns.specs.Turns.{IsRested, HasPassed, added_by}
-use Rattle.session_turns.proofs.Laws.{none_added, passed_alone, kept_bound, outside_none}
-use Rattle.session_turns.specs.Standing.{session_state, transaction_in}
-use Rattle.session_turns.specs.Told.{IsTold, IsBoundAs, IsToldBy}
+use Rattle.sessions.specs.Opening.{AreOpenedBy}
+use Rattle.sessions.specs.Turns.{IsRested, HasPassed, added_by}
+use Rattle.sessions.proofs.Laws.{none_added, passed_alone, kept_bound, outside_none}
+use Rattle.sessions.specs.Standing.{session_state, transaction_in}
+use Rattle.sessions.specs.Told.{IsTold, IsBoundAs, IsToldBy}
 use Rattle.spec_open.specs.Built.{built}
 use Rattle.spec_open.specs.Conditions.{IsTree}
 use Rattle.spec_open.specs.declared.error.BuildCause as build_causes
@@ -44,9 +44,9 @@ use Rattle.stack_driver.specs.Conditions.{IsView}
 use Rattle.stack_driver.specs.References.{Reference}
 use Rattle.stack_driver.specs.Views.{look_of, own_transform}
 use Rattle.stack_driver.specs.declared.view.View.{View}
-use Rattle.session_turns.specs.Agreement.{Opening}
-use Rattle.session_turns.specs.Answers.{fixed_by}
-use Rattle.session_turns.specs.Txn.{TxnSeen}
+use Rattle.sessions.specs.Agreement.{Opening}
+use Rattle.sessions.specs.Answers.{fixed_by}
+use Rattle.sessions.specs.Txn.{TxnSeen}
 use Rattle.turn_book.specs.Passes.{BookView, PassView}
 
 same_cause : (cause : build_causes.BuildCause) → build_cause (build_cause_of cause) ≡ cause

@@ -2,20 +2,20 @@
 use Rattle.std.proofs.Common.{◌≡◌, ◌∙◌, ◌+◌, ℕ, suc, List, [], ◌∷◌, length, Option, sym, ap, subst, arith}
 use Rattle.std.specs.Prelude.{unwrap_or}
 use Rattle.std.specs.List.{AllByRecursion}
-use Rattle.session_turns.specs.declared.Body.{Body}
+use Rattle.sessions.specs.declared.Body.{Body}
 use Rattle.history.specs.declared.event.Event.{Event}
 use Rattle.history.specs.Answers.{Text}
 use Rattle.history.specs.Lines as history
-use Rattle.session_turns.specs.MeaningOpenings.{leaf_of, node_of, leaves_from}
+use Rattle.sessions.specs.MeaningOpenings.{leaf_of, node_of, leaves_from}
 use Rattle.session_openings.specs.Openings.{AreAllOpened, OpensOne, IsLeafRefused, RefusesOne}
 use Rattle.session_openings.specs.declared.leaves.Wanted.{Wanted}
 use Rattle.session_openings.specs.Wanted.{wanted_leaf, MayBeAsked}
 use Rattle.session_openings.proofs.LineLaws.{none_opened}
-use Rattle.session_turns.specs.Turns.{IsRested}
+use Rattle.sessions.specs.Turns.{IsRested}
 use Rattle.spec_forms.specs.declared.leaf.SpecLeaf.{SpecLeaf}
 use Rattle.spec_open.specs.declared.tree.Tree.{Tree}
 use Rattle.stack_driver.specs.References.{Reference}
-use Rattle.session_turns.specs.Agreement.{Opening}
+use Rattle.sessions.specs.Agreement.{Opening}
 use Rattle.turn_book.specs.Passes.{BookView, PassView}
 
 module _ (book : BookView Opening) (first : PassView Event Opening) (tree : Tree) (all : List SpecLeaf) where

@@ -6,7 +6,7 @@ use Rattle.std.proofs.lemmas.Bool.Decides.{nat_tests}
 use Rattle.history.specs.Answers as old
 use Rattle.history.specs.Answers.{Text}
 use Rattle.history.specs.Legal.{IsMount}
-use Rattle.session_turns.specs.MeaningOpenings.{leaf_of, leaves_from, leaves_of, by_built, build_of}
+use Rattle.sessions.specs.MeaningOpenings.{leaf_of, leaves_from, leaves_of, by_built, build_of}
 use Rattle.session_openings.specs.Wanted.{MayBeAsked, MayOpen}
 use Rattle.spec_forms.specs.Leaves.{IsSoundLeaf}
 use Rattle.spec_forms.specs.declared.leaf.SpecLeaf.{SpecLeaf}
@@ -16,7 +16,7 @@ use Rattle.spec_open.specs.declared.plan.OpenPlan.{OpenPlan}
 use Rattle.spec_open.specs.declared.tree.Tree.{Tree}
 use Rattle.spec_open.proofs.Laws.{among-keeps}
 use Rattle.stack_driver.specs.References.{Reference}
-use Rattle.session_turns.specs.Agreement.{TakesMount}
+use Rattle.sessions.specs.Agreement.{TakesMount}
 
 module _ (names : Option (List (List ℕ))) (mounts : List Text) (valid : AllByRecursion IsMount mounts) (taken : AllByRecursion (TakesMount names) mounts) where
   asked_one : (node : Text) (leaf : SpecLeaf) → IsSoundLeaf mounts leaf → MayBeAsked names (leaf_of node leaf)

@@ -1,18 +1,18 @@
 -- What the answer to a leaf that isn't opened tells.
 use Rattle.std.proofs.Common.{◌≡◌, ℕ, List, ◌⊎◌, inl, inr, Option, Some, None, refl, sym, subst}
-use Rattle.session_turns.specs.declared.Body.{Body}
-use Rattle.session_turns.specs.declared.Body.TheVariants as body
+use Rattle.sessions.specs.declared.Body.{Body}
+use Rattle.sessions.specs.declared.Body.TheVariants as body
 use Rattle.array_homes.specs.declared.read.MetaCause.TheVariants as cause
 use Rattle.history.specs.Answers.{Text}
 use Rattle.history.specs.Leaves.{Leaf}
-use Rattle.session_turns.specs.Bodies.{body_of}
-use Rattle.session_turns.specs.Causes.{metadata_body}
+use Rattle.sessions.specs.AnswerBodies.{body_of}
+use Rattle.sessions.specs.Causes.{metadata_body}
 use Rattle.meta_forms.specs.declared.error.MetaError.{MetaError}
 use Rattle.meta_forms.specs.declared.error.MetaError.TheVariants as meta
 use Rattle.session_openings.specs.Events.{openings_in, TellsOpenings, IsRefusalWith}
-use Rattle.session_turns.specs.Opening.{open_answer, IsUnseen}
-use Rattle.session_turns.specs.declared.OpenError.{OpenError}
-use Rattle.session_turns.specs.declared.OpenError.TheVariants as error
+use Rattle.sessions.specs.Opening.{open_answer, IsUnseen}
+use Rattle.sessions.specs.declared.OpenError.{OpenError}
+use Rattle.sessions.specs.declared.OpenError.TheVariants as error
 
 -- numbers that are told are the ones that are
 these : (numbers events : List ℕ) → Some numbers ≡ Some events → events ≡ numbers

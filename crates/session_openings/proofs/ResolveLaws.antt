@@ -3,8 +3,8 @@ use Rattle.std.proofs.Common.{◌≡◌, ◌∙◌, ℕ, ◌≤◌, List, [], le
 use Rattle.std.proofs.Math.Seq.{take-length}
 use Rattle.std.specs.FinMap as finmap
 use mathlib.Core.List.{IsPrefix}
-use Rattle.session_turns.specs.declared.Body.{Body}
-use Rattle.session_turns.specs.declared.Body.TheVariants as body
+use Rattle.sessions.specs.declared.Body.{Body}
+use Rattle.sessions.specs.declared.Body.TheVariants as body
 use Rattle.history.specs.declared.event.Event.{Event}
 use Rattle.history.specs.Acts.{outside, named, on_leaf, resolves, act_of}
 use Rattle.history.specs.Answers as old
@@ -21,21 +21,21 @@ use Rattle.history.specs.Sessions.{Names, SessionState}
 use Rattle.history.specs.Steps.{IsAnswered, done_line, resolve_done, resolve_refused}
 use Rattle.history.specs.Viewing.{resolved_body}
 use Rattle.history.proofs.Laws.{array_known}
-use Rattle.session_turns.specs.Bodies.{body_of}
+use Rattle.sessions.specs.AnswerBodies.{body_of}
 use Rattle.session_openings.specs.Renewing.{IsBoundAnew, IsRenewed}
-use Rattle.session_turns.specs.Turns.{IsRested, IsTurn, HasPassed, added_by}
-use Rattle.session_turns.proofs.Laws.{IsThere, ref_there, new_shape, own_of_turn, passed_of_turn, view_then, told_wanting, kept_bound}
-use Rattle.session_turns.specs.Standing.{session_state, transaction_in}
-use Rattle.session_turns.specs.Told.{IsTold, IsAnswerTo, IsBoundAs}
+use Rattle.sessions.specs.Turns.{IsRested, IsTurn, HasPassed, added_by}
+use Rattle.sessions.proofs.Laws.{IsThere, ref_there, new_shape, own_of_turn, passed_of_turn, view_then, told_wanting, kept_bound}
+use Rattle.sessions.specs.Standing.{session_state, transaction_in}
+use Rattle.sessions.specs.Told.{IsTold, IsAnswerTo, IsBoundAs}
 use Rattle.stack_driver.specs.Conditions.{IsView}
 use Rattle.stack_driver.specs.References.{Reference, IsReference}
 use Rattle.stack_driver.specs.Renewed.{array_of, renewed, IsNewShape}
 use Rattle.stack_driver.specs.declared.view.View.{View}
-use Rattle.session_turns.specs.Agreement.{Opening}
-use Rattle.session_turns.specs.Fetches.{bounds_in}
-use Rattle.session_turns.specs.declared.Bounds.{Bounds}
-use Rattle.session_turns.specs.Outline.{outline}
-use Rattle.session_turns.specs.Txn.{TxnSeen}
+use Rattle.sessions.specs.Agreement.{Opening}
+use Rattle.sessions.specs.Fetches.{bounds_in}
+use Rattle.sessions.specs.declared.Bounds.{Bounds}
+use Rattle.sessions.specs.Outline.{outline}
+use Rattle.sessions.specs.Txn.{TxnSeen}
 use Rattle.turn_book.specs.Passes.{BookView, PassView}
 
 -- what a turn has seen reaches as far as what was seen before

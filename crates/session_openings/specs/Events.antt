@@ -1,9 +1,9 @@
 -- The events that a line adds when it opens a Spec, and what its answer tells of them.
 use Rattle.std.specs.Prelude.{◌≡◌, ◌⊎◌, ℕ, List, [], ◌∷◌, ◌++◌, Option, Some, None, false}
 use Rattle.std.specs.List.{AllByRecursion}
-use Rattle.session_turns.specs.Status.{is_ok_body}
-use Rattle.session_turns.specs.declared.Body.{Body}
-use Rattle.session_turns.specs.declared.Body.TheVariants as body
+use Rattle.sessions.specs.Status.{is_ok_body}
+use Rattle.sessions.specs.declared.Body.{Body}
+use Rattle.sessions.specs.declared.Body.TheVariants as body
 use Rattle.history.specs.declared.array.ArrayInfo.{ArrayInfo}
 use Rattle.history.specs.declared.event.Kind.TheVariants.{Opened, Fault}
 use Rattle.history.specs.Answers.{Text}

@@ -1,9 +1,9 @@
 -- What a session answers to a line that opens a Spec, and what the line leaves.
 use Rattle.std.specs.Prelude.{◌≡◌, ◌⊎◌, ℕ, List, length, false, Option, Some, Result, Ok, Err}
 use Rattle.std.specs.List.{AllByRecursion}
-use Rattle.session_turns.specs.Status.{is_ok_body}
-use Rattle.session_turns.specs.declared.Body as printed
-use Rattle.session_turns.specs.declared.Body.TheVariants as body
+use Rattle.sessions.specs.Status.{is_ok_body}
+use Rattle.sessions.specs.declared.Body as printed
+use Rattle.sessions.specs.declared.Body.TheVariants as body
 use Rattle.history.specs.declared.event.Event.{Event}
 use Rattle.history.specs.Acts.{opens}
 use Rattle.history.specs.Answers.{Body, Text}
@@ -12,12 +12,12 @@ use Rattle.history.specs.Refs.{IsKnownRef}
 use Rattle.history.specs.Sessions.{Names, bind}
 use Rattle.history.specs.Steps.{IsRow}
 use Rattle.kv_face.specs.Store.{Contents}
-use Rattle.session_turns.specs.Bodies.{body_of}
-use Rattle.session_turns.specs.MeaningOpenings.{leaves_of, build_of}
+use Rattle.sessions.specs.AnswerBodies.{body_of}
+use Rattle.sessions.specs.MeaningOpenings.{leaves_of, build_of}
 use Rattle.session_openings.specs.Events.{AreTold}
-use Rattle.session_turns.specs.Turns.{HasPassed, added_by}
-use Rattle.session_turns.specs.Standing.{session_state, transaction_in}
-use Rattle.session_turns.specs.Told.{IsBoundAs}
+use Rattle.sessions.specs.Turns.{HasPassed, added_by}
+use Rattle.sessions.specs.Standing.{session_state, transaction_in}
+use Rattle.sessions.specs.Told.{IsBoundAs}
 use Rattle.spec_open.specs.Built.{built}
 use Rattle.spec_open.specs.declared.error.BuildError.{BuildError}
 use Rattle.spec_open.specs.declared.error.BuildError.TheVariants as build_error
@@ -26,9 +26,9 @@ use Rattle.stack_driver.specs.Conditions.{IsView}
 use Rattle.stack_driver.specs.References.{Reference}
 use Rattle.stack_driver.specs.Views.{look_of, own_transform}
 use Rattle.stack_driver.specs.declared.view.View.{View}
-use Rattle.session_turns.specs.Agreement.{Opening}
-use Rattle.session_turns.specs.Answers.{fixed_by}
-use Rattle.session_turns.specs.Txn.{TxnSeen}
+use Rattle.sessions.specs.Agreement.{Opening}
+use Rattle.sessions.specs.Answers.{fixed_by}
+use Rattle.sessions.specs.Txn.{TxnSeen}
 use Rattle.turn_book.specs.Passes.{BookView, PassView}
 
 -- the answer where no view is built

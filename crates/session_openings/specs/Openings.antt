@@ -1,8 +1,8 @@
 -- A Spec's leaves as they are opened one after another, over every store.
 use Rattle.std.specs.Prelude.{◌≡◌, ◌<◌, ℕ, List, ◌∷◌, length, vec_capacity, false, Option, Some}
 use Rattle.std.specs.List.{AllByRecursion}
-use Rattle.session_turns.specs.Status.{is_ok_body}
-use Rattle.session_turns.specs.declared.Body as printed
+use Rattle.sessions.specs.Status.{is_ok_body}
+use Rattle.sessions.specs.declared.Body as printed
 use Rattle.history.specs.declared.event.Event.{Event}
 use Rattle.history.specs.Acts.{opens}
 use Rattle.history.specs.Answers.{Body, Text}
@@ -10,16 +10,16 @@ use Rattle.history.specs.Lines.{SpecLeaf, Build}
 use Rattle.history.specs.Sessions.{Names}
 use Rattle.history.specs.Steps.{IsRow}
 use Rattle.kv_face.specs.Store.{Contents}
-use Rattle.session_turns.specs.Bodies.{body_of}
+use Rattle.sessions.specs.AnswerBodies.{body_of}
 use Rattle.session_openings.specs.Events.{IsArrayOpened, AreTold}
 use Rattle.session_openings.specs.declared.opening.OpenedArrays.{OpenedArrays}
-use Rattle.session_turns.specs.Opening.{AreOpenedBy}
-use Rattle.session_turns.specs.Turns.{HasPassed, added_by}
-use Rattle.session_turns.specs.Standing.{session_state, transaction_in}
+use Rattle.sessions.specs.Opening.{AreOpenedBy}
+use Rattle.sessions.specs.Turns.{HasPassed, added_by}
+use Rattle.sessions.specs.Standing.{session_state, transaction_in}
 use Rattle.stack_driver.specs.References.{Reference}
-use Rattle.session_turns.specs.Agreement.{Opening}
-use Rattle.session_turns.specs.Answers.{fixed_by}
-use Rattle.session_turns.specs.Txn.{TxnSeen}
+use Rattle.sessions.specs.Agreement.{Opening}
+use Rattle.sessions.specs.Answers.{fixed_by}
+use Rattle.sessions.specs.Txn.{TxnSeen}
 use Rattle.turn_book.specs.Passes.{BookView, PassView}
 
 -- the first of some leaves were opened, and every event that was added for them is an opening

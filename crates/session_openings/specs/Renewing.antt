@@ -1,10 +1,10 @@
 -- What a session answers to a line that takes a view's bounds anew.
 use Rattle.std.specs.Prelude.{◌≡◌, ◌⊎◌, ℕ, List, Ok, Err}
-use Rattle.session_turns.specs.declared.Body.{Body}
-use Rattle.session_turns.specs.declared.Body.TheVariants.{Resolved, RefusedView, Memory}
+use Rattle.sessions.specs.declared.Body.{Body}
+use Rattle.sessions.specs.declared.Body.TheVariants.{Resolved, RefusedView, Memory}
 use Rattle.history.specs.Answers.{Text}
 use Rattle.history.specs.Sessions.{Names}
-use Rattle.session_turns.specs.Told.{IsBoundAs}
+use Rattle.sessions.specs.Told.{IsBoundAs}
 use Rattle.stack_driver.specs.Conditions.{IsView}
 use Rattle.stack_driver.specs.Renewed.{renewed}
 use Rattle.stack_driver.specs.Views.{look_of, own_transform}

@@ -10,10 +10,10 @@ use Rattle.history.specs.Lines.{SpecLeaf, given, stored}
 use Rattle.meta_forms.specs.declared.error.MetaError.{MetaError}
 use Rattle.session_openings.specs.declared.leaves.Wanted.{Wanted}
 use Rattle.session_openings.specs.declared.leaves.Wanted.TheVariants.{Stored, Given}
-use Rattle.session_turns.specs.Asked.{asked_leaf}
+use Rattle.sessions.specs.Asked.{asked_leaf}
 use Rattle.spec_open.specs.Conditions.{IsSoundPlan}
 use Rattle.spec_open.specs.declared.plan.OpenPlan.{OpenPlan}
-use Rattle.session_turns.specs.Agreement.{TakesMount}
+use Rattle.sessions.specs.Agreement.{TakesMount}
 
 -- it as a leaf of the node at a path
 abbrev pub wanted_leaf : Text → Wanted → SpecLeaf

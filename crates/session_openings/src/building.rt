@@ -1,16 +1,16 @@
 // The view over arrays that were opened, and the name that is bound to it.
 ghost use Rattle.std.specs.Prelude.{◌≡◌, IfOk, length};
-ghost use Rattle.session_turns.specs.declared.Body.TheVariants as body;
+ghost use Rattle.sessions.specs.declared.Body.TheVariants as body;
 ghost use Rattle.indexmap.specs.IndexMap.{get_by_text};
 ghost use Rattle.session_openings.specs.Opened.{IsBuiltBy, IsUnbuilt};
-ghost use Rattle.session_turns.specs.Told.{IsBoundAs};
+ghost use Rattle.sessions.specs.Told.{IsBoundAs};
 ghost use Rattle.spec_open.specs.Built.{built};
 ghost use Rattle.spec_open.specs.Conditions.{IsTree};
 ghost use Rattle.stack_driver.specs.Views.{look_of, own_transform};
 
 use cells::{List, Name};
 use index_transform::Domain;
-use session_turns::{Body, Names, bound_with};
+use sessions::{Body, Names, bound_with};
 use spec_open::{BuildError, Tree, build};
 use stack_driver::{ArrayRef, View, dtype, transform_of};
 use std::alloc::{AllocError, Global};

@@ -1,22 +1,22 @@
 // The leaves of a Spec, as they are asked of the state.
 ghost use Rattle.std.specs.Prelude.{◌≡◌, ◌⊎◌, [], IfOk, Some, unwrap_or};
-ghost use Rattle.session_turns.specs.declared.Body.TheVariants as body;
+ghost use Rattle.sessions.specs.declared.Body.TheVariants as body;
 ghost use Rattle.chunk_forms.specs.Members.{member_name};
 ghost use Rattle.history.specs.Answers.{Text};
 ghost use Rattle.history.specs.Leaves.{location_of_leaf};
 ghost use Rattle.history.specs.Lines.{member_of_node};
-ghost use Rattle.session_turns.specs.Bodies.{body_of};
-ghost use Rattle.session_turns.specs.MeaningOpenings.{leaf_of, node_of};
+ghost use Rattle.sessions.specs.AnswerBodies.{body_of};
+ghost use Rattle.sessions.specs.MeaningOpenings.{leaf_of, node_of};
 ghost use Rattle.session_openings.specs.Wanted.{wanted_leaf, cause_in};
-ghost use Rattle.session_turns.specs.Asked.{asked_leaf};
-ghost use Rattle.session_turns.specs.Opening.{open_answer, IsUnseen};
+ghost use Rattle.sessions.specs.Asked.{asked_leaf};
+ghost use Rattle.sessions.specs.Opening.{open_answer, IsUnseen};
 
 use crate::nodes::member_path;
 use array_homes::MetaCause;
 use cells::{Dense, List, Name};
 use chunk_forms::{Member, Want};
 use meta_forms::MetaError;
-use session_turns::{Asked, Body, OpenError, bad_metadata};
+use sessions::{Asked, Body, OpenError, bad_metadata};
 use spec_open::{SpecLeaf, Tree};
 use std::alloc::{AllocError, Global};
 

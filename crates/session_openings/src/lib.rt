@@ -12,7 +12,8 @@ mod resolving;
 
 pub use opening::open;
 pub use resolving::resolve;
-pub use session_turns::{
+pub use sessions::{
     Answer, Asked, Body, CommitError, CommitRefused, Gate, Kept, Names, OpenGate, ReadError, State,
-    Txn, WriteError, open_given_in_turn, open_in_turn, refusal, resize_in_turn,
+    Txn, WriteError, abort, begin, commit, join, open_given_in_turn, open_in_turn, read, refusal,
+    resize, resize_in_turn, view, write,
 };

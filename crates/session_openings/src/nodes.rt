@@ -3,7 +3,7 @@ ghost use Rattle.std.specs.Prelude.{◌≡◌, [], IfOk, map, unwrap_or};
 ghost use Rattle.std.specs.Option.{option_copied};
 ghost use Rattle.chunk_forms.specs.Members.{member_name};
 ghost use Rattle.history.specs.Lines.{named_at, member_of_node};
-ghost use Rattle.session_turns.specs.MeaningOpenings.{node_of, first_path};
+ghost use Rattle.sessions.specs.MeaningOpenings.{node_of, first_path};
 
 use cells::Name;
 use chunk_forms::Member;

@@ -1,32 +1,32 @@
 // Opening what a Spec asks for, leaf by leaf, each in a turn of its own.
 ghost use Rattle.std.specs.Prelude.{◌≡◌, ◌≤◌, ◌^◌, ◌++◌, ◌⊎◌, ℕ, [], ◌∷◌, IfOk, IfErr, length, map, max, option_to_list, unwrap_or};
 ghost use Rattle.std.specs.List.{AllByRecursion};
-ghost use Rattle.session_turns.specs.declared.Body.TheVariants as body;
+ghost use Rattle.sessions.specs.declared.Body.TheVariants as body;
 ghost use Rattle.cells.specs.Places.{cell_count};
 ghost use Rattle.history.specs.Bound.{AreKnownNames};
 ghost use Rattle.history.specs.Legal.{IsMount};
 ghost use Rattle.history.specs.Lines.{opening, given, stored};
 ghost use Rattle.indexmap.specs.IndexMap.{get_by_text};
-ghost use Rattle.session_turns.specs.Bodies.{body_of};
-ghost use Rattle.session_turns.specs.MeaningOpenings.{leaf_of, node_of, leaves_from, leaves_of, build_of};
+ghost use Rattle.sessions.specs.AnswerBodies.{body_of};
+ghost use Rattle.sessions.specs.MeaningOpenings.{leaf_of, node_of, leaves_from, leaves_of, build_of};
 ghost use Rattle.session_openings.specs.Events.{AreTold};
 ghost use Rattle.session_openings.specs.Opened.{IsBoundOrNot, IsBuiltBy, IsLineOpened};
 ghost use Rattle.session_openings.specs.Openings.{AreAllOpened, OpensOne, IsLeafRefused, RefusesOne, HasRoom};
 ghost use Rattle.session_openings.specs.Wanted.{MayBeAsked, MayOpen, wanted_leaf};
-ghost use Rattle.session_turns.specs.Asked.{asked_leaf};
-ghost use Rattle.session_turns.specs.Opening.{open_answer, IsUnseen};
-ghost use Rattle.session_turns.specs.Turns.{IsRested, HasPassed, added_by};
-ghost use Rattle.session_turns.specs.Standing.{session_state, transaction_in, AreViews};
-ghost use Rattle.session_turns.specs.Told.{IsToldBy};
+ghost use Rattle.sessions.specs.Asked.{asked_leaf};
+ghost use Rattle.sessions.specs.Opening.{open_answer, IsUnseen};
+ghost use Rattle.sessions.specs.Turns.{IsRested, HasPassed, added_by};
+ghost use Rattle.sessions.specs.Standing.{session_state, transaction_in, AreViews};
+ghost use Rattle.sessions.specs.Told.{IsToldBy};
 ghost use Rattle.spec_open.specs.Built.{built};
 ghost use Rattle.spec_open.specs.Conditions.{IsTree};
-ghost use Rattle.session_turns.specs.Agreement.{TakesMount};
+ghost use Rattle.sessions.specs.Agreement.{TakesMount};
 
 use crate::building::built;
 use crate::leaves::{Wanted, leaf_wanted, unopened};
 use cells::Dense;
 use kv_face::KvStore;
-use session_turns::{
+use sessions::{
     Asked, Body, Names, OpenError, Opened, State, Txn, open_given_in_turn, open_in_turn,
 };
 use spec_open::{OpenPlan, SpecLeaf, Tree};

@@ -1,6 +1,6 @@
 // Views with bounds taken anew.
 ghost use Rattle.std.specs.Prelude.{◌≡◌, ◌≢◌, ℕ, List, [], Ok, Err, Some, None, IfOk, IfErr, IsTrue, IsFalse, length};
-ghost use Rattle.session_turns.specs.declared.Body.TheVariants.{Resolved};
+ghost use Rattle.sessions.specs.declared.Body.TheVariants.{Resolved};
 ghost use Rattle.history.specs.Acts.{resolves, act_of};
 ghost use Rattle.history.specs.Answers.{Text};
 ghost use Rattle.history.specs.Bound.{AreKnownNames};
@@ -11,9 +11,9 @@ ghost use Rattle.history.specs.ResizeRows.{shape_after};
 ghost use Rattle.history.specs.Sessions.{Names as NamesOf};
 ghost use Rattle.indexmap.specs.IndexMap.{get_by_text};
 ghost use Rattle.session_openings.specs.Renewing.{IsRenewed};
-ghost use Rattle.session_turns.specs.Turns.{IsRested, IsTurn, HasPassed, added_by};
-ghost use Rattle.session_turns.specs.Standing.{session_state, transaction_in, AreViews};
-ghost use Rattle.session_turns.specs.Told.{IsTold, IsAnswerTo, IsBoundAs, IsToldBy};
+ghost use Rattle.sessions.specs.Turns.{IsRested, IsTurn, HasPassed, added_by};
+ghost use Rattle.sessions.specs.Standing.{session_state, transaction_in, AreViews};
+ghost use Rattle.sessions.specs.Told.{IsTold, IsAnswerTo, IsBoundAs, IsToldBy};
 ghost use Rattle.stack_driver.specs.Conditions.{IsView};
 ghost use Rattle.stack_driver.specs.References.{Reference, IsReference};
 ghost use Rattle.stack_driver.specs.Renewed.{array_of, renewed, MayRenew};
@@ -23,7 +23,7 @@ ghost use Rattle.stack_driver.specs.declared.view.View.{View as ViewOf};
 
 use cells::Name;
 use kv_face::KvStore;
-use session_turns::{
+use sessions::{
     Body, Names, State, Txn, bound_with, bounds_in_turn, named, transform_has_few_lists,
 };
 use stack_driver::{RenewError, View, array_of, dtype, renew, transform_of};

@@ -10,7 +10,7 @@ use Rattle.history.specs.Own.{Numbered}
 use Rattle.history.specs.Sessions.{Names, SessionState}
 use Rattle.history.specs.Steps.{IsRow, open_done, open_refused, open_unbuilt, open_failed, open_wanting, view_done, read_done, read_shrunk, read_damaged, read_failed, write_staged, write_done, begin_done, commit_done, abort_done, resize_done, resize_many, resize_split, resize_damaged, resize_failed, resolve_done, resolve_refused, IsAnswered, refused_line, wanting, done_line, write_alone, as_written}
 use Rattle.session_openings.specs.Bodies.{body_of}
-use Rattle.sessions.proofs.Laws.{commit_ends, write_ends}
+use Rattle.session_openings.proofs.Laws.{commit_ends, write_ends}
 
 -- want of memory is answered, with these events
 pub record IsWanting (fixed : Fixed) (owner : ℕ) (events : History) (s : SessionState) (line : ℕ) (asked : Asked) (own : List Numbered) : Type 0 where

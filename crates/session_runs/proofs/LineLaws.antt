@@ -21,11 +21,11 @@ use Rattle.line_parts.specs.declared.error.LineError.TheVariants as line
 use Rattle.line_parts.specs.declared.SpecError.TheVariants as spec
 use Rattle.session_runs.specs.Session.{MayGoOn, IsLineTold}
 use Rattle.session_openings.specs.Turns.{IsRested, HasPassed}
-use Rattle.sessions.specs.Commits.{HasSoundTxn, IsCommitTold}
-use Rattle.sessions.specs.Reads.{IsReadTold}
+use Rattle.session_openings.specs.Commits.{HasSoundTxn, IsCommitTold}
+use Rattle.session_openings.specs.Reads.{IsReadTold}
 use Rattle.session_openings.specs.Standing.{session_state, transaction_in, AreViews}
 use Rattle.session_openings.specs.Told.{IsToldAlone, IsToldBy, IsAnswerTo}
-use Rattle.sessions.proofs.Laws.{sound_later}
+use Rattle.session_openings.proofs.Laws.{sound_later}
 use Rattle.state_laws.specs.Agreement.{Opening}
 use Rattle.state_laws.specs.Outline.{outline}
 use Rattle.step_forms.specs.declared.error.StepsError.TheVariants as steps

@@ -25,7 +25,7 @@ use Rattle.session_runs.proofs.EndRows.{IsWanting, answer_wants}
 use Rattle.session_runs.proofs.Failing.{failed_next}
 use Rattle.session_openings.specs.Failures.{TellsFailures, failures_by, failures_of}
 use Rattle.session_openings.specs.Turns.{IsRested, HasPassed, added_by}
-use Rattle.sessions.specs.Commits.{HasSoundTxn}
+use Rattle.session_openings.specs.Commits.{HasSoundTxn}
 use Rattle.session_openings.specs.Standing.{session_state, transaction_in}
 use Rattle.session_openings.specs.Told.{IsTold}
 use Rattle.state_laws.specs.Agreement.{Opening}

@@ -17,7 +17,7 @@ use Rattle.kv_face.specs.Store.{Contents}
 use Rattle.session_openings.specs.Bodies.{answer_of}
 use Rattle.session_openings.specs.Failures.{failures_by, failures_of}
 use Rattle.session_openings.specs.Turns.{IsRested}
-use Rattle.sessions.specs.Commits.{HasSoundTxn}
+use Rattle.session_openings.specs.Commits.{HasSoundTxn}
 use Rattle.session_openings.specs.Standing.{session_state, transaction_in, AreViews}
 use Rattle.session_openings.specs.Told.{IsToldBy}
 use Rattle.state_laws.specs.Agreement.{Opening, TakesMount}

@@ -15,8 +15,8 @@ ghost use Rattle.serde_json.specs.View.{view as data_in};
 ghost use Rattle.session_openings.specs.Wanted.{MayOpen};
 ghost use Rattle.session_openings.specs.Failures.{TellsFailures};
 ghost use Rattle.session_openings.specs.Turns.{IsRested, HasPassed, added_by};
-ghost use Rattle.sessions.specs.Commits.{HasSoundTxn};
-ghost use Rattle.sessions.specs.Reads.{IsReadTold};
+ghost use Rattle.session_openings.specs.Commits.{HasSoundTxn};
+ghost use Rattle.session_openings.specs.Reads.{IsReadTold};
 ghost use Rattle.session_openings.specs.Standing.{session_state, transaction_in, AreViews};
 ghost use Rattle.session_openings.specs.Told.{IsToldAlone, IsToldBy};
 ghost use Rattle.step_forms.specs.Given.{IsGiven};
@@ -27,8 +27,9 @@ use index_transform::Transform;
 use kv_face::KvStore;
 use line_forms::{DownWant, JoinForm, OpenPlan};
 use serde_json::Value;
-use session_openings::{Body, Gate, Names, State, Txn, open, resolve};
-use sessions::{join, read, resize, view, write};
+use session_openings::{
+    Body, Gate, Names, State, Txn, join, open, read, resize, resolve, view, write,
+};
 use std::alloc::Global;
 use std::sync::Wait;
 use step_forms::Step;

@@ -2,3 +2,30 @@ pub mod Bodies
 pub mod Commits
 pub mod Writes
 pub mod Reads
+-- names of crates below, given on to those above
+pub use Rattle.session_turns.specs.Bodies as AnswerBodies
+pub use Rattle.session_turns.specs.Agreement
+pub use Rattle.session_turns.specs.Answers
+pub use Rattle.session_turns.specs.Asked
+pub use Rattle.session_turns.specs.Causes
+pub use Rattle.session_turns.specs.Changes
+pub use Rattle.session_turns.specs.Committing
+pub use Rattle.session_turns.specs.Conditions
+pub use Rattle.session_turns.specs.Failures
+pub use Rattle.session_turns.specs.Fetches
+pub use Rattle.session_turns.specs.Joins
+pub use Rattle.session_turns.specs.MeaningOpenings
+pub use Rattle.session_turns.specs.Meanings
+pub use Rattle.session_turns.specs.Numbers
+pub use Rattle.session_turns.specs.Opening
+pub use Rattle.session_turns.specs.Openings
+pub use Rattle.session_turns.specs.Outline
+pub use Rattle.session_turns.specs.Reading
+pub use Rattle.session_turns.specs.Recording
+pub use Rattle.session_turns.specs.Refusals
+pub use Rattle.session_turns.specs.Standing
+pub use Rattle.session_turns.specs.Status
+pub use Rattle.session_turns.specs.Told
+pub use Rattle.session_turns.specs.Turns
+pub use Rattle.session_turns.specs.Txn
+pub use Rattle.session_turns.specs.TxnTurns

@@ -1,5 +1,5 @@
 use Rattle.std.proofs.Common.{◌≡◌, drop, map}
-use Rattle.session_turns.specs.MeaningOpenings.{first_path, node_of}
+use Rattle.sessions.specs.MeaningOpenings.{first_path, node_of}
 use Rattle.session_openings.proofs.nodes.+finding.Given as goal
 
 -- the layers so far have no such node

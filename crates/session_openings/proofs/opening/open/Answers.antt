@@ -1,13 +1,13 @@
 use Rattle.std.proofs.Common.{length, inr, refl, rules}
-use Rattle.session_turns.specs.declared.Body.TheVariants as body
+use Rattle.sessions.specs.declared.Body.TheVariants as body
 use Rattle.history.specs.Answers as old
 use Rattle.history.specs.Lines.{opening}
 use Rattle.history.specs.Refs.{HasKnownRefs}
 use Rattle.indexmap.specs.IndexMap.{get_by_text}
-use Rattle.session_turns.specs.MeaningOpenings.{leaves_of, build_of}
+use Rattle.sessions.specs.MeaningOpenings.{leaves_of, build_of}
 use Rattle.session_openings.proofs.LineLaws.{told_opened, opened_keeps, view_known, refused_alone}
-use Rattle.session_turns.proofs.Laws.{passed_alone, names_then, told_without, refusal, outside_some}
-use Rattle.session_turns.specs.Standing.{session_state}
+use Rattle.sessions.proofs.Laws.{passed_alone, names_then, told_without, refusal, outside_some}
+use Rattle.sessions.specs.Standing.{session_state}
 use Rattle.stack_driver.specs.Conditions.{IsView}
 use Rattle.session_openings.proofs.opening.open.Goals as goal
 

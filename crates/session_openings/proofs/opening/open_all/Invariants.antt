@@ -1,6 +1,6 @@
 use Rattle.std.proofs.Common.{length}
 use Rattle.std.specs.List.{AllByRecursion}
-use Rattle.session_turns.specs.MeaningOpenings.{leaves_from}
+use Rattle.sessions.specs.MeaningOpenings.{leaves_from}
 use Rattle.session_openings.specs.Wanted.{MayBeAsked}
 use Rattle.session_openings.proofs.LoopLaws.{IsUnderWay}
 use Rattle.session_openings.proofs.opening.open_all.Given as goal

@@ -1,7 +1,7 @@
 use Rattle.std.proofs.Common.{[], sym, subst}
 use Rattle.std.specs.List.{AllByRecursion}
 use Rattle.indexmap.specs.IndexMap.{get_by_text}
-use Rattle.session_turns.specs.MeaningOpenings.{leaves_from}
+use Rattle.sessions.specs.MeaningOpenings.{leaves_from}
 use Rattle.session_openings.specs.Openings.{AreAllOpened, IsLeafRefused}
 use Rattle.session_openings.specs.Wanted.{MayBeAsked}
 use Rattle.session_openings.proofs.LineLaws.{opened_count, line_opened, line_refused}

@@ -1,10 +1,10 @@
 use Rattle.std.proofs.Common.{[], length, sym, subst}
 use Rattle.std.specs.Prelude.{◌++◌, ◌∷◌, unwrap_or}
 use Rattle.history.specs.Lines.{stored}
-use Rattle.session_turns.specs.MeaningOpenings.{node_of}
+use Rattle.sessions.specs.MeaningOpenings.{node_of}
 use Rattle.session_openings.specs.Openings.{OpensOne}
 use Rattle.session_openings.proofs.LeafLaws.{opens_one_stored, refuses_stored}
-use Rattle.session_turns.specs.Asked.{asked_leaf}
+use Rattle.sessions.specs.Asked.{asked_leaf}
 use Rattle.session_openings.proofs.opening.open_stored.Goals as goal
 
 pub returns-in-Ok-clause-ok : goal.returns-in-Ok-clause-ok

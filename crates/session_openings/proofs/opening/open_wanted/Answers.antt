@@ -1,6 +1,6 @@
 use Rattle.std.proofs.Common.{[], length, sym, subst}
 use Rattle.std.specs.Prelude.{IfOk, IfErr, unwrap_or}
-use Rattle.session_turns.specs.MeaningOpenings.{node_of}
+use Rattle.sessions.specs.MeaningOpenings.{node_of}
 use Rattle.session_openings.specs.Openings.{OpensOne, RefusesOne}
 use Rattle.session_openings.specs.Wanted.{wanted_leaf, MayBeAsked}
 use Rattle.session_openings.proofs.opening.open_wanted.Goals as goal

@@ -1,10 +1,10 @@
 use Rattle.std.proofs.Common.{◌≡◌, ◌∙◌, ◌⊎◌, [], length, ap, subst}
 use Rattle.std.specs.Prelude.{unwrap_or}
-use Rattle.session_turns.specs.declared.Body.TheVariants as body
-use Rattle.session_turns.specs.Bodies.{body_of}
-use Rattle.session_turns.specs.MeaningOpenings.{node_of}
-use Rattle.session_turns.specs.Asked.{asked_leaf}
-use Rattle.session_turns.specs.Opening.{open_answer, IsUnseen}
+use Rattle.sessions.specs.declared.Body.TheVariants as body
+use Rattle.sessions.specs.AnswerBodies.{body_of}
+use Rattle.sessions.specs.MeaningOpenings.{node_of}
+use Rattle.sessions.specs.Asked.{asked_leaf}
+use Rattle.sessions.specs.Opening.{open_answer, IsUnseen}
 use Rattle.session_openings.proofs.opening.refused.Goals as goal
 
 pub returns : goal.returns

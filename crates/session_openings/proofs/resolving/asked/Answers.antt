@@ -1,13 +1,13 @@
 use Rattle.std.proofs.Common.{◌∙◌, Some, Ok, rules, refl, sym, ap, subst}
-use Rattle.session_turns.specs.declared.Body.{Body}
+use Rattle.sessions.specs.declared.Body.{Body}
 use Rattle.history.specs.Acts.{on_leaf, resolves, act_of}
 use Rattle.history.specs.Answers as old
 use Rattle.history.specs.Lines.{resolving}
 use Rattle.indexmap.specs.IndexMap.{get_by_text}
 use Rattle.session_openings.proofs.ResolveLaws.{asked_act, no_array, no_transaction}
-use Rattle.session_turns.specs.Standing.{transaction_in}
-use Rattle.session_turns.specs.Told.{IsAnswerTo}
-use Rattle.session_turns.proofs.Laws.{refusal, outside_some, outside_none, answer_at, if_ok_map, if_ok_both, if_err_map}
+use Rattle.sessions.specs.Standing.{transaction_in}
+use Rattle.sessions.specs.Told.{IsAnswerTo}
+use Rattle.sessions.proofs.Laws.{refusal, outside_some, outside_none, answer_at, if_ok_map, if_ok_both, if_err_map}
 use Rattle.stack_driver.specs.Renewed.{array_of}
 use Rattle.session_openings.proofs.resolving.asked.Goals as goal
 

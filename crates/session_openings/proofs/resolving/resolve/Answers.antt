@@ -4,11 +4,11 @@ use Rattle.history.specs.Lines.{resolving}
 use Rattle.history.specs.Refs.{HasKnownRefs}
 use Rattle.indexmap.specs.IndexMap.{get_by_text}
 use Rattle.session_openings.proofs.ResolveLaws.{rises, told_renewed, renewed_keeps}
-use Rattle.session_turns.proofs.Laws.{own_of_turn, none_added, passed_of_turn, passed_alone, names_then, renewed_known, told_without, told_refused}
-use Rattle.session_turns.specs.Standing.{session_state, transaction_in}
-use Rattle.session_turns.specs.Told.{IsTold}
+use Rattle.sessions.proofs.Laws.{own_of_turn, none_added, passed_of_turn, passed_alone, names_then, renewed_known, told_without, told_refused}
+use Rattle.sessions.specs.Standing.{session_state, transaction_in}
+use Rattle.sessions.specs.Told.{IsTold}
 use Rattle.stack_driver.specs.Conditions.{IsView}
-use Rattle.session_turns.specs.Answers.{fixed_by}
+use Rattle.sessions.specs.Answers.{fixed_by}
 use Rattle.session_openings.proofs.resolving.resolve.Goals as goal
 
 pub resolved-requires-clause-array : goal.resolved-requires-clause-array

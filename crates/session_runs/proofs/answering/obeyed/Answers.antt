@@ -9,7 +9,7 @@ use Rattle.session_runs.specs.Session.{IsLineTold}
 use Rattle.session_runs.proofs.LineLaws.{line_alone, line_by, goes_by, goes_with, goes_alone}
 use Rattle.session_openings.proofs.Laws.{names_then}
 use Rattle.session_openings.specs.Standing.{session_state, transaction_in}
-use Rattle.sessions.proofs.Laws.{alone_tells, plain_view, plain_join, plain_begin, plain_abort}
+use Rattle.session_openings.proofs.Laws.{alone_tells, plain_view, plain_join, plain_begin, plain_abort}
 use Rattle.session_runs.proofs.answering.obeyed.Goals as goal
 
 pub returns-in-Open-clause-told : goal.returns-in-Open-clause-told

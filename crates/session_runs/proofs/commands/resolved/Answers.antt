@@ -5,7 +5,7 @@ use Rattle.history.specs.Lines.{resolving}
 use Rattle.indexmap.specs.IndexMap.{get_by_text}
 use Rattle.session_openings.specs.Failures.{failures_of}
 use Rattle.session_openings.specs.Standing.{session_state, transaction_in}
-use Rattle.sessions.proofs.Laws.{plain_resolve, told_tells_none}
+use Rattle.session_openings.proofs.Laws.{plain_resolve, told_tells_none}
 use Rattle.session_runs.proofs.commands.resolved.Goals as goal
 
 pub returns-clause-failures : goal.returns-clause-failures
