@@ -17,7 +17,7 @@ use Rattle.history.specs.Writes.{Put}
 use Rattle.history.proofs.Laws.{known_good, good_rank, good_positive, inside_within, inside-from, none_is_none, some_inj}
 use Rattle.cells.specs.Places.{cell_count}
 use Rattle.chunk_versions.specs.Moments.{newest, touched}
-use Rattle.chunk_versions.specs.Versions.{Versions, IsVersions, word_as_of}
+use Rattle.chunk_versions.specs.Versions.{Versions, IsVersions, word_as_of, word_if}
 use Rattle.version_laws.specs.Kept.{place_in, IsCellOf, ArePartVersionsOf}
 use Rattle.version_laws.proofs.Cells.{cell_inside}
 use Rattle.version_laws.proofs.Laws.{part_low, part_put, part_elsewhere}
@@ -69,6 +69,40 @@ new_room o number words v low places new = record {
   newest = subst (λ ts. newest ts ≤ number) (sym new.touches) low;
   places = subst (λ size. All (λ (w : PlacedWord). w.place < size) words) (sym new.size) places;
 }
+
+-- the versions of a chunk that only its opening touched
+abbrev new_versions : Opening → Versions
+new_versions o = record { size = o.size; fill = o.fill; touches = o.opened ∷ []; last = []; puts = [] }
+
+new_valid : (o : Opening) → IsVersions (new_versions o)
+new_valid o = record {
+  opened = omega arith;
+  rising = record { each = λ i j less within. absurd (omega (arith, less, within)) };
+  table = inl refl;
+  links = λ place. omega arith;
+  linked = record { before = λ k within. absurd (omega (arith, within)); behind = λ k within. absurd (omega (arith, within)) };
+}
+
+new_is : (o : Opening) → IsNew o (new_versions o)
+new_is o = record { size = refl; touches = refl; words = λ m place. by m place (nat_le o.opened m) } where
+  by : (m place : ℕ) (b : Bool) → word_if (new_versions o) place (cond b 1 0) ≡ cond b (Some o.fill) None
+  by m place true = refl
+  by m place false = refl
+
+-- where words may be put under an id, what is kept there has room
+pub kept_has : (s : VersionStore) (number : ℕ) (id : List ℕ) (words : List PlacedWord) (w : Versions) → Some w ≡ found s.chunks.entries id → IsVersions w → HasRoomUnder s number id words → HasRoom number words w
+kept_has s number id words w entry valid room = room w (subst (λ o. IsKeptAs (opening_under s id) o w) entry refl) valid
+
+-- and where nothing is kept the array has the places, and was opened before
+pub record AreInNew (o : Opening) (number : ℕ) (words : List PlacedWord) : Type 0 where
+  pub opened : o.opened ≤ number
+  pub places : All (λ (w : PlacedWord). w.place < o.size) words
+
+pub new_has : (s : VersionStore) (number : ℕ) (id : List ℕ) (words : List PlacedWord) → None ≡ found s.chunks.entries id → HasRoomUnder s number id words → AreInNew (opening_under s id) number words
+new_has s number id words entry room =
+    let o = opening_under s id in
+    let has = room (new_versions o) (subst (λ k. IsKeptAs o k (new_versions o)) entry (new_is o)) (new_valid o) in
+    record { opened = has.newest; places = has.places }
 
 -- what is kept of a chunk has room
 pub room_kept : (s : VersionStore) (number : ℕ) (id : List ℕ) (words : List PlacedWord) (w : Versions) → Some w ≡ found s.chunks.entries id → HasRoom number words w → HasRoomUnder s number id words

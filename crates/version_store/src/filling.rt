@@ -95,7 +95,9 @@ pub(crate) fn local_chunk(
 
 /// Whether a chunk has these places, and no event behind the one of this number touched it.
 pub(crate) fn room_in(chunk: &ChunkVersions, number: u64, words: &[PlacedWord]) -> bool
-    ensures { IsTrue result → HasRoom number words.now chunk.now }
+    ensures has { IsTrue result → HasRoom number words.now chunk.now }
+    ensures lacks { HasRoom number words.now chunk.now → IsTrue result }
+    ensures valid { IsVersions chunk.now }
 {
     if number < chunk.newest() {
         return false;
@@ -105,7 +107,8 @@ pub(crate) fn room_in(chunk: &ChunkVersions, number: u64, words: &[PlacedWord]) 
 
 /// The same of a chunk that only its opening touched.
 pub(crate) fn room_in_new(opening: Opening, number: u64, words: &[PlacedWord]) -> bool
-    ensures { IsTrue result → (v : Versions) → IsNew opening v → HasRoom number words.now v }
+    ensures has { IsTrue result → (v : Versions) → IsNew opening v → HasRoom number words.now v }
+    ensures lacks { opening.opened ≤ number → All (λ (w : Word). w.place < opening.size) words.now → IsTrue result }
 {
     if number < opening.opened {
         return false;
@@ -114,7 +117,8 @@ pub(crate) fn room_in_new(opening: Opening, number: u64, words: &[PlacedWord]) -
 }
 
 fn are_places(size: usize, words: &[PlacedWord]) -> bool
-    ensures { IsTrue result → All (λ (w : Word). w.place < size) words.now }
+    ensures are { IsTrue result → All (λ (w : Word). w.place < size) words.now }
+    ensures lack { All (λ (w : Word). w.place < size) words.now → IsTrue result }
 {
     for i in 0..words.len() {
         if word_at(words, i).place as usize >= size {

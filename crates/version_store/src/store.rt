@@ -97,8 +97,11 @@ impl VersionStore {
     }
 
     /// Whether words may be put at these places by the event of this number: the chunk has the places, and no later event touched it.
+    /// The words of a commit may always be put.
     pub fn has_room(&self, number: u64, id: &[u64], words: &[PlacedWord]) -> bool
-        ensures { IsTrue result → HasRoomUnder self.now number id.now words.now }
+        ensures room { IsTrue result → HasRoomUnder self.now number id.now words.now }
+        ensures commits { (h : History) (puts : List Put) (k : Known) (c : Chunk) (ps : List Put)
+            → IsPartStoreOf h puts self.now → ArePutIn h k c ps number id.now words.now → IsTrue result }
     {
         match self.chunks.get(id) {
             Some(chunk) => room_in(chunk, number, words),

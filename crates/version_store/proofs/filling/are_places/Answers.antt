@@ -16,7 +16,7 @@ loop-i-preserved c =
     let low : c.word_at.result.place < c.args.size = omega arith in
     All-more (λ (w : PlacedWord). w.place < c.args.size) words c.loop-i.i no_word within c.loop-i.invariant (subst (λ (w : PlacedWord). w.place < c.args.size) c.word_at.ensures low)
 
-pub returns : goal.returns
-returns c =
+pub returns-clause-are : goal.returns-clause-are
+returns-clause-are c =
     let past : length c.args.words.now ≤ c.loop-i.i = omega arith in
     λ so. subst (All (λ (w : PlacedWord). w.place < c.args.size)) (take_all c.loop-i.i c.args.words.now past) c.loop-i.invariant
