@@ -32,7 +32,7 @@ use Rattle.history.specs.Own.{opened_event, fault}
 use Rattle.history.specs.Places.{array_at, location, IsTable, IsFree}
 use Rattle.history.specs.Answers.{Text}
 use Rattle.history.proofs.Laws.{each_history, legal_step, legal_more, known_split, known_after-more, no_array, none_is_none, some_inj, table_none, table_opened, table_same, array_by_table, local_opening}
-use Rattle.transcript_cut.specs.Outline.{outline, outlined}
+use Rattle.transcript_cut.specs.Outline.{outline, outlined, outlined_event}
 use Rattle.transcript_cut.proofs.Laws.{opening_new, location_new}
 use Rattle.transcript_cut.proofs.Laws.{places_apart}
 use Rattle.transcript_cut.proofs.Laws.{free_of}
@@ -89,9 +89,13 @@ still_more : (h : History) (e : Event) → AreStill h → IsStill e.kind → Are
 still_more [] e all is = (is, tt)
 still_more (f ∷ h) e all is = (all.0, still_more h e all.1 is)
 
+flat_more : (h : History) (e : Event) → outlined_event e ≡ e → outline h ≡ h → outline (h ++ e ∷ []) ≡ h ++ e ∷ []
+flat_more h e is flat = outline-more h e ∙ ap (λ g. g ++ outlined_event e ∷ []) flat ∙ ap (λ f. h ++ f ∷ []) is
+
 pub no_arrays : (arrays : StatedArrays) → arrays.events.items ≡ [] → arrays.opened.items ≡ [] → arrays.places ≡ finmap.empty → AreArraysOf arrays
 no_arrays arrays events opened places = record {
   legal = subst (IsLegal finmap.empty) (sym events) tt;
+  flat = subst (λ h. outline h ≡ h) (sym events) refl;
   still = subst AreStill (sym events) tt;
   opened = subst (λ h. AreOpenedAt h arrays.opened.items) (sym events) (subst (AreOpenedAt []) (sym opened) none_opened);
   places = subst (λ h. IsTable h arrays.places) (sym events) (subst (IsTable []) (sym places) table_none);
@@ -122,6 +126,7 @@ fault_arrays old new owner mount are events opened places =
     let e = fault owner mount in
     record {
       legal = subst (IsLegal finmap.empty) (sym events) (legal_more finmap.empty h e are.legal tt);
+      flat = subst (λ g. outline g ≡ g) (sym events) (flat_more h e refl are.flat);
       still = subst AreStill (sym events) (still_more h e are.still tt);
       opened = subst (λ g. AreOpenedAt g new.opened.items) (sym events) (subst (AreOpenedAt (h ++ e ∷ [])) (sym opened) (fault_opened h owner mount old.opened.items are.opened));
       places = subst (λ g. IsTable g new.places) (sym events) (subst (IsTable (h ++ e ∷ [])) (sym places) (table_same h e old.places tt are.places));
@@ -169,6 +174,7 @@ opening_arrays old new owner info are legal events opened places =
     let e = opened_event owner info in
     record {
       legal = subst (IsLegal finmap.empty) (sym events) (legal_more finmap.empty h e are.legal legal);
+      flat = subst (λ g. outline g ≡ g) (sym events) (flat_more h e refl are.flat);
       still = subst AreStill (sym events) (still_more h e are.still tt);
       opened = subst (λ g. AreOpenedAt g new.opened.items) (sym events) (subst (AreOpenedAt (h ++ e ∷ [])) (sym opened) (opening_opened h owner info old.opened.items legal are.opened));
       places = subst (λ g. IsTable g new.places) (sym events) places;

@@ -38,6 +38,7 @@ stated_by_told scripts said lines kept (Some openings) is = record {
         claimed = λ history claim. is.only (outline history) (outline_to (outline history) scripts transcript told said lines are all (claimed_outlined told history claim));
         takings = taken_from openings.events scripts transcript [] told said lines openings.takings are all is.count is.takings;
       };
+  flat = is.flat;
   still = is.still;
   opened = is.opened;
   places = is.places;
@@ -45,15 +46,16 @@ stated_by_told scripts said lines kept (Some openings) is = record {
 stated_by_told scripts said lines kept None is = λ transcript told are history claim. is (outline history) (outline_to (outline history) scripts transcript told said lines are (kept transcript told are) (claimed_outlined told history claim))
 
 -- behind the last number
-pub openings_are : (said : List Said) (first last : List OpenLine) (openings : Openings) → HaveStated said first last openings.events → openings.takings ≡ map all_takings last → AreStill openings.events → AreOpenedAt openings.events openings.opened → IsTable openings.events openings.places
+pub openings_are : (said : List Said) (first last : List OpenLine) (openings : Openings) → HaveStated said first last openings.events → openings.takings ≡ map all_takings last → outline openings.events ≡ openings.events → AreStill openings.events → AreOpenedAt openings.events openings.opened → IsTable openings.events openings.places
     → AreOpeningsOf said first openings
-openings_are said first last openings is takings still opened places = record {
+openings_are said first last openings is takings flat still opened places = record {
   outline = is.outline;
   only = is.only;
   count = ap length takings ∙ length-map last all_takings ∙ is.count;
   takings = λ k s l at was.
       let m = line_at k l was in
       ap (λ ts. slice_get ts k) takings ∙ slice_get-map all_takings last k ∙ ap (option_map all_takings) m.1 ∙ ap Some (sym (is.takings k s l m.0 at was m.1));
+  flat = flat;
   still = still;
   opened = opened;
   places = places;
@@ -67,6 +69,7 @@ pub openings_of_arrays : (said : List Said) (first last : List OpenLine) (arrays
     → AreOpeningsOf said first openings
 openings_of_arrays said first last arrays openings is are events opened places takings =
     openings_are said first last openings (subst (HaveStated said first last) (sym events) is) takings
+    (subst (λ h. outline h ≡ h) (sym events) are.flat)
     (subst AreStill (sym events) are.still)
     (subst (λ h. AreOpenedAt h openings.opened) (sym events) (subst (AreOpenedAt arrays.events.items) (sym opened) are.opened))
     (subst (λ h. IsTable h openings.places) (sym events) (subst (IsTable arrays.events.items) (sym places) are.places))

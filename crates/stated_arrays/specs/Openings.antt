@@ -44,9 +44,10 @@ pub record IsStatedBy (told : List Told) (openings : Openings) : Type 0 where
   pub claimed : (history : History) → IsClaimed told history → outline history ≡ openings.events
   pub takings : AreTakenBy openings.events [] told openings.takings
 
--- it is, none of its arrays gets another shape, and the tables are those of them
+-- it is, no commit stands in it, none of its arrays gets another shape, and the tables are those of them
 pub record AreStatedBy (scripts : List (List ℕ)) (said : List Said) (openings : Openings) : Type 0 where
   pub stated : (transcript : List ℕ) (told : List Told) → AreSaid scripts transcript said told → IsStatedBy told openings
+  pub flat : outline openings.events ≡ openings.events
   pub still : AreStill openings.events
   pub opened : AreOpenedAt openings.events openings.opened
   pub places : IsTable openings.events openings.places

@@ -13,6 +13,7 @@ use Rattle.history.specs.Own.{opened_event}
 use Rattle.history.specs.Places.{array_at, IsTable}
 use Rattle.transcript_cut.specs.declared.SpecLeaf as spec
 use Rattle.transcript_cut.specs.Openings.{leaf_of}
+use Rattle.transcript_cut.specs.Outline.{outline}
 use Rattle.transcript_cut.specs.Takings.{opened_info}
 use Rattle.stated_arrays.specs.Still.{AreStill}
 use Rattle.stated_arrays.specs.declared.arrays.StatedArrays.{StatedArrays}
@@ -26,9 +27,10 @@ pub record AreOpenedAt (events : History) (opened : List ℕ) : Type 0 where
   pub count : length opened ≡ next_array events
   pub each : (a : ℕ) (k : Known) → known_after events a ≡ Some k → slice_get opened a ≡ Some k.opened
 
--- arrays are opened as they may be, none gets another shape, and the tables are those of the events
+-- arrays are opened as they may be, the events are an outline, in which none gets another shape, and the tables are theirs
 pub record AreArraysOf (arrays : StatedArrays) : Type 0 where
   pub legal : IsLegal finmap.empty arrays.events.items
+  pub flat : outline arrays.events.items ≡ arrays.events.items
   pub still : AreStill arrays.events.items
   pub opened : AreOpenedAt arrays.events.items arrays.opened.items
   pub places : IsTable arrays.events.items arrays.places

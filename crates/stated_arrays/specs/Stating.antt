@@ -9,6 +9,7 @@ use Rattle.history.specs.Lines.{SpecLeaf}
 use Rattle.history.specs.Own.{fault}
 use Rattle.transcript_cut.specs.StatedEvents.{IsEvent}
 use Rattle.transcript_cut.specs.ToldNumbers.{AreRising, single}
+use Rattle.transcript_cut.specs.Outline as outlines
 use Rattle.transcript_cut.specs.Takings.{Taking, takings}
 use Rattle.transcript_cut.specs.Transcript.{mount}
 use Rattle.transcript_cut.specs.Numbers.{all_numbers}
@@ -105,6 +106,7 @@ pub record AreOpeningsOf (said : List Said) (lines : List OpenLine) (openings : 
   pub count : length openings.takings ≡ length lines
   pub takings : (k : ℕ) (s : Said) (l : OpenLine) → slice_get said k ≡ Some s → slice_get lines k ≡ Some l
       → slice_get openings.takings k ≡ Some (numbers_taken openings.events (bare l.rest.items) s.numbers.opened)
+  pub flat : outlines.outline openings.events ≡ openings.events
   pub still : AreStill openings.events
   pub opened : AreOpenedAt openings.events openings.opened
   pub places : IsTable openings.events openings.places

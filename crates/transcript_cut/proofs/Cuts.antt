@@ -1,6 +1,6 @@
 -- Cutting a transcript line by line.
 use Rattle.std.proofs.Common.{◌≡◌, ◌<◌, ◌≤◌, ℕ, ◌+◌, ◌-◌, List, [], ◌∷◌, ◌++◌, false, true, length, take, drop, refl, sym, ap, subst, ◌∙◌, ◌⊎◌, inl, inr, arith, append_assoc, append-nil, length-drop}
-use Rattle.std.proofs.lemmas.List.{take-append-drop, drop-drop, drop_all}
+use Rattle.std.proofs.lemmas.List.{take-append-drop, drop-drop, drop_all, map-append}
 use Rattle.std.specs.List.{AllByRecursion, flat_map}
 use Rattle.serde_json.specs.Data.{Data}
 use Rattle.json_forms.specs.Bytes.{data_of}
@@ -12,7 +12,7 @@ use Rattle.transcript_laws.proofs.Laws.{cut_once, one_answer, regroup}
 use Rattle.transcript_cut.specs.Spans.{line_at, IsPlaced}
 use Rattle.transcript_cut.specs.Fronts.{BeginsWithAnswer, BeginsWithMemory, BeginsOtherwise}
 use Rattle.transcript_cut.specs.Said.{IsSaid, AreSaid}
-use Rattle.transcript_cut.specs.Cuttings.{IsWholeCut, IsBroken, IsCutOffAt, IsKeptAnswer}
+use Rattle.transcript_cut.specs.Cuttings.{lines_kept, IsWholeCut, IsBroken, IsCutOffAt, IsKeptAnswer}
 use Rattle.transcript_cut.specs.declared.numbers.EventNumbers.{EventNumbers}
 use Rattle.transcript_cut.specs.declared.said.AskedLine.{AskedLine}
 use Rattle.transcript_cut.specs.declared.said.Said.{Said}
@@ -131,6 +131,7 @@ module _ (scripts : List (List ℕ)) (transcript : List ℕ) where
     pub plain : AllByRecursion IsPlainTold told
     pub text : transcript ≡ texts told ++ drop at transcript
     pub said : AreSaid scripts transcript kept told
+    pub lines : lines_kept scripts kept ≡ earlier
     pub within : at ≤ length transcript
 
   pub at_start : (kept : List Said) (left : List ScriptLine) → kept ≡ [] → lines_of_scripts 0 scripts ≡ left → IsCutUpTo kept left 0
@@ -142,6 +143,7 @@ module _ (scripts : List (List ℕ)) (transcript : List ℕ) where
     plain = tt;
     text = refl;
     said = subst (λ k. AreSaid scripts transcript k []) (sym none) tt;
+    lines = ap (lines_kept scripts) none;
     within = omega arith;
   }
 
@@ -172,6 +174,7 @@ module _ (scripts : List (List ℕ)) (transcript : List ℕ) where
       text = ap (λ n. take n (drop at transcript)) sized;
       prints = begins.prints;
     });
+    lines = map-append (λ (s : Said). line_at scripts s.line) said (kept_said line at size numbers ∷ []) ∙ ap (λ ls. ls ++ line_at scripts line ∷ []) is.lines;
     within = within;
   }
     where
@@ -241,5 +244,6 @@ module _ (scripts : List (List ℕ)) (transcript : List ℕ) where
       whole = is.text ∙ ap (λ rest. texts is.told ++ rest) (drop_all at transcript past) ∙ append-nil (texts is.told);
     };
     said = is.said;
+    lines = is.lines ∙ sym (is.parts ∙ ap (λ ls. is.earlier ++ ls) lefts ∙ append-nil is.earlier);
     plain = is.plain;
   }

@@ -1,7 +1,7 @@
 -- What cutting a transcript gives.
-use Rattle.std.specs.Prelude.{◌≡◌, ℕ, ◌+◌, List, [], ◌∷◌, ◌++◌, false}
+use Rattle.std.specs.Prelude.{◌≡◌, ℕ, ◌+◌, List, [], ◌∷◌, ◌++◌, map, false}
 use Rattle.std.specs.List.{AllByRecursion}
-use Rattle.transcript_laws.specs.Transcript.{ScriptLine, Told, IsCut}
+use Rattle.transcript_laws.specs.Transcript.{ScriptLine, lines_of_scripts, Told, IsCut}
 use Rattle.transcript_laws.specs.Unchecked.{is_memory_answer, IsCutOff}
 use Rattle.transcript_laws.specs.Verdicts.{FailsPart1}
 use Rattle.transcript_cut.specs.Fronts.{BeginsWithAnswer, BeginsWithMemory, BeginsOtherwise}
@@ -17,11 +17,16 @@ use Rattle.transcript_cut.specs.declared.numbers.EventNumbers.{EventNumbers}
 use Rattle.transcript_cut.specs.declared.said.AskedLine.{AskedLine}
 use Rattle.transcript_cut.specs.declared.said.Said.{Said}
 
--- the transcript is cut, no answer is want of memory, and this is kept of it
+-- the lines of which something is kept
+abbrev pub lines_kept : List (List ℕ) → List Said → List ScriptLine
+lines_kept scripts kept = map (λ (s : Said). line_at scripts s.line) kept
+
+-- the transcript is cut, no answer is want of memory, and this is kept of it, line by line
 pub record IsWholeCut (scripts : List (List ℕ)) (transcript : List ℕ) (kept : List Said) : Type 0 where
   pub told : List Told
   pub cut : IsCut scripts transcript told
   pub said : AreSaid scripts transcript kept told
+  pub lines : lines_kept scripts kept ≡ lines_of_scripts 0 scripts
   pub plain : AllByRecursion (λ (t : Told). is_memory_answer t.answer ≡ false) told
 
 -- the transcript can't be cut, and not because of want of memory
