@@ -40,8 +40,8 @@ pub fn act_of(
     act_of_bytes(alloc, bytes_of(scripts, line), mounts)
 }
 
-// The bytes of a line.
-fn bytes_of(scripts: &[List<u8>], line: AskedLine) -> &[u8]
+/// The bytes of a line.
+pub fn bytes_of(scripts: &[List<u8>], line: AskedLine) -> &[u8]
     requires { IsPlaced scripts.now line }
     ensures { result.now ≡ (line_at scripts.now line).bytes }
 {

@@ -14,6 +14,7 @@ mod outcomes;
 mod serving;
 mod stating;
 
+pub use acts::bytes_of;
 pub use asked::{Asked, Wanted, wanted_by};
 pub use openings::{Openings, state_openings};
 pub use outcomes::{LeafOutcome, array_at, array_opened, outcome_after, place_next};
