@@ -73,7 +73,8 @@ refused_checked : (fault : Option FormError) → IsCheckedLine (refused_by fault
 refused_checked None = tt
 refused_checked (Some f) = tt
 
-in_checked : (r : Result Form LineError) → is_unchecked_in r ≡ false → IsCheckedLine (line_in r)
+-- what has the form of a checked command, or none, asks for what is checked
+pub in_checked : (r : Result Form LineError) → is_unchecked_in r ≡ false → IsCheckedLine (line_in r)
 in_checked (Ok f) is = form_checked f is
 in_checked (Err e) is = refused_checked (form_error e)
 

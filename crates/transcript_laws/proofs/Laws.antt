@@ -7,7 +7,12 @@ pub use Rattle.transcript_laws.proofs.Cuts.{cut_once, one_answer, regroup}
 -- a transcript is cut in one way
 pub use Rattle.transcript_laws.proofs.Cuts.{cut_is_one}
 -- what is told of the lines states one history at most
-pub use Rattle.transcript_laws.proofs.OneHistory.{history_is_one}
+pub use Rattle.transcript_laws.proofs.OneHistory.{history_is_one, stated_is_one}
+-- each commit that lines of checked scripts state is sound, and no line states that an array gets another shape
+pub use Rattle.transcript_laws.proofs.StatedCommits.{stated_commits_are_sound}
+pub use Rattle.transcript_laws.proofs.StatedEvents.{stated_unresized}
+-- a sound operation may follow the events behind which its arrays are known, where there is one word for each of its cells
+pub use Rattle.transcript_laws.proofs.StatedCommits.{sound_follows}
 -- where part 4 holds, so does part 5
 pub use Rattle.transcript_laws.proofs.Plain.{part_5_follows}
 -- one line at most is that because of which a transcript isn't checked, and one verdict at most is right

@@ -39,5 +39,8 @@ pub mod Valid
 pub mod Typed
 pub mod Commits
 pub mod Words
+pub mod StatedEvents
+pub mod KnownArrays
+pub mod StatedCommits
 pub mod Fit
 pub mod Yes

@@ -30,7 +30,7 @@ use Rattle.state_laws.specs.Outline.{outline, outlined_event}
 use Rattle.state_laws.proofs.Outline.{outline-more}
 use Rattle.transcript_laws.specs.Transcript.{mount, Told}
 use Rattle.transcript_laws.specs.Numbers.{opened_in, failed_in, done_in, numbers_in, numbers_of, told_of, AreRising, AreNumbered}
-use Rattle.transcript_laws.specs.Claimed.{opening_of, at_number, stated_by, stated_asked, stated, faults_at, commits_at, AreStated, IsClaimed}
+use Rattle.transcript_laws.specs.Claimed.{opening_of, at_number, stated_by, stated_asked, stated, faults_at, commits_at, AreStated, IsClaimed, IsStatedHistory}
 use Rattle.transcript_laws.specs.Standings.{Standing, first_standing, standing_step}
 use Rattle.transcript_laws.specs.Takings.{Taking, taking, takings, was_opened, opened_info}
 use Rattle.transcript_laws.specs.Stances.{Stance, stance_of, stance_by}
@@ -38,11 +38,11 @@ use Rattle.transcript_laws.proofs.SameOutline.{AreOutlined, count_same, was_same
 use Rattle.transcript_laws.proofs.Stances.{step_stance}
 
 -- the number is among these
-abbrev IsIn : ℕ → List ℕ → Type 0
+abbrev pub IsIn : ℕ → List ℕ → Type 0
 IsIn m [] = ⊥
 IsIn m (n ∷ ns) = (n ≡ m) ⊎ IsIn m ns
 
-is_in : (ns : List ℕ) (m : ℕ) → Contains ns m → IsIn m ns
+pub is_in : (ns : List ℕ) (m : ℕ) → Contains ns m → IsIn m ns
 is_in [] m (j, low, is) = absurd (omega (arith, low))
 is_in (n ∷ ns) m (zero, low, is) = inl is
 is_in (n ∷ ns) m (suc j, low, is) = inr (is_in ns m (j, omega (arith, low), is))
@@ -56,7 +56,7 @@ in_back : (ns ms : List ℕ) (m : ℕ) → IsIn m ms → IsIn m (ns ++ ms)
 in_back [] ms m is = is
 in_back (n ∷ ns) ms m is = inr (in_back ns ms m is)
 
-in_either : (ns ms : List ℕ) (m : ℕ) → IsIn m (ns ++ ms) → IsIn m ns ⊎ IsIn m ms
+pub in_either : (ns ms : List ℕ) (m : ℕ) → IsIn m (ns ++ ms) → IsIn m ns ⊎ IsIn m ms
 in_either [] ms m is = inr is
 in_either (n ∷ ns) ms m (inl is) = inl (inl is)
 in_either (n ∷ ns) ms m (inr is) = elim (in_either ns ms m is) [ inl a ↦ inl (inr a) | inr b ↦ inr b ]
@@ -80,10 +80,10 @@ not_below n ns m is (inl same) = omega (arith, same)
 not_below n [] m is (inr more) = absurd more
 not_below n (k ∷ ns) m is (inr more) = let low = not_below k ns m is.1 more in let first = is.0 in omega (arith, low, first)
 
-abbrev AreEvents : History → List Numbered → Type 0
+abbrev pub AreEvents : History → List Numbered → Type 0
 AreEvents h os = AllByRecursion (λ (o : Numbered). IsEvent h o.number o.event) os
 
-events_front : (h : History) (os ps : List Numbered) → AreEvents h (os ++ ps) → AreEvents h os
+pub events_front : (h : History) (os ps : List Numbered) → AreEvents h (os ++ ps) → AreEvents h os
 events_front h [] ps is = tt
 events_front h (o ∷ os) ps is = (is.0, events_front h os ps is.1)
 
@@ -366,7 +366,7 @@ first_in : (b : Bool) (t : Told) (ts : List Told) (m : ℕ) → b ≡ true → I
 first_in true t ts m is there = in_front (numbers_in t.answer) (numbers_of ts) m there
 first_in false t ts m is there = absurd (cc)
 
-session_of : (told : List Told) (m : ℕ) → IsIn m (numbers_of told) → (p : ℕ) × IsIn m (numbers_of (told_of p told))
+pub session_of : (told : List Told) (m : ℕ) → IsIn m (numbers_of told) → (p : ℕ) × IsIn m (numbers_of (told_of p told))
 session_of [] m is = absurd is
 session_of (t ∷ told) m is =
     elim (in_either (numbers_in t.answer) (numbers_of told) m is) [
@@ -375,7 +375,7 @@ session_of (t ∷ told) m is =
     ]
 
 -- the events up to a number, and the one before it
-grows : (h : History) (n : ℕ) (e : Event) → IsEvent h (n + 1) e → take (n + 1) h ≡ take n h ++ e ∷ []
+pub grows : (h : History) (n : ℕ) (e : Event) → IsEvent h (n + 1) e → take (n + 1) h ≡ take n h ++ e ∷ []
 grows h n e is =
     let numbered = is.numbered in
     let size : n ≡ length is.before = omega (arith, numbered) in
@@ -385,7 +385,7 @@ grows h n e is =
     ap (λ j. take j h) more ∙ ap (take (length (is.before ++ e ∷ []))) (is.parts ∙ sym (append_assoc is.before (e ∷ []) is.later)) ∙ take-append_seam (is.before ++ e ∷ []) is.later in
     longer ∙ ap (λ xs. xs ++ e ∷ []) (sym front)
 
-module _ (told : List Told) (h k : History) (numbered : AreNumbered told) (is : IsClaimed told h) (are : IsClaimed told k) where
+module _ (told : List Told) (h k : History) (numbered : AreNumbered told) (is : IsStatedHistory told h) (are : IsStatedHistory told k) where
   abbrev total : ℕ
   total = length (numbers_of told)
 
@@ -449,6 +449,13 @@ module _ (told : List Told) (h k : History) (numbered : AreNumbered told) (is : 
       let both = both_at n (omega (arith, low)) in
       subst (λ j. take j h ≡ take j k) next (grows h n both.0 both.1 ∙ ap (λ xs. xs ++ both.0 ∷ []) same ∙ sym (grows k n both.0 both.2))
 
-  -- one history at most is claimed
-  pub history_is_one : h ≡ k
-  history_is_one = sym whole_h ∙ all_same total (omega arith) ∙ whole_k
+  -- one history at most is stated
+  pub stated_is_one : h ≡ k
+  stated_is_one = sym whole_h ∙ all_same total (omega arith) ∙ whole_k
+
+stated_of : (told : List Told) (h : History) → IsClaimed told h → IsStatedHistory told h
+stated_of told h is = record { sessions = is.sessions; count = is.count }
+
+-- so one at most is claimed
+pub history_is_one : (told : List Told) (h k : History) → AreNumbered told → IsClaimed told h → IsClaimed told k → h ≡ k
+history_is_one told h k numbered is are = stated_is_one told h k numbered (stated_of told h is) (stated_of told k are)

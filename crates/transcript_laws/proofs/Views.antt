@@ -39,11 +39,12 @@ use Rattle.line_forms.specs.declared.Tree.TheVariants as tree
 use Rattle.history.specs.Answers as told
 use Rattle.history.specs.Acts.{changed}
 use Rattle.history.specs.Lines.{FormError, ChangeError, Change, Build, Line, refused, opening, viewing, joining, reading, writing, beginning, committing, aborting, resizing, resolving}
+use Rattle.history.specs.Staged.{HasFittingValues}
 use Rattle.line_meanings.specs.Changes.{by_view, by_transform, under_steps, by_steps, steps_of, changes_of}
 use Rattle.line_meanings.specs.Meanings.{line_of, line_in, line_of_bytes, refused_by}
 use Rattle.line_meanings.specs.Openings.{by_built, build_of}
 use Rattle.line_meanings.specs.Refusals.{form_error}
-use Rattle.line_meanings.proofs.Laws.{OpensSound, applied-outputs, form_sound}
+use Rattle.line_meanings.proofs.Laws.{OpensSound, applied-outputs, form_sound, fitting_line}
 use Rattle.line_meanings.proofs.TreeForms.{built-Leaf, built-Cast, built-Stack, every_base, every_layer}
 use Rattle.transcript_laws.specs.Transcript.{mount}
 
@@ -250,3 +251,15 @@ bytes_views bytes = by (command_of_line (mount ∷ []) bytes) refl
     by : (r : Result Form LineError) → command_of_line (mount ∷ []) bytes ≡ r → IsViewLine (line_in r)
     by (Ok f) is = form_views f (form_sound mount bytes f is)
     by (Err e) is = refused_views (form_error e)
+
+refused_fits : (fault : Option FormError) → HasFittingValues (refused_by fault)
+refused_fits None = tt
+refused_fits (Some f) = tt
+
+-- and its values fit
+pub bytes_fit : (bytes : List ℕ) → HasFittingValues (line_of_bytes (mount ∷ []) bytes)
+bytes_fit bytes = by (command_of_line (mount ∷ []) bytes)
+  where
+    by : (r : Result Form LineError) → HasFittingValues (line_in r)
+    by (Ok f) = fitting_line f
+    by (Err e) = refused_fits (form_error e)

@@ -1,5 +1,5 @@
 -- The values that logs print have a word of their dtype for each cell.
-use Rattle.std.proofs.Common.{◌≡◌, ℕ, ◌+◌, ◌<◌, ◌≤◌, List, [], ◌∷◌, length, map, take, Bool, true, false, cond, Option, Some, None, Ok, Err, refl, ap, subst, arith, eq-eqb, eqb-true}
+use Rattle.std.proofs.Common.{◌≡◌, ℕ, ◌+◌, ◌<◌, ◌≤◌, List, [], ◌∷◌, length, map, take, Bool, true, false, cond, Option, Some, None, refl, ap, subst, arith, eq-eqb, eqb-true}
 use Rattle.std.specs.Prelude.{◌==◌}
 use Rattle.std.specs.List.{AllByRecursion}
 use Rattle.std.specs.FinMap as finmap
@@ -23,15 +23,12 @@ use Rattle.history.specs.Leaves.{Leaf}
 use Rattle.history.specs.Own.{Numbered, own_events}
 use Rattle.history.specs.Refs.{HasKnownRefs}
 use Rattle.history.specs.Sessions.{Names, SessionState, reader}
-use Rattle.history.specs.Staged.{IsStaged, AreStaged, FitsInLine, HasFittingValues}
+use Rattle.history.specs.Staged.{IsStaged, AreStaged, FitsInLine}
 use Rattle.history.specs.Steps.{as_written, IsRow, open_done, open_refused, open_unbuilt, open_failed, open_wanting, view_done, read_done, read_shrunk, read_damaged, read_failed, write_staged, write_done, begin_done, commit_done, abort_done, resize_done, resize_many, resize_split, resize_damaged, resize_failed, resolve_done, resolve_refused, IsAnswered, refused_line, wanting, done_line, IsSessionRun, no_line, blank_line, next_line, last_line}
 use Rattle.history.proofs.Asking.{IsAskedBy}
 use Rattle.history.proofs.Laws.{view_later, step_staged}
 use Rattle.history.proofs.StepsKnown.{AreKnown, step_known, IsActKnown, act_of-known}
-use Rattle.line_forms.specs.Lines.{command_of_line}
-use Rattle.line_meanings.specs.Meanings.{line_in, line_of_bytes, refused_by, asked_line}
-use Rattle.line_meanings.specs.Refusals.{form_error}
-use Rattle.line_meanings.proofs.Laws.{fitting_line}
+use Rattle.line_meanings.specs.Meanings.{line_of_bytes, asked_line}
 use Rattle.script_lines.specs.Script.{lines_of, is_blank}
 use Rattle.serial_runs.specs.Attempts.{is_ok}
 use Rattle.serial_runs.specs.Runs.{Script}
@@ -45,7 +42,7 @@ use Rattle.transcript_laws.proofs.Numbered.{of_mount}
 use Rattle.transcript_laws.proofs.Runs.{HasNoMemory, HaveRunAll, all_run}
 use Rattle.transcript_laws.proofs.Typed.{read_words}
 use Rattle.transcript_laws.proofs.Valid.{IsViewOp, AreViewNames, AreViewOps, IsViewAct, act_views, step_views}
-use Rattle.transcript_laws.proofs.Views.{AreViewLines, bytes_views}
+use Rattle.transcript_laws.proofs.Views.{AreViewLines, bytes_views, bytes_fit}
 use Rattle.transcript_laws.proofs.Whole.{IsGoodScript, arrays_on}
 
 -- an answer that says of no line that it did what it asks for has no values
@@ -149,24 +146,13 @@ module _ (owner : ℕ) (history : History) (legal : IsLegal finmap.empty history
   run_words within checked parts fitting known views staged none (last_line step) = let wants : true ≡ false = none.0 in absurd (cc)
 
 -- what scripts ask keeps the rules
-one_fits : (bytes : List ℕ) → HasFittingValues (line_of_bytes (mount ∷ []) bytes)
-one_fits bytes = by (command_of_line (mount ∷ []) bytes)
-  where
-    refused_fits : (fault : Option _) → HasFittingValues (refused_by fault)
-    refused_fits None = tt
-    refused_fits (Some f) = tt
-
-    by : (r : _) → HasFittingValues (line_in r)
-    by (Ok f) = fitting_line f
-    by (Err e) = refused_fits (form_error e)
-
 script_fits : (lines : List (List ℕ)) → AllByRecursion FitsInLine (map (asked_line (mount ∷ [])) lines)
 script_fits [] = tt
 script_fits (bytes ∷ lines) = (by (is_blank bytes), script_fits lines)
   where
     by : (b : Bool) → FitsInLine (cond b None (Some (line_of_bytes (mount ∷ []) bytes)))
     by true = tt
-    by false = one_fits bytes
+    by false = bytes_fit bytes
 
 script_views : (lines : List (List ℕ)) → AreViewLines (map (asked_line (mount ∷ [])) lines)
 script_views [] = tt

@@ -73,6 +73,11 @@ abbrev pub AreStated : History → Standing → List Told → Type 0
 AreStated history s [] = Unit {0}
 AreStated history s (told ∷ more) = IsStated history s told × AreStated history (standing_step history s told) more
 
+-- the history has at each number the event that its line states, and no other; whether it may happen isn't asked
+pub record IsStatedHistory (told : List Told) (history : History) : Type 0 where
+  pub sessions : (session : ℕ) → AreStated history first_standing (told_of session told)
+  pub count : length history ≡ length (numbers_of told)
+
 -- part 3: the history has at each number the event that its line states, and no other, and may happen over an empty
 -- store
 pub record IsClaimed (told : List Told) (history : History) : Type 0 where

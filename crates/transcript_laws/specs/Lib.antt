@@ -16,6 +16,7 @@ pub mod ReadConflict
 pub mod ReadConflictTold
 pub mod Stances
 pub mod Outputs
+pub mod StatedCommits
 -- names of crates below, given on to those above
 pub use Rattle.answer_data.specs.Lines as AnswerLines
 pub use Rattle.line_meanings.specs.Meanings

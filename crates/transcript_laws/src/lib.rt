@@ -8,6 +8,7 @@ ghost use Rattle.transcript_laws.specs.ReadConflict as conflict;
 ghost use Rattle.transcript_laws.specs.Outputs.{OutputsAreAnswered, OutputsAreCut, OutputsAreNumbered};
 ghost use Rattle.transcript_laws.specs.Outputs.{OutputsArePrintable, OutputsAreYes, OutputsFit, OutputsHaveWords};
 ghost use Rattle.transcript_laws.specs.Outputs.{OutputsState, PrintableOutputsFit};
+ghost use Rattle.transcript_laws.specs.StatedCommits.{StatedCommitsAreSound};
 ghost use Rattle.transcript_laws.specs.ThreeCells.{scripts, transcript};
 ghost use Rattle.transcript_laws.specs.ThreeCellsNumberless as numberless;
 ghost use Rattle.transcript_laws.specs.ThreeCellsWrong.{wrong_commit, wrong_value};
@@ -86,4 +87,10 @@ pub fn printable_outputs_fit()
 /// What logs print is answered yes, by as many events as there are, where the answers read back.
 pub fn outputs_are_yes()
     ensures { OutputsAreYes }
+{}
+
+/// Each commit that lines of checked scripts state has no key, and is through views of arrays of the history, whose cells lie in the
+/// arrays' shapes; a Write has a word of its view's dtype for each cell.
+pub fn stated_commits_are_sound()
+    ensures { StatedCommitsAreSound }
 {}
