@@ -37,7 +37,7 @@ use Rattle.event_replay.proofs.Sites.{IsSiteOf, sites_of_op}
 
 module _ (h : History) (puts : List Put) (v : View) (words leaves : List ℕ) (casts : List (List Cast)) (s : VersionStore) (ask : IsAsked h puts v words leaves casts s) where
   pub read_sites : AllByRecursion (IsSiteOf h) (sites_of v)
-  read_sites = sites_of_op h (Read v words) ask.legal ask.may ask.sites
+  read_sites = sites_of_op h (Read v words) ask.may ask.sites
 
   all_asked : AreAsked leaves words casts 0 (sites_of v) words
   all_asked = asked_of casts leaves words 0 leaves (sites_of v) words ask.through ask.lanes refl refl ask.count

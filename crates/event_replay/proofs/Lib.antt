@@ -11,3 +11,8 @@ pub mod PieceLaws
 pub mod SeenLaws
 pub mod Demanded
 pub mod MetLaws
+pub mod Fronts
+pub mod FollowLaws
+pub mod WindowLaws
+pub mod LinkLaws
+pub mod SweepLaws

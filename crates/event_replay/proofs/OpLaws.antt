@@ -11,7 +11,7 @@ use Rattle.history.specs.declared.event.Op.{Op}
 use Rattle.history.specs.declared.event.Op.TheVariants.{Write, Read}
 use Rattle.history.specs.History.{History}
 use Rattle.history.specs.Content.{world_after}
-use Rattle.history.specs.Legal.{IsLegal, AreReads, viewed, words_of}
+use Rattle.history.specs.Legal.{AreReads, viewed, words_of}
 use Rattle.history.specs.Writes.{Put, puts_of, puts_of_op}
 use Rattle.stack_driver.specs.declared.view.View.{View}
 use Rattle.stack_targets.specs.Landings.{leaves_of}
@@ -21,7 +21,7 @@ use Rattle.transaction_cells.specs.Operations.{HasSites}
 use Rattle.transaction_cells.specs.Pieces.{AreCells}
 use Rattle.transaction_cells.specs.Sites.{Site, sites_of}
 use Rattle.transaction_cells.specs.declared.view_cells.ViewCells.{ViewCells}
-use Rattle.transaction_cells.proofs.Laws.{alike_in, leaves_in}
+use Rattle.transaction_cells.proofs.Laws.{alike_in}
 use Rattle.version_store.specs.Stores.{IsPartStoreOf}
 use Rattle.version_store.specs.declared.store.VersionStore.{VersionStore}
 use Rattle.event_replay.specs.Pieces.{CanLocate, ArePut}
@@ -29,12 +29,12 @@ use Rattle.event_replay.specs.Replays.{MayFollow, IsBehind, HasItsWords}
 use Rattle.event_replay.proofs.PutWords.{kept_words}
 use Rattle.event_replay.proofs.Sites.{has_targets}
 
-pub can_locate : (h : History) (op : Op) → IsLegal finmap.empty h → MayFollow h op → CanLocate (viewed op)
-can_locate h op legal may = record {
+pub can_locate : (h : History) (op : Op) → MayFollow h op → CanLocate (viewed op)
+can_locate h op may = record {
   view = may.view;
   finite = may.legal.finite;
   few = may.few;
-  alike = alike_in h (leaves_of (viewed op)) (leaves_in finmap.empty h (viewed op) legal may.refs);
+  alike = alike_in may.leaves.later (leaves_of (viewed op)) may.leaves.each;
   targets = has_targets h op may;
 }
 

@@ -78,7 +78,7 @@ runs_of_piece h sites p n all piece count =
 
 module _ (h : History) (number : ℕ) (puts : List Put) (v : View) (words kept : List ℕ) (s : VersionStore) (put : IsPut h number puts v words kept s) where
   pub op_sites : AllByRecursion (IsSiteOf h) (sites_of v)
-  op_sites = sites_of_op h (Write v words) put.legal put.may put.sites
+  op_sites = sites_of_op h (Write v words) put.may put.sites
 
   pub op_puts : puts_of_op (Write v words) ≡ puts_at (sites_of v) words
   op_puts = sym (append-nil (puts_of_op (Write v words))) ∙ puts-more [] v words put.sites

@@ -1,22 +1,24 @@
 -- The cells of an operation that may follow a history.
-use Rattle.std.proofs.Common.{◌≡◌, ◌∙◌, ◌<◌, ℕ, ◌+◌, List, [], ◌∷◌, map, true, Some, Result, Ok, Err, refl, sym, ap, subst, arith}
-use Rattle.std.specs.FinMap as finmap
+use Rattle.std.proofs.Common.{◌≡◌, ◌∙◌, ◌<◌, ℕ, ◌+◌, List, [], ◌∷◌, length, map, true, false, Option, Some, None, Result, Ok, Err, refl, sym, ap, subst, arith}
+use Rattle.std.specs.Prelude.{IsTrue}
 use Rattle.std.specs.List.{AllByRecursion}
 use Rattle.cells.specs.Places.{cell_count, c_place}
+use Rattle.cells.specs.Shapes.{IsChunkShape}
+use Rattle.history.specs.declared.array.ArrayInfo.{ArrayInfo}
 use Rattle.history.specs.declared.event.Op.{Op}
 use Rattle.history.specs.Arrays.{Known, known_after, chunk_shape}
-use Rattle.history.specs.Chunks.{Chunk, chunk_in, chunk_of, within_chunk}
+use Rattle.history.specs.Chunks.{Chunk, chunk_in, chunk_index, chunk_of, within_chunk}
 use Rattle.history.specs.History.{History}
-use Rattle.history.specs.Legal.{IsLegal, HasTarget, is_present, viewed}
+use Rattle.history.specs.Legal.{HasTarget, is_present, is_present_in, viewed}
 use Rattle.history.proofs.Laws.{some_inj}
 use Rattle.stack_driver.specs.Targets.{Target}
 use Rattle.stack_driver.specs.Views.{targets_of}
 use Rattle.stack_driver.specs.declared.error.TargetError.{TargetError}
 use Rattle.stack_targets.specs.Buffers.{all_or_first, all_targets, first_and}
 use Rattle.stack_targets.specs.declared.error.TargetsError.{TargetsError}
-use Rattle.transaction_cells.specs.Operations.{HasSites}
+use Rattle.transaction_cells.specs.Operations.{HasSites, KeepsArrays}
 use Rattle.transaction_cells.specs.Sites.{Site, sites_of}
-use Rattle.transaction_cells.proofs.Laws.{IsSiteIn, known_sites, leaves_in}
+use Rattle.transaction_cells.proofs.Laws.{IsSiteIn, known_sites}
 use Rattle.transaction_cells.proofs.PlaceLaws.{place-lt}
 use Rattle.version_laws.specs.Kept.{place_in, IsCellOf}
 use Rattle.version_store.specs.Ids.{id_of}
@@ -32,13 +34,41 @@ pub all_present : (h : History) (sites : List Site) → AllByRecursion (IsSiteIn
 all_present h [] known all = tt
 all_present h (s ∷ sites) known all = (record { within = known.0; present = all.0 }, all_present h sites known.1 all.1)
 
-pub sites_of_op : (h : History) (op : Op) → IsLegal finmap.empty h → MayFollow h op → HasSites (viewed op) → AllByRecursion (IsSiteOf h) (sites_of (viewed op))
-sites_of_op h op legal may has =
-    all_present h (sites_of (viewed op)) (known_sites h (viewed op) (leaves_in finmap.empty h (viewed op) legal may.refs) has.grids)
+-- a cell of an array that is opened now or later is one of an array that is there, where it lies in that one's present shape
+module _ (h later : History) (keeps : KeepsArrays h later) where
+  site_before : (s : Site) → IsSiteIn later s → IsTrue (is_present h s.target.cell) → IsSiteOf h s
+  site_before s within present = by (known_after h s.target.cell.array) refl
+    where
+      by : (o : Option Known) → known_after h s.target.cell.array ≡ o → IsSiteOf h s
+      by None none = absurd (let clash : false ≡ true = sym (ap (λ o. is_present_in o s.target.cell) none) ∙ present in cc)
+      by (Some k) is =
+          let now = keeps s.target.cell.array k is in
+          let same : within.array.info ≡ k.info = ap (λ (m : Known). m.info) (some_inj within.array now.0 (sym within.known ∙ now.1)) ∙ now.2 in
+          record {
+            within = record {
+              array = k;
+              known = is;
+              rank = within.rank ∙ ap (λ (i : ArrayInfo). length (chunk_shape i)) same;
+              shape = subst (λ (i : ArrayInfo). IsChunkShape (chunk_shape i)) same within.shape;
+              id = within.id ∙ ap (λ (i : ArrayInfo). s.target.cell.array ∷ chunk_index (chunk_shape i) s.target.cell.index) same;
+              place = within.place ∙ ap (λ (i : ArrayInfo). c_place (chunk_shape i) (within_chunk (chunk_shape i) s.target.cell.index)) same;
+              size = within.size ∙ ap (λ (i : ArrayInfo). cell_count (chunk_shape i)) same;
+            };
+            present = present;
+          }
+
+  -- so are those of all targets
+  pub sites_before : (sites : List Site) → AllByRecursion (IsSiteIn later) sites → AllByRecursion (HasTarget h) (map (λ (s : Site). Ok s.target) sites) → AllByRecursion (IsSiteOf h) sites
+  sites_before [] known all = tt
+  sites_before (s ∷ sites) known all = (site_before s known.0 all.0, sites_before sites known.1 all.1)
+
+pub sites_of_op : (h : History) (op : Op) → MayFollow h op → HasSites (viewed op) → AllByRecursion (IsSiteOf h) (sites_of (viewed op))
+sites_of_op h op may has =
+    sites_before h may.leaves.later may.leaves.keeps (sites_of (viewed op)) (known_sites may.leaves.later (viewed op) may.leaves.each has.grids)
     (subst (AllByRecursion (HasTarget h)) has.targets may.legal.targets)
 
 -- where each cell has a target, none is without one
-none_without : (h : History) (at : ℕ) (rs : List (Result Target TargetError)) (e : TargetsError) → AllByRecursion (HasTarget h) rs → ¬ (all_or_first at rs ≡ Err e)
+pub none_without : (h : History) (at : ℕ) (rs : List (Result Target TargetError)) (e : TargetsError) → AllByRecursion (HasTarget h) rs → ¬ (all_or_first at rs ≡ Err e)
 none_without h at [] e all is = absurd (let no_such : ⊥ = cc in no_such)
 none_without h at (Ok t ∷ rs) e all is = by (all_or_first (at + 1) rs) (λ f same. none_without h (at + 1) rs f all.1 same) refl is where
   by : (r : Result (List Target) TargetsError) → ((f : TargetsError) → all_or_first (at + 1) rs ≡ Err f → ⊥) → all_or_first (at + 1) rs ≡ r → first_and t r ≡ Err e → ⊥

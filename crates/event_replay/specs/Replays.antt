@@ -7,22 +7,30 @@ use Rattle.history.specs.declared.event.Op.TheVariants.{Write, Read}
 use Rattle.history.specs.Content.{world_after}
 use Rattle.history.specs.History.{History}
 use Rattle.history.specs.Legal.{IsLegal, IsLegalOp, AreReads, viewed}
-use Rattle.history.specs.Refs.{HasKnownRefs}
 use Rattle.history.specs.Writes.{puts_of, read_values}
 use Rattle.index_transform.specs.Cells.{cells_of}
 use Rattle.stack_driver.specs.Conditions.{IsView}
 use Rattle.stack_driver.specs.Views.{look_of}
 use Rattle.stack_driver.specs.declared.view.View.{View}
+use Rattle.stack_targets.specs.Landings.{Seen, leaves_of}
+use Rattle.transaction_cells.specs.Operations.{IsLeafIn, KeepsArrays}
 use Rattle.version_store.specs.Asked.{content_with}
 use Rattle.version_store.specs.Stores.{IsPartStoreOf}
 use Rattle.version_store.specs.declared.store.VersionStore.{VersionStore}
 
--- an operation that a commit behind a history may have: its view is one of arrays of the history, of at most 2 ^ 22 cells
+-- leaves of arrays that a history opens, or events behind it; those that it opens stay as they are
+pub record AreOpenedOrLater (history : History) (leaves : List Seen) : Type 0 where
+  pub later : History
+  pub keeps : KeepsArrays history later
+  pub each : AllByRecursion (IsLeafIn later) leaves
+
+-- an operation that a commit behind a history may have. Its view has at most 2 ^ 22 cells; a leaf in which no cell lies may be of an array that
+-- is opened later
 pub record MayFollow (history : History) (op : Op) : Type 0 where
   pub legal : IsLegalOp history op
   pub view : IsView (viewed op)
   pub few : length (cells_of (look_of (viewed op)).dims) ≤ 4194304
-  pub refs : HasKnownRefs history (viewed op)
+  pub leaves : AreOpenedOrLater history (leaves_of (viewed op))
 
 -- the event of this number is the next one of a legal history, and what is kept is that of the history with these operations of it
 pub record IsBehind (history : History) (number : ℕ) (done : List Op) (s : VersionStore) : Type 0 where

@@ -35,7 +35,7 @@ pub fn is_met(
     Ok(true)
 }
 
-fn asked_at(pieces: &[AskedPiece], at: usize) -> &AskedPiece
+pub(crate) fn asked_at(pieces: &[AskedPiece], at: usize) -> &AskedPiece
     requires { at < length pieces.now }
     ensures { (d : AskedOf) → result.now ≡ get_or pieces.now at d }
 {

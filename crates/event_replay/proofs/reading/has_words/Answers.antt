@@ -18,7 +18,7 @@ use Rattle.event_replay.proofs.OpLaws.{can_locate}
 use Rattle.event_replay.proofs.reading.has_words.Goals as goal
 
 pub located-requires : goal.located-requires
-located-requires c = can_locate c.requires.1.0 (Read c.args.view.now c.args.words.now) c.requires.1.2.legal c.requires.1.3
+located-requires c = can_locate c.requires.1.0 (Read c.args.view.now c.args.words.now) c.requires.1.3
 
 pub show_pieces-requires : goal.show_pieces-requires
 show_pieces-requires c =

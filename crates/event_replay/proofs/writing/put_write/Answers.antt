@@ -8,7 +8,7 @@ use Rattle.event_replay.proofs.OpLaws.{can_locate, word_count, leaf_count, write
 use Rattle.event_replay.proofs.writing.put_write.Goals as goal
 
 pub located-requires : goal.located-requires
-located-requires c = can_locate c.requires.0 (Write c.args.view.now c.args.words.now) c.requires.2.legal c.requires.3
+located-requires c = can_locate c.requires.0 (Write c.args.view.now c.args.words.now) c.requires.3
 
 pub back-requires-clause-count : goal.back-requires-clause-count
 back-requires-clause-count c =
