@@ -1,0 +1,10 @@
+mod ActLaws
+mod CellLaws
+mod StandingLaws
+mod WordLaws
+mod OpenedLaws
+mod ReferenceLaws
+mod PrintingLaws
+mod TakenLaws
+mod DoneLaws
+pub mod Laws
