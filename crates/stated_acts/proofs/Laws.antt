@@ -6,3 +6,6 @@ pub use Rattle.stated_acts.proofs.StandingLaws.{sound_of, kept_of}
 -- leaves with these numbers are those that take them
 pub use Rattle.stated_acts.proofs.TakenLaws.{outlined_given}
 pub use Rattle.stated_acts.proofs.OpenedLaws.{pairs_of}
+-- laws of crates below, given on to those above
+pub use Rattle.stated_arrays.proofs.Exact.{exact_table}
+pub use Rattle.stated_arrays.proofs.StepLaws.{in_back, in_front}

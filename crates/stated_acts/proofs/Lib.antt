@@ -6,5 +6,4 @@ mod OpenedLaws
 mod ReferenceLaws
 mod PrintingLaws
 mod TakenLaws
-mod DoneLaws
 pub mod Laws

@@ -3,4 +3,24 @@ pub mod Acts
 pub mod ToldWords
 pub mod OpenedViews
 pub mod Printing
-pub mod DoneEvents
+-- names of crates below, given on to those above
+pub use Rattle.stated_arrays.specs.AnswerNumbers
+pub use Rattle.stated_arrays.specs.Claimed
+pub use Rattle.stated_arrays.specs.Cuttings
+pub use Rattle.stated_arrays.specs.Openings
+pub use Rattle.stated_arrays.specs.Outcomes
+pub use Rattle.stated_arrays.specs.Outline
+pub use Rattle.stated_arrays.specs.Outlined
+pub use Rattle.stated_arrays.specs.Said
+pub use Rattle.stated_arrays.specs.Spans
+pub use Rattle.stated_arrays.specs.Stances
+pub use Rattle.stated_arrays.specs.StatedEvents
+pub use Rattle.stated_arrays.specs.Stating
+pub use Rattle.stated_arrays.specs.Takings
+pub use Rattle.stated_arrays.specs.ToldNumbers
+pub use Rattle.stated_arrays.specs.Transcript
+pub use Rattle.stated_arrays.specs.Unchecked
+pub use Rattle.line_acts.specs.Bound
+pub use Rattle.script_lines.specs.Script
+pub use Rattle.stated_arrays.specs.Standings as ToldStandings
+pub use Rattle.line_acts.specs.Openings as SpecOpenings

@@ -8,14 +8,14 @@
 
 mod acts;
 mod cell_faults;
-mod done_events;
 mod opened_views;
 mod printing;
 mod standing;
 mod told_words;
 
 pub use acts::{Act, act_of};
-pub use done_events::put_done;
 pub use opened_views::view_opened;
 pub use printing::may_print;
+pub use spec_open::{OpenPlan, SpecLeaf, Tree};
 pub use standing::{Ongoing, Standing};
+pub use stated_arrays::{Openings, Said, bytes_of};

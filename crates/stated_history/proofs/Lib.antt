@@ -1,0 +1,6 @@
+mod WalkLaws
+mod OpenLines
+mod LineLaws
+mod SourceLaws
+mod PutLaws
+mod StatedLaws

@@ -1,0 +1,220 @@
+// The commits that the lines of a transcript state.
+ghost use Rattle.std.specs.Prelude.{◌≡◌, ◌<◌, ◌∷◌, [], false, List as ListOf, Some, None, Ok, Err, IfOk, OnOk, length};
+ghost use Rattle.indexmap.specs.IndexMap.{get_by_text};
+ghost use Rattle.json_forms.specs.Bytes.{data_of};
+ghost use Rattle.stated_acts.specs.Bound.{AreViews};
+ghost use Rattle.serde_json.specs.View.{view as data_in};
+ghost use Rattle.stack_driver.specs.Conditions.{IsView};
+ghost use Rattle.stack_driver.specs.declared.view.View.{View as ViewOf};
+ghost use Rattle.stated_acts.specs.Acts.{IsActAt, IsSoundAct};
+ghost use Rattle.stated_acts.specs.Standings.{standing_of, IsSoundStanding};
+ghost use Rattle.stated_history.specs.Walks.{IsSource, AreToldIn, outlined, IsReached, IsNotPast, IsInSession};
+ghost use Rattle.stated_history.specs.Walks.{IsAnswerAt, IsFacingLine, IsGoneOnAt, TellsAt, TellsCommits};
+ghost use Rattle.stated_history.specs.Walks.{IsKeptOutline, IsTakenBy, IsViewTaken, line_said, takings_at};
+ghost use Rattle.stated_acts.specs.Spans.{line_at, IsPlaced, IsSpanOf};
+ghost use Rattle.stated_acts.specs.Transcript.{mount, Told, asked_by};
+ghost use Rattle.stated_acts.specs.Unchecked.{is_unchecked};
+
+use crate::putting::Commit;
+use crate::walk::Walk;
+use cells::{List, Name};
+use json_forms::parse;
+use serde_json::Value;
+use stack_driver::View;
+use stated_acts::{Act, Openings, Said, Standing, act_of, bytes_of, may_print, view_opened};
+use std::alloc::{AllocError, Global};
+
+/// A transcript that is cut into these answers to the lines of scripts, and the arrays that it states.
+#[derive(Clone, Copy)]
+pub struct Source<'s> {
+    pub scripts: &'s [List<u8>],
+    pub transcript: &'s [u8],
+    pub said: &'s [Said],
+    pub openings: &'s Openings,
+    /// The name of the one mount.
+    pub mounts: &'s [Name],
+}
+
+/// The commit of each line that prints a number of one; `None` where a line prints other numbers than those of the events
+/// that it states.
+///
+/// # Errors
+/// An allocation failed.
+pub fn state_commits(
+    alloc: Global,
+    source: &Source,
+) -> Result<Option<List<Option<Commit>>>, AllocError>
+    requires { IsSource source.now }
+    ensures { IfOk result (λ commits. (told : ListOf Told)
+        → AreToldIn source.now told → TellsCommits (outlined source.now) told commits) }
+{
+    let mut commits = Vec::with_capacity(alloc, source.said.len())?;
+    let mut walk = Walk::first(alloc);
+    for place in 0..source.said.len() {
+        match state_line(alloc, &mut walk, source, place)? {
+            Some(commit) => commits.push(commit)?,
+            None => return Ok(None),
+        }
+    }
+    Ok(Some(List::wrap(commits)))
+}
+
+// The same of the line at a place, behind those before it.
+fn state_line(
+    alloc: Global,
+    walk: &mut Walk,
+    source: &Source,
+    place: usize,
+) -> Result<Option<Option<Commit>>, AllocError>
+    requires source { IsSource source.now }
+    requires place { place < length source.now.said.now }
+    requires sound { IsSoundStanding walk.old.standing }
+    requires reached { IsReached source.now place walk.old }
+    requires order { IsNotPast source.now place walk.old }
+    ensures next { IfOk result (TellsAt source.now place walk.new) }
+    ensures session { OnOk result (IsInSession source.now place walk.new) }
+    ensures sound { OnOk result (IsSoundStanding walk.new.standing) }
+{
+    let said = &source.said[place];
+    walk.turn_to(alloc, said.line.session);
+    let answer = answer_said(alloc, source, said)?;
+    match act_said(alloc, &walk.standing, source, said) {
+        Ok(act) => state_act(alloc, walk, source, place, act, &answer),
+        Err(e) => Err(e),
+    }
+}
+
+// The same by what the line does and its answer, where the walk stands before it.
+fn state_act(
+    alloc: Global,
+    walk: &mut Walk,
+    source: &Source,
+    place: usize,
+    act: Act,
+    answer: &Value,
+) -> Result<Option<Option<Commit>>, AllocError>
+    requires source { IsSource source.now }
+    requires place { place < length source.now.said.now }
+    requires sound { IsSoundStanding walk.old.standing }
+    requires act { IsSoundAct act }
+    requires facing { IsFacingLine source.now place walk.old act }
+    requires answer { IsAnswerAt source.now place (data_in answer.now) }
+    ensures next { IfOk result (TellsAt source.now place walk.new) }
+    ensures session { OnOk result (walk.new.session ≡ walk.old.session) }
+    ensures sound { OnOk result (IsSoundStanding walk.new.standing) }
+{
+    let stands = walk.standing.transaction.is_some();
+    if may_print(&act, stands, &source.said[place].numbers) {
+        match pass_line(alloc, walk, source, place, act, answer) {
+            Ok(commit) => Ok(Some(commit)),
+            Err(e) => Err(e),
+        }
+    } else {
+        state_none(act)
+    }
+}
+
+// Other numbers are printed than those of events of this act.
+fn state_none(_: Act) -> Result<Option<Option<Commit>>, AllocError>
+    ensures { result ≡ Ok None }
+{
+    Ok(None)
+}
+
+// The line's commit; the walk stands behind the line then.
+fn pass_line(
+    alloc: Global,
+    walk: &mut Walk,
+    source: &Source,
+    place: usize,
+    act: Act,
+    answer: &Value,
+) -> Result<Option<Commit>, AllocError>
+    requires source { IsSource source.now }
+    requires place { place < length source.now.said.now }
+    requires sound { IsSoundStanding walk.old.standing }
+    requires act { IsSoundAct act }
+    requires facing { IsFacingLine source.now place walk.old act }
+    requires answer { IsAnswerAt source.now place (data_in answer.now) }
+    ensures gone { IfOk result (IsGoneOnAt source.now place walk.new) }
+    ensures session { OnOk result (walk.new.session ≡ walk.old.session) }
+    ensures sound { OnOk result (IsSoundStanding walk.new.standing) }
+{
+    match view_said(alloc, &act, source, place) {
+        Ok(opened) => walk.go_on(alloc, &source.said[place], act, answer, opened),
+        Err(e) => fail(act, e),
+    }
+}
+
+fn fail(_: Act, e: AllocError) -> Result<Option<Commit>, AllocError>
+    ensures { result ≡ Err e }
+{
+    Err(e)
+}
+
+// What a line does for its session.
+fn act_said(
+    alloc: Global,
+    standing: &Standing,
+    source: &Source,
+    said: &Said,
+) -> Result<Act, AllocError>
+    requires mounts { source.now.mounts.now ≡ mount ∷ [] }
+    requires views { AreViews (get_by_text standing.now.names) }
+    requires placed { IsPlaced source.now.scripts.now said.now.line }
+    requires checked { is_unchecked (line_at source.now.scripts.now said.now.line) ≡ false }
+    ensures act { IfOk result (IsActAt (standing_of standing.now)
+        (asked_by (line_at source.now.scripts.now said.now.line))) }
+    ensures sound { IfOk result IsSoundAct }
+{
+    act_of(
+        alloc,
+        standing,
+        source.mounts,
+        bytes_of(source.scripts, said.line),
+    )
+}
+
+// The answer to a line, whose text ends in an LF.
+fn answer_said(alloc: Global, source: &Source, said: &Said) -> Result<Value, AllocError>
+    requires within { IsSpanOf source.now.transcript.now said.now.text }
+    requires some { said.now.text.from < said.now.text.upto }
+    ensures { IfOk result (λ v. data_of (line_said said.now source.now.transcript.now) ≡ Some (data_in v)) }
+{
+    match parse(
+        alloc,
+        &source.transcript[said.text.from..said.text.upto - 1],
+    ) {
+        Ok(answer) => Ok(answer),
+        Err(_) => Err(AllocError),
+    }
+}
+
+// The view that a line of this act opens, if it opens one.
+fn view_said(
+    alloc: Global,
+    act: &Act,
+    source: &Source,
+    place: usize,
+) -> Result<Option<View>, AllocError>
+    requires sound { IsSoundAct act.now }
+    requires place { place < length source.now.openings.now.takings }
+    requires kept { IsKeptOutline source.now.openings.now }
+    requires taken { IsTakenBy (outlined source.now) act.now (takings_at source.now place) }
+    ensures view { IfOk result (IsViewTaken (outlined source.now) act.now (takings_at source.now place)) }
+    ensures sound { IfOk result (λ o. (v : ViewOf) → o ≡ Some v → IsView v) }
+{
+    match act {
+        Act::Opens { plan, .. } => {
+            let takings = source.openings.takings.items()[place].items();
+            view_opened(alloc, plan, takings, source.openings)
+        }
+        Act::Refused { .. } => Ok(None),
+        Act::Binds { .. } => Ok(None),
+        Act::Reads { .. } => Ok(None),
+        Act::Writes { .. } => Ok(None),
+        Act::Begins { .. } => Ok(None),
+        Act::Commits => Ok(None),
+        Act::Aborts => Ok(None),
+    }
+}
