@@ -1,0 +1,13 @@
+use Rattle.std.proofs.Common.{sym, subst, refl}
+use Rattle.std.specs.Prelude.{codes}
+use Rattle.std.specs.List.{AllByRecursion}
+use Rattle.answer_data.specs.Causes.{build_members}
+use Rattle.line_fits.specs.Plain.{IsPlainMember}
+use Rattle.line_fits.proofs.Plain.{cause_plain}
+use Rattle.line_fits.proofs.causes.look_at_build.Goals as goal
+
+pub returns-in-Transform : goal.returns-in-Transform
+returns-in-Transform c = subst (λ x. AllByRecursion IsPlainMember (build_members x)) (sym c.in-Transform.is) c.look_at_compose.ensures
+
+pub returns-in-Layers : goal.returns-in-Layers
+returns-in-Layers c = subst (λ x. AllByRecursion IsPlainMember (build_members x)) (sym c.in-Layers.is) (cause_plain (codes "layers") refl, tt)
