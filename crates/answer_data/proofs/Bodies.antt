@@ -10,9 +10,9 @@ use Rattle.cells.specs.declared.dtype.Dtype.{Dtype}
 use Rattle.index_transform.specs.Transforms.{DomainAndMaps}
 use Rattle.index_transform.specs.declared.domain.Domain.{Domain}
 use Rattle.dim_changes.specs.declared.cause.Cause.{Cause}
-use Rattle.layer_join.specs.declared.error.JoinError.{JoinError}
+use Rattle.answer_text.specs.declared.JoinError.{JoinError}
 use Rattle.transform_composition.specs.declared.error.ComposeError.{ComposeError}
-use Rattle.spec_open.specs.declared.error.BuildCause.{BuildCause}
+use Rattle.answer_text.specs.declared.BuildCause.{BuildCause}
 use Rattle.answer_text.specs.Pieces.{text_of}
 use Rattle.answer_text.specs.Text.{answer_text, before_line, behind_line, domain_text, transform_text, events_text, met_text, conflict_text, mismatch_text, cell_text, shrunk_text, store_text}
 use Rattle.answer_text.specs.declared.answer.Answer.{Answer}

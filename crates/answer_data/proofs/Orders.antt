@@ -17,12 +17,12 @@ use Rattle.index_transform.specs.declared.map.OutMap.TheVariants.{Constant, Stri
 use Rattle.transform_json.specs.Written.{flagged, lower_data, upper_data, are_unlabelled, with_labels, domain_data, with_number, nested_data, map_data, transform_data}
 use Rattle.dim_changes.specs.declared.cause.Cause.{Cause}
 use Rattle.dim_changes.specs.declared.cause.Cause.TheVariants as step
-use Rattle.layer_join.specs.declared.error.JoinError.{JoinError}
-use Rattle.layer_join.specs.declared.error.JoinError.TheVariants as join
+use Rattle.answer_text.specs.declared.JoinError.{JoinError}
+use Rattle.answer_text.specs.declared.JoinError.TheVariants as join
 use Rattle.transform_composition.specs.declared.error.ComposeError.{ComposeError}
 use Rattle.transform_composition.specs.declared.error.ComposeError.TheVariants as compose
-use Rattle.spec_open.specs.declared.error.BuildCause.{BuildCause}
-use Rattle.spec_open.specs.declared.error.BuildCause.TheVariants as build
+use Rattle.answer_text.specs.declared.BuildCause.{BuildCause}
+use Rattle.answer_text.specs.declared.BuildCause.TheVariants as build
 use Rattle.answer_text.specs.Nested.{rows}
 use Rattle.answer_text.specs.declared.answer.Answer.{Answer}
 use Rattle.answer_text.specs.declared.answer.Body.{Body}

@@ -6,12 +6,12 @@ use Rattle.json_forms.specs.Numbers.{natural, integer}
 use Rattle.dim_changes.specs.declared.cause.Cause.{Cause}
 use Rattle.dim_changes.specs.declared.cause.Cause.TheVariants as step
 use Rattle.index_intervals.specs.Bounds.{minus_infinity, plus_infinity}
-use Rattle.layer_join.specs.declared.error.JoinError.{JoinError}
-use Rattle.layer_join.specs.declared.error.JoinError.TheVariants as join
+use Rattle.answer_text.specs.declared.JoinError.{JoinError}
+use Rattle.answer_text.specs.declared.JoinError.TheVariants as join
 use Rattle.transform_composition.specs.declared.error.ComposeError.{ComposeError}
 use Rattle.transform_composition.specs.declared.error.ComposeError.TheVariants as compose
-use Rattle.spec_open.specs.declared.error.BuildCause.{BuildCause}
-use Rattle.spec_open.specs.declared.error.BuildCause.TheVariants as build
+use Rattle.answer_text.specs.declared.BuildCause.{BuildCause}
+use Rattle.answer_text.specs.declared.BuildCause.TheVariants as build
 use Rattle.answer_text.specs.declared.answer.MetaWhy.{MetaWhy}
 use Rattle.answer_text.specs.declared.answer.MetaWhy.TheVariants as meta
 use Rattle.answer_text.specs.declared.answer.Why.{Why}

@@ -8,4 +8,8 @@
 
 mod texts;
 
+pub use answer_text::{
+    Answer, Body, BuildCause, BuildError, JoinError, MetaWhy, OpenPlan, SpecError, SpecLeaf, Tree,
+    Why, build, render,
+};
 pub use texts::{reads_back, values_read_back};

@@ -20,5 +20,5 @@ pub use layer_join::JoinError;
 pub use lists::has_few_lists;
 pub use ok::is_ok;
 pub use rendering::render;
-pub use spec_open::BuildCause;
+pub use spec_open::{BuildCause, BuildError, OpenPlan, SpecError, SpecLeaf, Tree, build};
 pub use transform_json::transform_has_few_lists;

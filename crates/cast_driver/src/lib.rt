@@ -9,4 +9,5 @@ mod cast;
 mod chain;
 
 pub use cast::Cast;
+pub use cells::{Boxed, Dtype, Index, List, Name, Sizes};
 pub use chain::Chain;

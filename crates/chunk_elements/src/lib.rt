@@ -16,5 +16,9 @@ mod whole;
 mod words;
 
 pub use block::{put_block, words_of_block};
+pub use cells::{
+    Dense, Dtype, LARGEST_RANK, List, MOST_CHUNK_CELLS, Order, Sizes, count_cells, is_chunk_shape,
+    is_shape, put_word, take_word,
+};
 pub use error::ChunkError;
 pub use words::{bytes_of, words_of};

@@ -1,8 +1,8 @@
 -- Bytes spell one list of words, and what is written for a chunk spells it.
 use Rattle.std.proofs.Common.{◌≡◌, ℕ, ◌<◌, inl, inr, List, length, drop, true, false, cond, Some, None, refl, sym, ap, subst, get_or, replicate, ◌∙◌, eq-eqb, eqb, eqb-true, Option}
-use Rattle.cells.specs.Bytes.{byte_count, word_of_bytes}
-use Rattle.cells.specs.Places.{IsInside, cell_count, c_place, f_place}
-use Rattle.cells.proofs.Laws.{word_of_bytes-word_bytes, c_place-lt, true_or_false, test-IsInside, IsInside-from_test}
+use Rattle.zarr_chunks.specs.Bytes.{byte_count, word_of_bytes}
+use Rattle.zarr_chunks.specs.Places.{IsInside, cell_count, c_place, f_place}
+use Rattle.zarr_chunks.proofs.Laws.{word_of_bytes-word_bytes, c_place-lt, true_or_false, test-IsInside, IsInside-from_test}
 use Rattle.chunk_forms.specs.declared.form.Form.{Form}
 use Rattle.chunk_forms.specs.declared.form.Form.TheVariants.{Zarr, N5, Zarr3, Local}
 use Rattle.chunk_forms.specs.declared.form.Damage.TheVariants as damage

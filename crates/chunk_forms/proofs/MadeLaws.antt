@@ -8,15 +8,15 @@ use Rattle.std.proofs.Math.Nat.{mul-le-mul, le-mul_of_pos_right}
 use Rattle.std.proofs.Math.ListN.{length-map}
 use Rattle.std.proofs.lemmas.Bool.{leb-true}
 use Rattle.std.proofs.lemmas.Slice.Eq.{bytes_eq-Decides}
-use Rattle.cells.specs.Bytes.{byte_count}
-use Rattle.cells.specs.DtypeNames.{dtype_name}
-use Rattle.cells.specs.Numbers.{IsWord}
-use Rattle.cells.specs.Places.{cell_count}
-use Rattle.cells.specs.Shapes.{IsShape, IsChunkShape}
-use Rattle.cells.specs.declared.dtype.Dtype.{Dtype}
-use Rattle.cells.specs.declared.order.Order.{Order}
-use Rattle.cells.specs.declared.order.Order.TheVariants.{C, F}
-use Rattle.cells.proofs.Laws.{cell_count-pos, else_from, ok_from_then}
+use Rattle.zarr_chunks.specs.Bytes.{byte_count}
+use Rattle.zarr_chunks.specs.DtypeNames.{dtype_name}
+use Rattle.zarr_chunks.specs.Numbers.{IsWord}
+use Rattle.zarr_chunks.specs.Places.{cell_count}
+use Rattle.zarr_chunks.specs.Shapes.{IsShape, IsChunkShape}
+use Rattle.zarr_chunks.specs.declared.Dtype.{Dtype}
+use Rattle.zarr_chunks.specs.declared.Order.{Order}
+use Rattle.zarr_chunks.specs.declared.Order.TheVariants.{C, F}
+use Rattle.zarr_chunks.proofs.Laws.{cell_count-pos, else_from, ok_from_then}
 use Rattle.zarr_chunks.proofs.Laws.{IsWord-zero}
 use Rattle.zarr_chunks.specs.Metadata as zarr
 use Rattle.zarr_chunks.specs.Want as zarr_want

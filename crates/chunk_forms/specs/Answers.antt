@@ -1,6 +1,6 @@
 -- Answers of the formats' decoders as answers of one.
 use Rattle.std.specs.Prelude.{Result, Ok, Err}
-use Rattle.cells.specs.Dense.{DenseCells}
+use Rattle.zarr_chunks.specs.Dense.{DenseCells}
 use Rattle.zarr_chunks.specs.declared.ChunkError.{ChunkError}
 use Rattle.zarr_chunks.specs.declared.ChunkError.TheVariants as chunk
 use Rattle.n5_blocks.specs.declared.chunk.BlockError.{BlockError}

@@ -17,3 +17,4 @@ pub use Rattle.zarr3_chunks.specs.Key as Zarr3Key
 pub use Rattle.zarr3_chunks.specs.Read as Zarr3Read
 pub use Rattle.zarr_chunks.specs.Want
 pub use Rattle.n5_blocks.specs.Want as N5Want
+pub use Rattle.zarr3_chunks.specs.Want as Zarr3Want

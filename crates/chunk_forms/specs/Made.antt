@@ -1,8 +1,8 @@
 -- The metadata of an array that is made as it is asked.
 use Rattle.std.specs.Prelude.{ℕ, List, map, max, codes, nat_le, false, Option, Some, None, unwrap_or, Result, Ok, Err, if◌then◌else◌}
-use Rattle.cells.specs.Places.{cell_count}
-use Rattle.cells.specs.declared.dtype.Dtype.{Dtype}
-use Rattle.cells.specs.declared.order.Order.TheVariants.{C}
+use Rattle.zarr_chunks.specs.Places.{cell_count}
+use Rattle.zarr_chunks.specs.declared.Dtype.{Dtype}
+use Rattle.zarr_chunks.specs.declared.Order.TheVariants.{C}
 use Rattle.zarr_chunks.specs.Want as zarr
 use Rattle.n5_blocks.specs.Want as n5
 use Rattle.zarr3_chunks.specs.Want as zarr3

@@ -1,7 +1,7 @@
 -- What metadata says, in each form.
 use Rattle.std.specs.Prelude.{ℕ, Bool, true, false, List, [], unwrap_or}
-use Rattle.cells.specs.declared.dtype.Dtype.{Dtype}
-use Rattle.cells.specs.declared.dtype.Dtype.TheVariants.{U8}
+use Rattle.zarr_chunks.specs.declared.Dtype.{Dtype}
+use Rattle.zarr_chunks.specs.declared.Dtype.TheVariants.{U8}
 use Rattle.serde_json.specs.Written.{compact_text}
 use Rattle.chunk_forms.specs.declared.form.Form.{Form}
 use Rattle.chunk_forms.specs.declared.form.Form.TheVariants.{Zarr, N5, Zarr3, Local}

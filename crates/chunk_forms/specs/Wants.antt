@@ -2,10 +2,10 @@
 use Rattle.std.specs.Prelude.{ℕ, List, [], ◌∷◌, codes, nat_eq, Bool, true, false, not, ◌&&◌, ◌==◌, Option, Some, None, unwrap_or, if◌then◌else◌}
 use Rattle.std.specs.Option.{option_map}
 use Rattle.std.specs.Str.{bytes_eq}
-use Rattle.cells.specs.Bytes.{byte_count}
-use Rattle.cells.specs.DtypeNames.{dtype_name}
-use Rattle.cells.specs.declared.dtype.Dtype.{Dtype}
-use Rattle.cells.specs.declared.order.Order.{Order}
+use Rattle.zarr_chunks.specs.Bytes.{byte_count}
+use Rattle.zarr_chunks.specs.DtypeNames.{dtype_name}
+use Rattle.zarr_chunks.specs.declared.Dtype.{Dtype}
+use Rattle.zarr_chunks.specs.declared.Order.{Order}
 use Rattle.zarr_chunks.specs.Metadata as zarr
 use Rattle.zarr_chunks.specs.Want as zarr_want
 use Rattle.zarr_chunks.specs.Written.{order_text}

@@ -1,8 +1,8 @@
 -- The words that a stored chunk has, and what is wrong with bytes that are no chunk.
 use Rattle.std.specs.Prelude.{ℕ, List, length, drop, true, ◌==◌, Option, Some, None, if◌then◌else◌}
-use Rattle.cells.specs.Bytes.{byte_count, word_of_bytes}
-use Rattle.cells.specs.Places.{f_place}
-pub use Rattle.cells.specs.Shapes.{is_inside}
+use Rattle.zarr_chunks.specs.Bytes.{byte_count, word_of_bytes}
+use Rattle.zarr_chunks.specs.Places.{f_place}
+pub use Rattle.zarr_chunks.specs.Shapes.{is_inside}
 use Rattle.chunk_forms.specs.declared.form.Form.{Form}
 use Rattle.chunk_forms.specs.declared.form.Form.TheVariants.{Zarr, N5, Zarr3, Local}
 use Rattle.chunk_forms.specs.declared.form.Damage.{Damage}

@@ -11,10 +11,9 @@ ghost use Rattle.chunk_forms.specs.declared.member.MadeError.TheVariants as erro
 use crate::form::{Form, Want};
 use crate::making::{default_chunks, is_small};
 use crate::member::{MadeError, Member};
-use cells::{Dtype, Order, Sizes};
 use n5_blocks::{N5Meta, N5Want};
 use std::alloc::Global;
-use zarr_chunks::{ZarrMeta, ZarrWant};
+use zarr_chunks::{Dtype, Order, Sizes, ZarrMeta, ZarrWant};
 use zarr3_chunks::{Zarr3Meta, Zarr3Want};
 
 /// The form of a new array: what is asked, and where nothing is asked a chunk of the whole array. In Zarr the lowest byte

@@ -2,10 +2,9 @@
 ghost use Rattle.std.specs.Prelude.{◌≡◌, IfOk};
 
 use crate::form::Form;
-use cells::Sizes;
 use n5_blocks::N5Meta;
 use std::alloc::{AllocError, Global};
-use zarr_chunks::ZarrMeta;
+use zarr_chunks::{Sizes, ZarrMeta};
 use zarr3_chunks::Zarr3Meta;
 
 impl Form {

@@ -3,9 +3,8 @@ ghost use Rattle.std.specs.Prelude.{◌≡◌};
 ghost use Rattle.chunk_forms.specs.Answers.{of_zarr, of_n5, of_block};
 
 use crate::form::{Damage, FormError};
-use cells::Dense;
 use n5_blocks::BlockError;
-use zarr_chunks::ChunkError;
+use zarr_chunks::{ChunkError, Dense};
 
 pub(crate) fn of_zarr(answer: Result<Dense, ChunkError>) -> Result<Dense, FormError>
     ensures { result ≡ of_zarr answer }

@@ -1,7 +1,7 @@
 ghost use Rattle.std.specs.Prelude.{◌≡◌, ◌≢◌, ℕ, List, Some, None, Err, IfOk, IfErr, false, length, option_map};
-ghost use Rattle.cells.specs.Elements.{word_at};
-ghost use Rattle.cells.specs.Numbers.{IsWord};
-ghost use Rattle.cells.specs.Places.{IsInside};
+ghost use Rattle.zarr_chunks.specs.Elements.{word_at};
+ghost use Rattle.zarr_chunks.specs.Numbers.{IsWord};
+ghost use Rattle.zarr_chunks.specs.Places.{IsInside};
 ghost use Rattle.chunk_forms.specs.Grammar.{SpellsChunk};
 ghost use Rattle.chunk_forms.specs.Metadata.{chunk_shape_of, dtype_of, is_local};
 ghost use Rattle.chunk_forms.specs.Words.{chunk_fault, stored_fault, stored_word};
@@ -10,8 +10,8 @@ ghost use Rattle.chunk_forms.specs.declared.form.FormError.TheVariants as error;
 
 use crate::damage::{of_n5, of_zarr};
 use crate::form::{Form, FormError};
-use cells::{Dense, Dtype};
 use std::alloc::Global;
+use zarr_chunks::{Dense, Dtype};
 
 /// The numbers of a stored chunk. Without bytes all cells are the fill.
 ///

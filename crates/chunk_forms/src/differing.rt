@@ -4,9 +4,8 @@ ghost use Rattle.std.specs.Str.{bytes_eq};
 ghost use Rattle.chunk_forms.specs.Wants.{asks_other, same_dtype, same_order, same_flag, asks_other_order, zarr_mismatch, zarr_mismatch_behind, n5_mismatch, zarr3_mismatch, mismatch_of};
 
 use crate::form::{Form, Want};
-use cells::{Dtype, Order, Sizes};
 use n5_blocks::{N5Meta, N5Want};
-use zarr_chunks::{ZarrMeta, ZarrWant};
+use zarr_chunks::{Dtype, Order, Sizes, ZarrMeta, ZarrWant};
 use zarr3_chunks::{Zarr3Meta, Zarr3Want};
 
 /// The name of the first member in which an array of this form and shape differs from what is asked: `driver`, `dtype`, then

@@ -1,11 +1,11 @@
 ghost use Rattle.std.specs.Prelude.{◌≡◌, ◌↔◌, ◌<◌, ℕ, None, EachIndex, IfOk, IfSome, IsTrue, false, length, slice_index};
-ghost use Rattle.cells.specs.Elements.{word_at};
+ghost use Rattle.zarr_chunks.specs.Elements.{word_at};
 ghost use Rattle.chunk_forms.specs.Grammar.{WritesChunk, MayWrite};
 ghost use Rattle.chunk_forms.specs.Metadata.{chunk_shape_of, dtype_of, shape_of, is_local};
 
 use crate::form::Form;
-use cells::{Dense, List};
 use std::alloc::{AllocError, Global};
+use zarr_chunks::{Dense, List};
 
 /// The bytes that are written for a chunk; `None` exactly where all numbers are the fill. A block of N5 is written only as
 /// far as the array reaches.

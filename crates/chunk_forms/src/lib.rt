@@ -28,4 +28,4 @@ pub use zarr_chunks::{
     ElementType, MetaError, ZarrMeta, ZarrWant, judged_compressor, judged_filters, judged_order,
     judged_separator, judged_type,
 };
-pub use zarr3_chunks::{Zarr3Meta, Zarr3Want, grid_sizes, judged_codecs};
+pub use zarr3_chunks::{Zarr3Meta, Zarr3Want, grid_sizes, judged_codecs, judged_keys, judged_node};

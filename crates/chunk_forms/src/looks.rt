@@ -1,10 +1,10 @@
 // What a form says of its chunks.
 ghost use Rattle.std.specs.Prelude.{◌≡◌, ◌≤◌, ◌^◌, length};
-ghost use Rattle.cells.specs.Places.{cell_count};
+ghost use Rattle.zarr_chunks.specs.Places.{cell_count};
 ghost use Rattle.chunk_forms.specs.Metadata.{shape_of, chunk_shape_of, dtype_of, fill_of, is_local};
 
 use crate::form::Form;
-use cells::Dtype;
+use zarr_chunks::Dtype;
 
 impl Form {
     /// Whether the chunk is held by the run, and not stored.

@@ -1,10 +1,10 @@
 // The metadata of an array that is made as it is asked.
 ghost use Rattle.std.specs.Prelude.{◌≡◌, ◌≢◌, ◌≤◌, ◌^◌, Ok, Err, IfOk, IfErr, IsTrue, map, max, nat_le, option_map, length};
-ghost use Rattle.cells.specs.Places.{cell_count};
+ghost use Rattle.zarr_chunks.specs.Places.{cell_count};
 ghost use Rattle.chunk_forms.specs.Made.{default_chunks};
 
-use cells::{MOST_CHUNK_CELLS, count_cells};
 use std::alloc::{AllocError, Global};
+use zarr_chunks::{MOST_CHUNK_CELLS, count_cells};
 
 /// The sizes of a chunk of the whole array, each 0 taken as 1.
 ///

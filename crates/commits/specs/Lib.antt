@@ -17,3 +17,5 @@ pub use Rattle.chunk_plans.specs.Laying
 pub use Rattle.chunk_plans.specs.Readying
 pub use Rattle.chunk_plans.specs.Sorting
 pub use Rattle.chunk_plans.specs.Writes as PlanWrites
+pub use Rattle.chunk_plans.specs.Agreement
+pub use Rattle.chunk_plans.specs.Outline

@@ -1,6 +1,6 @@
 -- What composing over emptied dimensions gives.
 use Rattle.std.proofs.Common.{◌≡◌, ◌∙◌, ℕ, List, ap, subst, Result, Ok, Err}
-use Rattle.index_transform.specs.Transforms.{DomainAndMaps, IsTransform}
+use Rattle.transform_composition.specs.Transforms.{DomainAndMaps, IsTransform}
 use Rattle.transform_composition.specs.Agreeing.{Agrees}
 use Rattle.transform_composition.specs.Composing.{composed}
 use Rattle.step_forms.specs.declared.act.Act.{Act}

@@ -11,7 +11,7 @@ use Rattle.index_intervals.proofs.Laws.{is_index-true, IsIndex-true, lo_infinite
 use Rattle.index_intervals.specs.Edges.{finite_part, lower_edge, upper_edge, least_from, greatest_to, preimage_lower, preimage_upper}
 use Rattle.transform_composition.specs.Inside.{goes_down, end_inside, are_ends_inside}
 use Rattle.transform_composition.specs.Tightening.{is_open}
-use Rattle.index_transform.specs.Values.{is_effective}
+use Rattle.transform_composition.specs.Values.{is_effective}
 use Rattle.dim_changes.specs.declared.cut.Cut.{Cut}
 use Rattle.dim_changes.specs.Cuts.{kept}
 use Rattle.dim_changes.specs.Emptied.{stays_infinite, empty_dim, emptied}

@@ -12,14 +12,14 @@ use Rattle.index_intervals.specs.declared.slice.Sliced.{Sliced}
 use Rattle.index_intervals.specs.declared.slice.SliceError.{SliceError}
 use Rattle.index_intervals.specs.Stride.{strided}
 use Rattle.index_intervals.specs.Shift.{shifted}
-use Rattle.index_transform.specs.declared.map.OutMap.{OutMap}
+use Rattle.transform_composition.specs.declared.OutMap.{OutMap}
 use Rattle.index_intervals.specs.Edges.{preimage_lower, preimage_upper}
 use Rattle.transform_composition.specs.Inside.{is_inside_by, are_ends_inside}
-use Rattle.index_transform.specs.Maps.{is_map, is_plain, has_ranks}
+use Rattle.transform_composition.specs.Maps.{is_map, is_plain, has_ranks}
 use Rattle.transform_composition.specs.Reading.{point}
 use Rattle.transform_composition.specs.Composing.{nowhere}
-use Rattle.index_transform.specs.declared.domain.Domain.{Domain}
-use Rattle.index_transform.specs.Transforms.{DomainAndMaps, IsTransform, KeepsRules}
+use Rattle.transform_composition.specs.declared.Domain.{Domain}
+use Rattle.transform_composition.specs.Transforms.{DomainAndMaps, IsTransform, KeepsRules}
 use Rattle.dim_changes.specs.declared.cause.Cause.{Cause}
 use Rattle.dim_changes.specs.declared.cause.Cause.TheVariants.{ZeroStep, Unbounded, Overflow}
 use Rattle.dim_changes.specs.declared.cut.Cut.{Cut}

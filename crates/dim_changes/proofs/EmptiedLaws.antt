@@ -6,12 +6,12 @@ use Rattle.cells.specs.Places.{cell_count}
 use Rattle.cells.proofs.Laws.{both, both_true, not_true, not_both}
 use Rattle.index_intervals.specs.Bounds.{Bounds, is_index}
 use Rattle.index_intervals.specs.Members.{is_finite}
-use Rattle.index_transform.specs.declared.map.OutMap.{OutMap}
-use Rattle.index_transform.specs.declared.map.OutMap.TheVariants.{Constant, Strided, Indexed}
-use Rattle.index_transform.specs.Maps.{is_fixed, fits_dim, fits, are_entries, is_map}
-use Rattle.index_transform.specs.Transforms.{DomainAndMaps, IsTransform, on_dims}
-use Rattle.index_transform.specs.Values.{is_effective, value_at, map_value, entry_place, entry_index, first_outside}
-use Rattle.index_transform.specs.Walks.{IsCell}
+use Rattle.transform_composition.specs.declared.OutMap.{OutMap}
+use Rattle.transform_composition.specs.declared.OutMap.TheVariants.{Constant, Strided, Indexed}
+use Rattle.transform_composition.specs.Maps.{is_fixed, fits_dim, fits, are_entries, is_map}
+use Rattle.transform_composition.specs.Transforms.{DomainAndMaps, IsTransform, on_dims}
+use Rattle.transform_composition.specs.Values.{is_effective, value_at, map_value, entry_place, entry_index, first_outside}
+use Rattle.transform_composition.specs.Walks.{IsCell}
 use Rattle.transform_composition.specs.Agreeing.{Agrees, GoesInto, IsCovered, reads_along}
 use Rattle.transform_composition.specs.Composing.{closed, composed_map, passes_word, is_too_large, closed_along, closed_dims, joined, unless_passed, unless_large}
 use Rattle.transform_composition.specs.Reading.{has_array_along, point}

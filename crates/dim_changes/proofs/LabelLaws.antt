@@ -6,7 +6,7 @@ use Rattle.std.proofs.lemmas.List.Folds.{list_any_at, list_any_none}
 use Rattle.std.specs.Bool.{Decides}
 use Rattle.std.specs.List.{list_any}
 use Rattle.std.specs.Cmp.Lexicographic.{pointwise}
-use Rattle.index_transform.specs.Maps.{are_labels}
+use Rattle.transform_composition.specs.Maps.{are_labels}
 use Rattle.cells.proofs.Laws.{both}
 
 same_text : (a b : List ℕ) → Decides (pointwise nat_eq a b) (a ≡ b)

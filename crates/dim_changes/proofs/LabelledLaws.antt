@@ -3,12 +3,12 @@ use Rattle.std.proofs.Common.{◌≡◌, ◌∙◌, ℕ, Bool, true, false, List
 use Rattle.std.specs.List.{list_all, range_with_len}
 use Rattle.std.proofs.lemmas.List.FromFn.{length-map-range_with_len}
 use Rattle.index_intervals.specs.Bounds.{Bounds}
-use Rattle.index_transform.specs.declared.domain.Domain.{Domain}
-use Rattle.index_transform.specs.declared.map.OutMap.{OutMap}
-use Rattle.index_transform.specs.declared.error.TransformError.{TransformError}
-use Rattle.index_transform.specs.declared.error.TransformError.TheVariants.{BadLabel}
-use Rattle.index_transform.specs.Maps.{has_ranks, is_map, is_plain, are_labels}
-use Rattle.index_transform.specs.Transforms.{DomainAndMaps, IsTransform, checked}
+use Rattle.transform_composition.specs.declared.Domain.{Domain}
+use Rattle.transform_composition.specs.declared.OutMap.{OutMap}
+use Rattle.transform_composition.specs.declared.TransformError.{TransformError}
+use Rattle.transform_composition.specs.declared.TransformError.TheVariants.{BadLabel}
+use Rattle.transform_composition.specs.Maps.{has_ranks, is_map, is_plain, are_labels}
+use Rattle.transform_composition.specs.Transforms.{DomainAndMaps, IsTransform, checked}
 use Rattle.dim_changes.specs.Marks.{only_labels}
 use Rattle.dim_changes.specs.declared.cause.Cause.TheVariants.{Label}
 use Rattle.dim_changes.proofs.StepLemmas.{checked-IsTransform}

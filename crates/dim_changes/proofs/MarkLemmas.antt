@@ -5,12 +5,12 @@ use Rattle.std.specs.List.{list_all, list_any, zip, position_from, range_with_le
 use Rattle.std.proofs.lemmas.List.FromFn.{length-map-range_with_len, get_or-map-range_with_len}
 use Rattle.cells.specs.Places.{cell_count}
 use Rattle.index_intervals.specs.Bounds.{Bounds, is_index}
-use Rattle.index_transform.specs.declared.map.OutMap.{OutMap}
-use Rattle.index_transform.specs.declared.map.OutMap.TheVariants.{Constant, Strided, Indexed}
-use Rattle.index_transform.specs.Maps.{is_map, fits, fits_dim, is_fixed, are_entries, has_ranks, size_of}
+use Rattle.transform_composition.specs.declared.OutMap.{OutMap}
+use Rattle.transform_composition.specs.declared.OutMap.TheVariants.{Constant, Strided, Indexed}
+use Rattle.transform_composition.specs.Maps.{is_map, fits, fits_dim, is_fixed, are_entries, has_ranks, size_of}
 use Rattle.transform_composition.specs.Reading.{point, has_array_along}
-use Rattle.index_transform.specs.Transforms.{DomainAndMaps, IsTransform, KeepsRules}
-use Rattle.index_transform.specs.Values.{value_at, map_value, entry_place, entry_index}
+use Rattle.transform_composition.specs.Transforms.{DomainAndMaps, IsTransform, KeepsRules}
+use Rattle.transform_composition.specs.Values.{value_at, map_value, entry_place, entry_index}
 use Rattle.dim_changes.specs.Dims.{spot_in, dim_at}
 use Rattle.dim_changes.specs.Marks.{marked, marked_dim, with_marks, has_array_on, makes_implicit, mark_answer}
 use Rattle.dim_changes.specs.declared.cause.Cause.TheVariants.{IndexDim}

@@ -1,6 +1,6 @@
 -- What a step gives over a transform that tightening makes known.
 use Rattle.std.proofs.Common.{◌≡◌, ◌∙◌, sym, subst, Result, Ok, Err}
-use Rattle.index_transform.specs.Transforms.{DomainAndMaps}
+use Rattle.transform_composition.specs.Transforms.{DomainAndMaps}
 use Rattle.transform_composition.specs.Tightening.{tighten_answer}
 use Rattle.transform_composition.specs.Composing.{composed}
 use Rattle.dim_changes.specs.Causes.{or_cause, over, IsFaultOf, Follows, Gives}

@@ -7,7 +7,7 @@ use Rattle.std.specs.Int.RustNames.{int_lt}
 use Rattle.index_intervals.specs.Bounds.{Bounds, AreBounds, IsIndex, is_index, minus_infinity, plus_infinity}
 use Rattle.index_intervals.specs.Stride.{strided}
 use Rattle.index_intervals.proofs.Laws.{is_index-true}
-use Rattle.index_transform.specs.Values.{is_effective}
+use Rattle.transform_composition.specs.Values.{is_effective}
 use Rattle.step_forms.specs.declared.act.Act.{Act}
 use Rattle.step_forms.specs.declared.act.Act.TheVariants as act
 use Rattle.step_forms.specs.Given.{number_for, part_for, HasIndicesAt}

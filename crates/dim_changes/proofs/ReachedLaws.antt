@@ -7,13 +7,13 @@ use Rattle.std.specs.Int.RustNames.{int_lt}
 use Rattle.index_intervals.specs.Bounds.{Bounds, AreBounds, is_index, are_bounds, is_ordered, minus_infinity, plus_infinity}
 use Rattle.index_intervals.specs.Members.{effective_lo, effective_hi, is_finite}
 use Rattle.index_intervals.proofs.Laws.{is_index-true, lo_infinite, hi_infinite, not_negative}
-use Rattle.index_transform.specs.declared.map.OutMap.{OutMap}
-use Rattle.index_transform.specs.declared.map.OutMap.TheVariants.{Constant, Strided, Indexed}
-use Rattle.index_transform.specs.Maps.{size_of, is_fixed, fits_dim, fits, are_entries, is_map}
-use Rattle.index_transform.specs.Transforms.{DomainAndMaps, IsTransform, on_dims}
-use Rattle.index_transform.specs.Values.{is_effective, map_value}
-use Rattle.index_transform.specs.Walks.{IsCell}
-use Rattle.index_transform.proofs.Laws.{get_or-inside, between_up, between_down}
+use Rattle.transform_composition.specs.declared.OutMap.{OutMap}
+use Rattle.transform_composition.specs.declared.OutMap.TheVariants.{Constant, Strided, Indexed}
+use Rattle.transform_composition.specs.Maps.{size_of, is_fixed, fits_dim, fits, are_entries, is_map}
+use Rattle.transform_composition.specs.Transforms.{DomainAndMaps, IsTransform, on_dims}
+use Rattle.transform_composition.specs.Values.{is_effective, map_value}
+use Rattle.transform_composition.specs.Walks.{IsCell}
+use Rattle.transform_composition.proofs.Laws.{get_or-inside, between_up, between_down}
 use Rattle.transform_composition.specs.Inside.{goes_down, end_inside, are_ends_inside, is_inside_by}
 use Rattle.transform_composition.specs.Reading.{point}
 use Rattle.transform_composition.specs.Inside.{first_outside_by}

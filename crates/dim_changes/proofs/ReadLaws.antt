@@ -6,11 +6,11 @@ use Rattle.std.specs.List.{list_all, list_any, zip, position_from, range_with_le
 use Rattle.cells.specs.Places.{cell_count}
 use Rattle.cells.proofs.Laws.{both, both_false}
 use Rattle.index_intervals.specs.Bounds.{Bounds}
-use Rattle.index_transform.specs.declared.map.OutMap.{OutMap}
-use Rattle.index_transform.specs.declared.map.OutMap.TheVariants.{Constant, Strided, Indexed}
-use Rattle.index_transform.specs.Cells.{cells_of}
-use Rattle.index_transform.specs.Maps.{size_of, is_fixed, fits_dim, fits, are_entries, is_map}
-use Rattle.index_transform.specs.Values.{map_value, entry_place}
+use Rattle.transform_composition.specs.declared.OutMap.{OutMap}
+use Rattle.transform_composition.specs.declared.OutMap.TheVariants.{Constant, Strided, Indexed}
+use Rattle.transform_composition.specs.Cells.{cells_of}
+use Rattle.transform_composition.specs.Maps.{size_of, is_fixed, fits_dim, fits, are_entries, is_map}
+use Rattle.transform_composition.specs.Values.{map_value, entry_place}
 use Rattle.transform_composition.specs.Agreeing.{reads_along}
 use Rattle.transform_composition.specs.Composing.{nowhere, strided_over, composed_map, is_too_large}
 use Rattle.transform_composition.specs.Reading.{has_array_along, depends_on, is_read_along, point, read_along, read_dims, entry_over}

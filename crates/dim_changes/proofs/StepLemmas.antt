@@ -3,19 +3,19 @@ use Rattle.std.proofs.Common.{◌≡◌, ◌≢◌, ◌∙◌, zero, suc, ℕ, �
 use Rattle.std.specs.Ordering.{int_eq}
 use Rattle.std.specs.List.{list_all, position_from}
 use Rattle.index_intervals.specs.Bounds.{Bounds}
-use Rattle.index_transform.specs.declared.domain.Domain.{Domain}
+use Rattle.transform_composition.specs.declared.Domain.{Domain}
 use Rattle.transform_composition.specs.declared.error.ComposeError.{ComposeError}
 use Rattle.transform_composition.specs.declared.error.ComposeError.TheVariants.{Rank, Overflow, Outside, TooLarge, Memory}
-use Rattle.index_transform.specs.declared.error.TransformError.{TransformError}
-use Rattle.index_transform.specs.declared.map.OutMap.{OutMap}
-use Rattle.index_transform.specs.declared.map.OutMap.TheVariants.{Constant, Strided, Indexed}
-use Rattle.index_transform.specs.Maps.{is_map, is_plain, plain_map}
+use Rattle.transform_composition.specs.declared.TransformError.{TransformError}
+use Rattle.transform_composition.specs.declared.OutMap.{OutMap}
+use Rattle.transform_composition.specs.declared.OutMap.TheVariants.{Constant, Strided, Indexed}
+use Rattle.transform_composition.specs.Maps.{is_map, is_plain, plain_map}
 use Rattle.transform_composition.specs.Reading.{point}
-use Rattle.index_transform.specs.Transforms.{DomainAndMaps, checked, first_bad_map, KeepsRules}
+use Rattle.transform_composition.specs.Transforms.{DomainAndMaps, checked, first_bad_map, KeepsRules}
 use Rattle.transform_composition.specs.Tightening.{tighten_answer}
 use Rattle.transform_composition.specs.Composing.{composed, over_tightened}
 use Rattle.transform_composition.specs.Agreeing.{Agrees, GoesInto}
-use Rattle.index_transform.specs.Walks.{IsCell}
+use Rattle.transform_composition.specs.Walks.{IsCell}
 use Rattle.dim_changes.specs.Causes.{or_cause, over, IsFaultOf, fault_of, Follows, ReachesInto}
 use Rattle.cells.proofs.Laws.{both}
 

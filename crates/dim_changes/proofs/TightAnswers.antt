@@ -4,17 +4,17 @@ use Rattle.std.proofs.lemmas.Bool.Decides.{nat_tests}
 use Rattle.std.specs.Option.{ForSome}
 use Rattle.std.specs.List.{list_all, zip, position_from}
 use Rattle.index_intervals.specs.Bounds.{Bounds, IsIndex}
-use Rattle.index_transform.specs.declared.domain.Domain.{Domain}
-use Rattle.index_transform.specs.declared.map.OutMap.{OutMap}
-use Rattle.index_transform.specs.declared.map.OutMap.TheVariants.{Constant, Strided, Indexed}
+use Rattle.transform_composition.specs.declared.Domain.{Domain}
+use Rattle.transform_composition.specs.declared.OutMap.{OutMap}
+use Rattle.transform_composition.specs.declared.OutMap.TheVariants.{Constant, Strided, Indexed}
 use Rattle.index_intervals.specs.Edges.{lower_edge, preimage, interval_of}
 use Rattle.transform_composition.specs.Inside.{is_inside_by, first_outside_by}
-use Rattle.index_transform.specs.Maps.{is_map}
+use Rattle.transform_composition.specs.Maps.{is_map}
 use Rattle.transform_composition.specs.Reading.{point}
 use Rattle.transform_composition.specs.Composing.{nowhere}
-use Rattle.index_transform.specs.Transforms.{DomainAndMaps, on_dims}
+use Rattle.transform_composition.specs.Transforms.{DomainAndMaps, on_dims}
 use Rattle.transform_composition.specs.Tightening.{tight_lower, tight_upper, tight_dims, overflows_at, overflows_by, tightened, tighten_answer, preimages, gathered_from, interval_of, on_dims}
-use Rattle.index_transform.proofs.Laws.{get_or-inside}
+use Rattle.transform_composition.proofs.Laws.{get_or-inside}
 use Rattle.dim_changes.proofs.TightBounds.{Edge, IsTight, interval_of-edges, finite_part-index, overflows-none}
 use Rattle.cells.proofs.Laws.{both}
 

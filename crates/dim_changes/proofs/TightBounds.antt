@@ -8,11 +8,11 @@ use Rattle.std.specs.Int.RustNames.{int_lt}
 use Rattle.index_intervals.specs.Bounds.{Bounds, AreBounds, IsIndex, is_index, minus_infinity, plus_infinity}
 use Rattle.index_intervals.specs.Stride.{quotient_down, quotient_up}
 use Rattle.index_intervals.proofs.Laws.{is_index-true, IsIndex-true, lo_infinite, hi_infinite, same_bounds, IsQuotientDown-quotient_down, IsQuotientUp-quotient_up}
-use Rattle.index_transform.specs.declared.map.OutMap.{OutMap}
+use Rattle.transform_composition.specs.declared.OutMap.{OutMap}
 use Rattle.index_intervals.specs.declared.edge.Ends.{Ends}
 use Rattle.index_intervals.specs.Edges.{finite_part, lower_edge, upper_edge, ends_of, interval_of, is_open, least_from, greatest_to, preimage_lower, preimage_upper, preimage}
 use Rattle.index_intervals.specs.Meet.{cross_at, cross, below, bounds_met, uncrossed, met_all}
-use Rattle.index_transform.specs.declared.map.OutMap.TheVariants.{Constant, Strided, Indexed}
+use Rattle.transform_composition.specs.declared.OutMap.TheVariants.{Constant, Strided, Indexed}
 use Rattle.transform_composition.specs.Tightening.{preimages, met, takes, tight_lower, tight_upper, gathered_from, passes_at, passes_below, upper_passes, overflows_at}
 
 -- the type of edges, which has no name outside its crate

@@ -2,9 +2,9 @@
 use Rattle.std.specs.Prelude.{◌≡◌, ℕ, ◌<◌, nat_lt, ℤ, pos, if◌then◌else◌, IsTrue, List, [], ◌∷◌, length, slice_index_or, Option, Some, None, Result, Ok, Err}
 use Rattle.index_intervals.specs.Bounds.{Bounds, is_index}
 use Rattle.index_intervals.specs.Members.{effective_lo, effective_hi}
-use Rattle.index_transform.specs.Values.{is_effective, value_at}
-use Rattle.index_transform.specs.Walks.{IsCell}
-use Rattle.index_transform.specs.Transforms.{DomainAndMaps}
+use Rattle.transform_composition.specs.Values.{is_effective, value_at}
+use Rattle.transform_composition.specs.Walks.{IsCell}
+use Rattle.transform_composition.specs.Transforms.{DomainAndMaps}
 use Rattle.transform_composition.specs.Composing.{joined_answer}
 use Rattle.transform_composition.specs.Agreeing.{GoesInto}
 use Rattle.transform_composition.specs.declared.error.ComposeError.{ComposeError}

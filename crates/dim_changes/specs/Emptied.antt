@@ -3,7 +3,7 @@ use Rattle.std.specs.Prelude.{◌≡◌, ℕ, pos, negsuc, Bool, false, not, ◌
 use Rattle.std.specs.List.{range_with_len}
 use Rattle.index_intervals.specs.Bounds.{Bounds}
 use Rattle.index_intervals.specs.Members.{is_finite}
-use Rattle.index_transform.specs.Transforms.{DomainAndMaps}
+use Rattle.transform_composition.specs.Transforms.{DomainAndMaps}
 use Rattle.transform_composition.specs.Agreeing.{Agrees, GoesInto}
 use Rattle.step_forms.specs.declared.act.Act.{Act}
 use Rattle.dim_changes.specs.Causes.{over}

@@ -2,10 +2,10 @@
 use Rattle.std.specs.Prelude.{ℕ, ◌==◌, Bool, false, not, ◌&&◌, ◌||◌, if◌then◌else◌, List, length, map, Option, Some, None, unwrap_or, Result, Ok, Err}
 use Rattle.std.specs.List.{list_any, range_with_len}
 use Rattle.index_intervals.specs.Bounds.{Bounds}
-use Rattle.index_transform.specs.Maps.{are_labels}
-use Rattle.index_transform.specs.declared.map.OutMap.{OutMap}
+use Rattle.transform_composition.specs.Maps.{are_labels}
+use Rattle.transform_composition.specs.declared.OutMap.{OutMap}
 use Rattle.transform_composition.specs.Reading.{has_array_along}
-use Rattle.index_transform.specs.Transforms.{DomainAndMaps}
+use Rattle.transform_composition.specs.Transforms.{DomainAndMaps}
 use Rattle.dim_changes.specs.declared.cause.Cause.{Cause}
 use Rattle.dim_changes.specs.declared.cause.Cause.TheVariants.{Count, Label, IndexDim}
 use Rattle.dim_changes.specs.Dims.{spot_in, dim_at, label_at}

@@ -17,9 +17,9 @@ use crate::stride::strided_by;
 use crate::translate::{moved_back, moved_by, moved_to};
 use cells::List;
 use index_intervals::Interval;
-use index_transform::{Domain, OutMap, Transform, copied_names, look_at_all};
 use std::alloc::{AllocError, Global};
 use step_forms::{Act, PerDim};
+use transform_composition::{Domain, OutMap, Transform, copied_names, look_at_all};
 
 // The number for the selected dimension at a spot.
 fn number_for(by: &PerDim, spot: usize) -> Option<i64>

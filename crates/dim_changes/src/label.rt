@@ -1,15 +1,15 @@
 // Labels of dimensions.
 ghost use Rattle.std.specs.List.{list_all, range_with_len};
 ghost use Rattle.std.specs.Prelude.{◌<◌, ◌≡◌, IfErr, IfOk, IsTrue, Ok, length, map};
-ghost use Rattle.index_transform.specs.Maps.{has_ranks, is_map, is_plain};
+ghost use Rattle.transform_composition.specs.Maps.{has_ranks, is_map, is_plain};
 ghost use Rattle.dim_changes.specs.Causes.{IsFaultOf};
 ghost use Rattle.dim_changes.specs.Marks.{label_answer, new_label, only_labels};
 
 use crate::cause::{Cause, Fault};
 use crate::dims::{copied_label, label_at, spot_in};
 use cells::{List, Name};
-use index_transform::{Domain, OutMap, Transform, copied_maps};
 use std::alloc::{AllocError, Global};
+use transform_composition::{Domain, OutMap, Transform, copied_maps};
 
 // The new label of a dimension that is selected, or the old one.
 fn new_label<'a>(olds: &'a [Name], selected: &[usize], labels: &'a [Name], dim: usize) -> &'a Name

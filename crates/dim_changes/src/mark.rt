@@ -1,8 +1,8 @@
 // Flags of bounds.
 ghost use Rattle.std.specs.List.{list_any, range_with_len};
 ghost use Rattle.std.specs.Prelude.{◌&&◌, ◌<◌, ◌==◌, ◌≡◌, IfErr, IfOk, List, Ok, length, map, not, slice_index_or, ℤ};
-ghost use Rattle.index_transform.specs.Transforms.{KeepsRules};
-ghost use Rattle.index_transform.specs.Values.{value_at};
+ghost use Rattle.transform_composition.specs.Transforms.{KeepsRules};
+ghost use Rattle.transform_composition.specs.Values.{value_at};
 ghost use Rattle.transform_composition.specs.Reading.{has_array_along};
 ghost use Rattle.dim_changes.specs.Causes.{IsFaultOf};
 ghost use Rattle.dim_changes.specs.Marks.{has_array_on, makes_implicit, mark_answer, marked, marked_dim, with_marks};
@@ -11,8 +11,8 @@ use crate::cause::{Cause, Fault};
 use crate::dims::{dim_at, spot_in};
 use cells::List;
 use index_intervals::Interval;
-use index_transform::{Domain, OutMap, Transform, copied_maps, copied_names};
 use std::alloc::{AllocError, Global};
+use transform_composition::{Domain, OutMap, Transform, copied_maps, copied_names};
 
 // The bounds with the flags that are given.
 fn marked(lower: Option<bool>, upper: Option<bool>, dim: &Interval) -> Interval

@@ -1,14 +1,13 @@
 // A transform over the dimensions that a step gives.
 ghost use Rattle.std.specs.Prelude.{◌≡◌, IfOk};
-ghost use Rattle.index_transform.specs.Transforms.{KeepsRules};
+ghost use Rattle.transform_composition.specs.Transforms.{KeepsRules};
 ghost use Rattle.transform_composition.specs.Agreeing.{Agrees};
 ghost use Rattle.transform_composition.specs.Composing.{composed};
 ghost use Rattle.dim_changes.specs.Causes.{Gives, fault_of, or_cause};
 
 use crate::cause::{Cause, Fault};
-use index_transform::{Domain, OutMap, Transform};
 use std::alloc::Global;
-use transform_composition::{ComposeError, compose};
+use transform_composition::{ComposeError, Domain, OutMap, Transform, compose};
 
 /// The transform over a domain, whose maps give the old index of each old dimension.
 ///

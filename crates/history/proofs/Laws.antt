@@ -154,3 +154,4 @@ pub use Rattle.history.proofs.AloneSingle.{IsRunAlone, single_is_run}
 pub use Rattle.history.proofs.AloneEnds.{run_begins_single}
 -- laws of crates below, given on to those above
 pub use Rattle.chunk_forms.proofs.Laws.{no_fault_of_spells, spells_of_writes}
+pub use Rattle.chunk_forms.proofs.MadeLaws.{n5_rules, zarr3_rules, zarr_rules}

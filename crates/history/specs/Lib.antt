@@ -50,3 +50,4 @@ pub use Rattle.chunk_forms.specs.Names
 pub use Rattle.chunk_forms.specs.Wants
 pub use Rattle.chunk_forms.specs.Words
 pub use Rattle.stack_driver.specs.Targets
+pub use Rattle.chunk_forms.specs.Grammar

@@ -11,3 +11,4 @@ pub use Rattle.index_transform.proofs.ValueLaws.{effective-cell, length-cell, ha
 pub use Rattle.index_transform.proofs.IdentityLaws.{length-identity_maps, IsTransform-identity}
 -- laws of crates below, given on to those above
 pub use Rattle.cells.proofs.Laws.{both, both_true, second_true}
+pub use Rattle.index_intervals.proofs.Laws.{AreBounds-true, IsBetween-met_all, IsIndex-true, IsMember-interval_of, before_at, beyond_at, down_at, hi_infinite, is_index-true, lo_infinite, same_bounds, up_at}

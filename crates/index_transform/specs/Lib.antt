@@ -10,3 +10,5 @@ pub use Rattle.index_intervals.specs.Around
 pub use Rattle.index_intervals.specs.Bounds
 pub use Rattle.index_intervals.specs.Members
 pub use Rattle.cells.specs.Places
+pub use Rattle.index_intervals.specs.Edges
+pub use Rattle.index_intervals.specs.Meet

@@ -16,11 +16,11 @@ mod transform;
 mod value;
 mod walk;
 
-pub use cells::{Index, List, MOST_ENTRIES, Sizes, count_cells};
+pub use cells::{Index, List, MOST_ENTRIES, Name, Sizes, count_cells};
 pub use copies::{copied_interval, copied_map, copied_maps};
 pub use domain::{Domain, are_labels, copied_names, look_at_all};
 pub use error::{AtError, CountError, TransformError};
-pub use index_intervals::{Interval, around_all, is_index};
+pub use index_intervals::{Edge, Ends, INFINITY, Interval, around_all, interval_of, is_index};
 pub use map::{OutMap, fits, size_of};
 pub use transform::Transform;
 pub use value::{is_effective, scaled};

@@ -33,7 +33,11 @@ pub fn bound_with(alloc: Global, names: &mut Names, name: &str, view: View, body
     }
 }
 
-fn viewed_body(alloc: Global, name: &str, view: &View) -> Result<Body, AllocError>
+/// The answer that a name is bound to a view: the view's dtype and transform.
+///
+/// # Errors
+/// An allocation failed, or the transform takes too many lists to be written.
+pub fn viewed_body(alloc: Global, name: &str, view: &View) -> Result<Body, AllocError>
     ensures { IfOk result (λ b. b ≡ Viewed name.now (look_of view.now).dtype (own_transform view.now)) }
 {
     if !transform_has_few_lists(transform_of(view)) {

@@ -16,13 +16,13 @@ mod values;
 mod viewing;
 mod writing;
 
-pub use binding::{bound, bound_with};
+pub use binding::{bound, bound_with, viewed_body};
 pub use cell_faults::{counted, targets_body};
 pub use changing::{changed, seen};
 pub use joining::joined;
 pub use line_meanings::{
-    Answer, Body, DownWant, JoinForm, bad_metadata, damaged, has_few_lists, refusal,
-    transform_has_few_lists,
+    Answer, Body, Command, DownWant, JoinForm, OpenPlan, bad_metadata, damaged, has_few_lists,
+    read_command, refusal, transform_has_few_lists,
 };
 pub use names::{Names, bind, named, unknown};
 pub use reading::asked_read;

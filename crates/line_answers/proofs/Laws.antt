@@ -10,6 +10,8 @@ use Rattle.line_parts.specs.declared.SpecError.{SpecError}
 use Rattle.line_parts.specs.declared.SpecError.TheVariants as spec
 use Rattle.step_forms.specs.declared.error.StepsError.{StepsError}
 use Rattle.step_forms.specs.declared.error.StepsError.TheVariants as steps
+-- laws of crates below, given on to those above
+pub use Rattle.history.proofs.Laws.{n5_rules, zarr3_rules, zarr_rules}
 
 told : (given form : FormError) → Some given ≡ Some form → body_of (form_body given) ≡ body_of (form_body form)
 told given form e = let same : given ≡ form = cc in ap (λ f. body_of (form_body f)) same

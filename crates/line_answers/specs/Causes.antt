@@ -4,8 +4,8 @@ use Rattle.answer_text.specs.declared.answer.Body.{Body}
 use Rattle.answer_text.specs.declared.answer.Body.TheVariants as body
 use Rattle.answer_text.specs.declared.answer.MetaWhy.TheVariants.{Json, Member, Unsupported}
 use Rattle.answer_text.specs.declared.answer.Why.TheVariants.{Length, Mode, Rank, Size}
-use Rattle.chunk_forms.specs.declared.form.Damage.{Damage}
-use Rattle.chunk_forms.specs.declared.form.Damage.TheVariants as damage
+use Rattle.history.specs.declared.Damage.{Damage}
+use Rattle.history.specs.declared.Damage.TheVariants as damage
 use Rattle.dim_changes.specs.declared.cause.Cause.{Cause}
 use Rattle.dim_changes.specs.declared.cause.Cause.TheVariants as step
 use Rattle.answer_text.specs.declared.JoinError.{JoinError}

@@ -5,7 +5,7 @@ ghost use Rattle.line_answers.specs.Causes.{metadata_body, damage_body, chunk_bo
 use answer_text::{Body, MetaWhy, Why};
 use cells::{List, Name};
 use chunk_elements::ChunkError;
-use chunk_forms::Damage;
+use history::Damage;
 use meta_forms::MetaError;
 use n5_blocks::BlockError;
 

@@ -9,4 +9,5 @@ mod refusing;
 
 pub use answer_text::{Answer, Body, has_few_lists, transform_has_few_lists};
 pub use causes::{bad_metadata, damaged};
+pub use history::{Form, Want};
 pub use refusing::refusal;

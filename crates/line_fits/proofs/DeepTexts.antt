@@ -16,7 +16,7 @@ use Rattle.serde_json.proofs.Numbers.{number_of-decimal, number_of-negative}
 use Rattle.serde_json.proofs.Texts.{print-outline}
 use Rattle.json_forms.specs.Members.{object_of}
 use Rattle.json_forms.specs.Numbers.{natural}
-use Rattle.answer_data.specs.Printable.{IsInteger}
+use Rattle.transcript_cut.specs.Printable.{IsInteger}
 
 -- nothing, or this
 abbrev pub IsAtMost : {A : Type 0} → Option A → A → Type 0

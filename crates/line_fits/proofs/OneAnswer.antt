@@ -1,18 +1,18 @@
 -- What has one answer is answered by its text alone.
 use Rattle.std.proofs.Common.{◌≡◌, ◌≢◌, ◌↔◌, ◌+◌, ℕ, List, [], ◌∷◌, length, Option, refl, sym, ap, ◌∙◌, Bool, IsTrue}
 use Rattle.serde_json.specs.Data.{Data}
-use Rattle.answer_text.specs.Text.{answer_text}
-use Rattle.answer_text.specs.declared.answer.Answer.{Answer}
-use Rattle.answer_data.specs.Answers.{answer_data}
+use Rattle.transcript_cut.specs.Text.{answer_text}
+use Rattle.transcript_cut.specs.declared.Answer.{Answer}
+use Rattle.transcript_cut.specs.Answers.{answer_data}
 use Rattle.history.specs.Acts.{Asked}
 use Rattle.history.specs.Answers as old
 use Rattle.history.specs.Answers.{Body}
 use Rattle.history.specs.Commit.{Transaction}
 use Rattle.history.specs.History.{History}
-use Rattle.transcript_laws.specs.Fitting as fitting
-use Rattle.transcript_laws.specs.Fitting.{IsAnswer, IsActAnswer, printed_at}
-use Rattle.transcript_laws.specs.Numbers.{done_in, failed_in}
-use Rattle.transcript_laws.specs.Windows.{Window}
+use Rattle.transcript_cut.specs.Fitting as fitting
+use Rattle.transcript_cut.specs.Fitting.{IsAnswer, IsActAnswer, printed_at}
+use Rattle.transcript_cut.specs.ToldNumbers.{done_in, failed_in}
+use Rattle.transcript_cut.specs.Windows.{Window}
 use Rattle.line_fits.specs.Fits.{IsAnsweredBy}
 use Rattle.line_fits.specs.OneAnswer.{HasOneAnswer, refusal, viewed, staged, begun, aborted, IsToldWithNumber, IsFailure}
 

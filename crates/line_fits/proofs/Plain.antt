@@ -24,9 +24,9 @@ use Rattle.index_transform.specs.declared.domain.Domain.{Domain}
 use Rattle.index_transform.specs.declared.map.OutMap.{OutMap}
 use Rattle.index_transform.specs.declared.map.OutMap.TheVariants.{Constant, Strided, Indexed}
 use Rattle.transform_json.specs.Written.{flagged, lower_data, upper_data, are_unlabelled, with_labels, domain_data, with_number, nested_data, map_data, transform_data}
-use Rattle.answer_data.specs.Causes.{Member, bound_data, cause_member}
-use Rattle.answer_data.specs.Members.{numbers_data, indices_data, dtype_data}
-use Rattle.answer_data.specs.Printable.{HasSpelled}
+use Rattle.transcript_cut.specs.Causes.{Member, bound_data, cause_member}
+use Rattle.transcript_cut.specs.Members.{numbers_data, indices_data, dtype_data}
+use Rattle.transcript_cut.specs.Printable.{HasSpelled}
 use Rattle.line_fits.specs.Plain.{IsPlain, IsPlainMember, IsWhole, HasNumbers}
 
 -- the members of an object that nests little

@@ -18,16 +18,16 @@ use Rattle.cells.specs.Numbers.{number_of}
 use Rattle.cells.specs.Places.{cell_count}
 use Rattle.cells.specs.declared.dtype.Dtype.{Dtype}
 use Rattle.cells.specs.declared.dtype.Dtype.TheVariants.{I8, U8, I16, U16, I32, U32, I64, U64}
-use Rattle.answer_text.specs.Nested.{rows, word_text, values_text}
-use Rattle.answer_text.specs.Pieces.{items_text, indices_text, comma_if}
-use Rattle.answer_text.specs.Text.{answer_text}
-use Rattle.answer_text.specs.declared.answer.Answer.{Answer}
-use Rattle.answer_text.specs.declared.answer.Body.{Body}
-use Rattle.answer_text.specs.declared.answer.Body.TheVariants.{BadSpec, StoreFailed, Values}
-use Rattle.answer_data.proofs.Laws.{told_data}
-use Rattle.answer_data.specs.Answers.{body_members, events_members, answer_data}
-use Rattle.answer_data.specs.Lines.{IsAnswerText}
-use Rattle.answer_data.specs.Members.{numbers_data, indices_data, word_data, values_data}
+use Rattle.transcript_cut.specs.Nested.{rows, word_text, values_text}
+use Rattle.transcript_cut.specs.Pieces.{items_text, indices_text, comma_if}
+use Rattle.transcript_cut.specs.Text.{answer_text}
+use Rattle.transcript_cut.specs.declared.Answer.{Answer}
+use Rattle.transcript_cut.specs.declared.Body.{Body}
+use Rattle.transcript_cut.specs.declared.Body.TheVariants.{BadSpec, StoreFailed, Values}
+use Rattle.transcript_cut.proofs.Laws.{told_data}
+use Rattle.transcript_cut.specs.Answers.{body_members, events_members, answer_data}
+use Rattle.transcript_cut.specs.AnswerLines.{IsAnswerText}
+use Rattle.transcript_cut.specs.Members.{numbers_data, indices_data, word_data, values_data}
 use Rattle.line_fits.specs.Plain.{AreSmall, IsWhole}
 use Rattle.line_fits.specs.ReadBack.{IsReadBack, ReadsBack}
 use Rattle.line_fits.proofs.DeepTexts.{IsNested, AreNested, IsAtMost, values_object, read_at_most}

@@ -23,7 +23,7 @@ use Rattle.transaction_cells.specs.Sites.{Site, sites_of}
 use Rattle.transaction_cells.specs.declared.view_cells.Piece.{Piece}
 use Rattle.transaction_cells.specs.declared.view_cells.ViewCells.{ViewCells}
 use Rattle.transaction_cells.proofs.WrittenLaws.{site_with}
-use Rattle.transcript_laws.specs.Transcript.{mount}
+use Rattle.transcript_cut.specs.Transcript.{mount}
 use Rattle.event_replay.specs.Sweeps.{IsFront, IsViewIn}
 use Rattle.event_replay.proofs.FollowLaws.{leaves_whole}
 use Rattle.event_replay.proofs.Fronts.{known_later, known_low, low_known}

@@ -3,9 +3,9 @@ use Rattle.std.proofs.Common.{◌≡◌, ◌≤◌, ◌<◌, ◌+◌, ◌-◌, �
 use Rattle.std.specs.Prelude.{unwrap_or}
 use Rattle.std.specs.List.{last_or}
 use Rattle.history.specs.Commit.{Transaction}
-use Rattle.transcript_laws.specs.Transcript.{Told}
-use Rattle.transcript_laws.specs.Numbers.{opened_in, numbers_in, numbers_of, single}
-use Rattle.transcript_laws.specs.Windows.{last_of, before_first, lines_up_to, lines_before, window_of}
+use Rattle.transcript_cut.specs.Transcript.{Told}
+use Rattle.transcript_cut.specs.ToldNumbers.{opened_in, numbers_in, numbers_of, single}
+use Rattle.transcript_cut.specs.Windows.{last_of, before_first, lines_up_to, lines_before, window_of}
 use Rattle.transcript_cut.specs.Numbers.{PrintsNumbers, all_numbers}
 use Rattle.transcript_cut.specs.declared.numbers.EventNumbers.{EventNumbers}
 use Rattle.transcript_cut.specs.declared.said.Said.{Said}

@@ -4,3 +4,22 @@ pub mod ReadBack
 pub mod OneAnswer
 pub mod Walls
 pub mod StoredPuts
+-- names of crates below, given on to those above
+pub use Rattle.transcript_cut.specs.Text
+pub use Rattle.transcript_cut.specs.Answers
+pub use Rattle.transcript_cut.specs.AnswerLines
+pub use Rattle.transcript_cut.specs.Bodies
+pub use Rattle.transcript_cut.specs.LineCauses
+pub use Rattle.transcript_cut.specs.Fitting
+pub use Rattle.transcript_cut.specs.ToldNumbers
+pub use Rattle.transcript_cut.specs.Opening
+pub use Rattle.transcript_cut.specs.Openings
+pub use Rattle.transcript_cut.specs.Takings
+pub use Rattle.transcript_cut.specs.Windows
+pub use Rattle.transcript_cut.specs.Members
+pub use Rattle.transcript_cut.specs.Standings
+pub use Rattle.transcript_cut.specs.Transcript
+pub use Rattle.event_replay.specs.Demands
+pub use Rattle.event_replay.specs.Pieces
+pub use Rattle.event_replay.specs.Sweeps
+pub use Rattle.transcript_cut.specs.Verdicts

@@ -1,8 +1,8 @@
 -- What has one answer, whatever the history.
 use Rattle.std.specs.Prelude.{◌≡◌, ℕ, List, [], ◌∷◌, length, ◌+◌, Option, Some, None, Ok, Err}
 use Rattle.serde_json.specs.Data.{Data}
-use Rattle.answer_text.specs.Text.{answer_text}
-use Rattle.answer_data.specs.Answers.{answer_data}
+use Rattle.transcript_cut.specs.Text.{answer_text}
+use Rattle.transcript_cut.specs.Answers.{answer_data}
 use Rattle.history.specs.declared.event.Mode.{Mode}
 use Rattle.history.specs.Acts.{Asked, binds, stages, begins, aborts}
 use Rattle.history.specs.Answers as old
@@ -10,7 +10,7 @@ use Rattle.history.specs.Answers.{Body, Text}
 use Rattle.history.specs.Commit.{Transaction}
 use Rattle.history.specs.Viewing.{viewed_body}
 use Rattle.stack_driver.specs.declared.view.View.{View}
-use Rattle.transcript_laws.specs.Fitting.{printed_at}
+use Rattle.transcript_cut.specs.Fitting.{printed_at}
 
 -- this answer is the only one that what is asked may have
 pub data HasOneAnswer : Asked → Body → Type 0 where

@@ -5,8 +5,8 @@ use Rattle.std.specs.Str.{IsUtf8}
 use Rattle.serde_json.specs.Data.{Data, depth}
 use Rattle.index_transform.specs.declared.map.OutMap.{OutMap}
 use Rattle.index_transform.specs.declared.map.OutMap.TheVariants.{Constant, Strided, Indexed}
-use Rattle.answer_data.specs.Causes.{Member}
-use Rattle.answer_data.specs.Printable.{IsSpelled}
+use Rattle.transcript_cut.specs.Causes.{Member}
+use Rattle.transcript_cut.specs.Printable.{IsSpelled}
 
 -- a value that JSON spells, and that nests no deeper than this
 pub record IsPlain (room : ℕ) (d : Data) : Type 0 where

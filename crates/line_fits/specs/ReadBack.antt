@@ -1,11 +1,11 @@
 -- When the text of an answer reads back as the answer.
 use Rattle.std.specs.Prelude.{◌≡◌, ◌<◌, ◌^◌, ℕ}
 use Rattle.serde_json.specs.Data.{Data}
-use Rattle.answer_text.specs.Text.{answer_text}
-use Rattle.answer_text.specs.declared.answer.Answer.{Answer}
-use Rattle.answer_text.specs.declared.answer.Body.{Body}
-use Rattle.answer_data.specs.Answers.{answer_data}
-use Rattle.answer_data.specs.Lines.{IsAnswerText}
+use Rattle.transcript_cut.specs.Text.{answer_text}
+use Rattle.transcript_cut.specs.declared.Answer.{Answer}
+use Rattle.transcript_cut.specs.declared.Body.{Body}
+use Rattle.transcript_cut.specs.Answers.{answer_data}
+use Rattle.transcript_cut.specs.AnswerLines.{IsAnswerText}
 
 -- where the answer's text is a line of a script's answers at all, it reads as the answer's object
 pub record IsReadBack (answer : Answer) : Type 0 where

@@ -1,9 +1,9 @@
 -- Windows by the numbers that lines print.
 use Rattle.std.specs.Prelude.{◌≡◌, ◌<◌, ℕ, ◌+◌, List, [], ◌∷◌, ◌++◌, length, take, drop, get_or, Some, unwrap_or}
 use Rattle.std.specs.List.{flat_map, last_or}
-use Rattle.transcript_laws.specs.Numbers.{single}
-use Rattle.transcript_laws.specs.Transcript.{Told}
-use Rattle.transcript_laws.specs.Windows.{last_of, before_first}
+use Rattle.transcript_cut.specs.ToldNumbers.{single}
+use Rattle.transcript_cut.specs.Transcript.{Told}
+use Rattle.transcript_cut.specs.Windows.{last_of, before_first}
 use Rattle.transcript_cut.specs.Numbers.{PrintsNumbers, all_numbers}
 use Rattle.transcript_cut.specs.declared.numbers.EventNumbers.{EventNumbers}
 use Rattle.transcript_cut.specs.declared.said.Said.{Said}

@@ -1,12 +1,12 @@
 ghost use Rattle.std.specs.Prelude.{◌≡◌, ◌↔◌, ℕ, IfOk, IsTrue};
 ghost use Rattle.serde_json.specs.Data.{Data};
-ghost use Rattle.answer_text.specs.Text.{answer_text};
-ghost use Rattle.answer_data.specs.Answers.{answer_data};
-ghost use Rattle.answer_data.specs.Lines.{IsAnswerText};
+ghost use Rattle.transcript_cut.specs.Text.{answer_text};
+ghost use Rattle.transcript_cut.specs.Answers.{answer_data};
+ghost use Rattle.transcript_cut.specs.AnswerLines.{IsAnswerText};
 
 use crate::bodies::look_at_answer;
-use answer_text::{Answer, render};
 use std::alloc::{AllocError, Global};
+use transcript_cut::{Answer, render};
 
 /// Whether an answer is the one that a text tells, of a line of a transcript.
 ///

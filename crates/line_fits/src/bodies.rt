@@ -8,7 +8,7 @@ use crate::looks::{
     look_at_domain, look_at_events, look_at_index, look_at_name, look_at_number, look_at_numbers,
     look_at_transform, look_at_u32, look_at_words,
 };
-use answer_text::{Answer, Body};
+use transcript_cut::{Answer, Body};
 
 pub(crate) fn look_at_answer(answer: &Answer)
     ensures { IsReadBack answer.now }

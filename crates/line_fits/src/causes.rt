@@ -1,11 +1,11 @@
 // Looks at causes.
 ghost use Rattle.std.specs.List.{AllByRecursion};
-ghost use Rattle.answer_data.specs.Causes.{step_members, compose_members, build_members, join_members, meta_members, chunk_members};
+ghost use Rattle.transcript_cut.specs.Causes.{step_members, compose_members, build_members, join_members, meta_members, chunk_members};
 ghost use Rattle.line_fits.specs.Plain.{IsPlainMember, IsWhole};
 
 use crate::looks::{look_at_integer, look_at_name, look_at_number, look_at_u16, look_at_u32};
-use answer_text::{BuildCause, JoinError, MetaWhy, Why};
 use dim_changes::Cause;
+use transcript_cut::{BuildCause, JoinError, MetaWhy, Why};
 use transform_composition::ComposeError;
 
 pub(crate) fn look_at_step(cause: Cause)

@@ -15,7 +15,7 @@ ghost use Rattle.transaction_cells.specs.Operations.{HasSites};
 ghost use Rattle.transaction_cells.specs.Pieces.{AreCells};
 ghost use Rattle.transaction_cells.specs.Sites.{sites_of};
 ghost use Rattle.transaction_cells.specs.declared.view_cells.Piece.{Piece as PieceOf};
-ghost use Rattle.transcript_laws.specs.Transcript.{mount};
+ghost use Rattle.transcript_cut.specs.Transcript.{mount};
 
 use history::Op;
 use stack_driver::View;

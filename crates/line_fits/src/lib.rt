@@ -10,6 +10,8 @@ mod told;
 mod windows;
 
 pub use answers::is_told;
+pub use event_replay::{AskedPiece, Demand, Waiting, demand_of};
 pub use failing::{commit_may_fail, write_may_fail};
 pub use told::{failed_behind, is_answered, is_committed, is_written};
+pub use transcript_cut::{Answer, Body, EventNumbers};
 pub use windows::{Window, ends_of, lasts_of, window_at};

@@ -3,7 +3,7 @@ ghost use Rattle.std.specs.Prelude.{◌≡◌, ◌<◌, ◌^◌, ℕ, List as Li
 ghost use Rattle.std.specs.List.{AllByRecursion, list_all};
 ghost use Rattle.transform_json.specs.Written.{domain_data, transform_data};
 ghost use Rattle.index_intervals.specs.Bounds.{are_bounds};
-ghost use Rattle.answer_data.specs.Members.{numbers_data, indices_data};
+ghost use Rattle.transcript_cut.specs.Members.{numbers_data, indices_data};
 ghost use Rattle.line_fits.specs.Plain.{AreSmall, HasNumbers, IsPlain, IsWhole};
 
 use cells::{Index, List, Name, Words};

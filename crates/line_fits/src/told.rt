@@ -1,23 +1,23 @@
 // Lines whose answer depends on no event but those that they state.
 ghost use Rattle.std.specs.Prelude.{◌≡◌, ◌≢◌, ◌↔◌, ◌∷◌, [], ℕ, None, Option, length, IfOk, IfSome, IfNone, IsTrue};
 ghost use Rattle.serde_json.specs.Data.{Data};
-ghost use Rattle.answer_data.specs.Answers.{answer_data};
-ghost use Rattle.answer_text.specs.Text.{answer_text};
-ghost use Rattle.answer_data.specs.Lines.{IsAnswerText};
+ghost use Rattle.transcript_cut.specs.Answers.{answer_data};
+ghost use Rattle.transcript_cut.specs.Text.{answer_text};
+ghost use Rattle.transcript_cut.specs.AnswerLines.{IsAnswerText};
 ghost use Rattle.history.specs.Acts.{Asked};
 ghost use Rattle.history.specs.Answers.{Body as BodyOf, store_failed};
 ghost use Rattle.history.specs.Commit.{Transaction};
 ghost use Rattle.history.specs.History.{History};
-ghost use Rattle.transcript_laws.specs.Fitting.{printed_at};
-ghost use Rattle.transcript_laws.specs.Numbers.{done_in, failed_in, single};
-ghost use Rattle.transcript_laws.specs.Windows.{Window};
+ghost use Rattle.transcript_cut.specs.Fitting.{printed_at};
+ghost use Rattle.transcript_cut.specs.ToldNumbers.{done_in, failed_in, single};
+ghost use Rattle.transcript_cut.specs.Windows.{Window};
 ghost use Rattle.line_fits.specs.Fits.{IsAnsweredBy};
 ghost use Rattle.line_fits.specs.OneAnswer.{HasOneAnswer, IsCommitted, IsFailedBehind, IsWritten};
 
 use crate::answers::is_told;
-use answer_text::{Answer, Body};
 use cells::List;
 use std::alloc::{AllocError, Global};
+use transcript_cut::{Answer, Body};
 
 /// Whether a line is answered as it has to be, where it is refused, binds a view, stages a write, or begins or aborts a transaction: this
 /// is then the only answer that it may have.

@@ -4,9 +4,9 @@ ghost use Rattle.history.specs.Commit.{Transaction};
 ghost use Rattle.line_fits.specs.Walls.{AreEnds, AreLasts, ArePrintedBy, last_from};
 ghost use Rattle.transcript_cut.specs.Numbers.{all_numbers};
 ghost use Rattle.transcript_cut.specs.declared.said.Said.{Said as SaidOf};
-ghost use Rattle.transcript_laws.specs.Numbers.{single};
-ghost use Rattle.transcript_laws.specs.Transcript.{Told};
-ghost use Rattle.transcript_laws.specs.Windows.{before_first, lines_before, window_of};
+ghost use Rattle.transcript_cut.specs.ToldNumbers.{single};
+ghost use Rattle.transcript_cut.specs.Transcript.{Told};
+ghost use Rattle.transcript_cut.specs.Windows.{before_first, lines_before, window_of};
 
 use std::alloc::{AllocError, Global};
 use transcript_cut::{EventNumbers, Said};

@@ -10,3 +10,11 @@ pub use Rattle.spec_open.specs.Built
 pub use Rattle.spec_open.specs.Conditions
 pub use Rattle.spec_open.specs.Specs
 pub use Rattle.spec_open.specs.Leaves
+pub use Rattle.line_parts.specs.Faults
+pub use Rattle.line_parts.specs.Kvstores
+pub use Rattle.line_parts.specs.Members
+pub use Rattle.line_parts.specs.Stored
+pub use Rattle.line_parts.specs.Asking
+pub use Rattle.line_parts.specs.Sizes
+pub use Rattle.line_parts.specs.Wants
+pub use Rattle.line_parts.specs.Zarr

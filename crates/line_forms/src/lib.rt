@@ -15,6 +15,6 @@ mod view;
 mod write;
 
 pub use command::{Command, DownWant, JoinForm};
-pub use line_parts::LineError;
+pub use line_parts::{LineError, joined};
 pub use lines::read_command;
 pub use spec_open::{BuildCause, BuildError, OpenPlan, SpecError, SpecLeaf, Tree};

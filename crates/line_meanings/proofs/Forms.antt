@@ -10,8 +10,8 @@ use Rattle.line_forms.specs.Specs.{plan_of_spec}
 use Rattle.line_forms.specs.declared.OpenPlan.{OpenPlan}
 use Rattle.line_forms.proofs.Laws.{plan_sound}
 use Rattle.line_forms.specs.Form as forms
-use Rattle.history.specs.Alone.{IsLineOn}
-use Rattle.history.specs.Bound.{IsLineWithin}
+use Rattle.line_answers.specs.Alone.{IsLineOn}
+use Rattle.line_answers.specs.Bound.{IsLineWithin}
 use Rattle.line_forms.specs.Form.{Form, opening, viewing, joining, reading, writing, beginning, committing, aborting, resizing, resolving}
 use Rattle.line_forms.specs.declared.command.Command.TheVariants.{Open}
 use Rattle.line_forms.specs.declared.command.JoinForm.{JoinForm}

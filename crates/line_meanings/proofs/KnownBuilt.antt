@@ -4,7 +4,7 @@ use Rattle.std.specs.Prelude.{nat_le}
 use Rattle.std.specs.List.{AllByRecursion}
 use Rattle.std.proofs.lemmas.Bool.Decides.{nat_tests}
 use Rattle.cells.specs.declared.dtype.Dtype.{Dtype}
-use Rattle.chunk_forms.specs.Wants.{same_dtype}
+use Rattle.line_answers.specs.Wants.{same_dtype}
 use Rattle.index_transform.specs.Identity.{identity_over}
 use Rattle.index_transform.specs.Transforms.{DomainAndMaps}
 use Rattle.transform_composition.specs.declared.error.ComposeError.{ComposeError}
@@ -24,10 +24,10 @@ use Rattle.line_forms.specs.declared.OpenPlan.{OpenPlan}
 use Rattle.line_forms.specs.declared.Tree.{Tree, ind-Tree, roll-Tree, map-Tree}
 use Rattle.line_forms.specs.declared.Tree.TheOpen.{Tree-F}
 use Rattle.line_forms.specs.declared.Tree.TheVariants as tree
-use Rattle.history.specs.Answers as told
-use Rattle.history.specs.History.{History}
-use Rattle.history.specs.Bound.{IsBuildWithin}
-use Rattle.history.specs.Refs.{IsKnownRef, HasKnownRefs}
+use Rattle.line_answers.specs.Answers as told
+use Rattle.line_answers.specs.History.{History}
+use Rattle.line_answers.specs.Bound.{IsBuildWithin}
+use Rattle.line_answers.specs.Refs.{IsKnownRef, HasKnownRefs}
 use Rattle.line_meanings.specs.Openings.{by_built, build_of}
 use Rattle.line_meanings.proofs.KnownForms.{known_leaf, known_cast, known_stack}
 use Rattle.line_meanings.proofs.KnownUnder.{moved_known}

@@ -7,8 +7,8 @@ use Rattle.stack_driver.specs.References.{Reference}
 use Rattle.stack_driver.specs.declared.view.View.{View, every_here-View, every_made-View}
 use Rattle.stack_driver.specs.declared.view.View.TheOpen.{View-F}
 use Rattle.stack_driver.specs.declared.view.View.TheVariants as view
-use Rattle.history.specs.History.{History}
-use Rattle.history.specs.Refs.{IsKnownRef, HasKnownRef, HasKnownRefs}
+use Rattle.line_answers.specs.History.{History}
+use Rattle.line_answers.specs.Refs.{IsKnownRef, HasKnownRef, HasKnownRefs}
 
 -- a leaf of a known array, a cast of such a view, a stack of such views
 pub known_leaf : (events : History) (array : Reference) (t : DomainAndMaps) → IsKnownRef events array → HasKnownRefs events (view.Leaf array t)

@@ -11,9 +11,9 @@ use Rattle.layer_join.specs.Placed.{placed_transform, placed_from}
 use Rattle.layer_join.specs.Slid.{slid_transform, slid_view, shifts}
 use Rattle.layer_join.specs.declared.error.JoinError.{JoinError}
 use Rattle.line_forms.specs.declared.command.JoinForm.{JoinForm}
-use Rattle.history.specs.History.{History}
-use Rattle.history.specs.Bound.{IsJoinWithin}
-use Rattle.history.specs.Refs.{HasKnownRefs}
+use Rattle.line_answers.specs.History.{History}
+use Rattle.line_answers.specs.Bound.{IsJoinWithin}
+use Rattle.line_answers.specs.Refs.{HasKnownRefs}
 use Rattle.line_meanings.specs.Joins.{form_of, by_join, join_of}
 use Rattle.line_meanings.proofs.KnownForms.{known_stack}
 use Rattle.line_meanings.proofs.KnownUnder.{under_known}

@@ -14,9 +14,9 @@ use Rattle.stack_driver.specs.declared.view.View.TheOpen.{View-F}
 use Rattle.stack_driver.specs.declared.view.View.TheVariants as view
 use Rattle.stack_driver.proofs.Laws.{every_base, every_layer}
 use Rattle.stack_driver.proofs.Unders.{under-Leaf, under-Cast, under-Stack}
-use Rattle.history.specs.History.{History}
-use Rattle.history.specs.Bound.{IsChangeWithin}
-use Rattle.history.specs.Refs.{HasKnownRef, HasKnownRefs}
+use Rattle.line_answers.specs.History.{History}
+use Rattle.line_answers.specs.Bound.{IsChangeWithin}
+use Rattle.line_answers.specs.Refs.{HasKnownRef, HasKnownRefs}
 use Rattle.line_meanings.proofs.KnownForms.{known_leaf, known_cast, known_stack, leaf_known}
 use Rattle.line_meanings.specs.Changes.{by_view, by_transform, under_steps, by_steps, steps_of, changes_of}
 

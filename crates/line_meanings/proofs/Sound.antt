@@ -6,11 +6,11 @@ use Rattle.serde_json.specs.Data.{Data}
 use Rattle.serde_json.specs.View.{view}
 use Rattle.cells.specs.Numbers.{IsWord}
 use Rattle.cells.specs.declared.dtype.Dtype.{Dtype}
-use Rattle.chunk_forms.specs.Made.{with_chunks, zarr_made, n5_made, zarr3_made, form_made}
-use Rattle.chunk_forms.specs.Metadata.{IsMetadata}
-use Rattle.chunk_forms.specs.declared.form.Form.{Form}
-use Rattle.chunk_forms.specs.declared.form.Want.TheVariants as want
-use Rattle.chunk_forms.proofs.MadeLaws.{zarr_rules, n5_rules, zarr3_rules}
+use Rattle.line_answers.specs.Made.{with_chunks, zarr_made, n5_made, zarr3_made, form_made}
+use Rattle.line_answers.specs.Metadata.{IsMetadata}
+use Rattle.line_answers.specs.declared.Form.{Form}
+use Rattle.line_answers.specs.declared.Want.TheVariants as want
+use Rattle.line_answers.proofs.Laws.{zarr_rules, n5_rules, zarr3_rules}
 use Rattle.zarr_chunks.specs.Want as zarr
 use Rattle.n5_blocks.specs.Want as n5
 use Rattle.zarr3_chunks.specs.Want as zarr3
@@ -24,9 +24,9 @@ use Rattle.line_forms.specs.Form as forms
 use Rattle.line_forms.specs.declared.command.Command.{Command}
 use Rattle.line_forms.specs.declared.command.Command.TheVariants.{Open, View, Join, Read, Write, Begin, Commit, Abort, Resize, Resolve}
 use Rattle.script_lines.proofs.GivenWords.{words_of-are}
-use Rattle.history.specs.Alone.{IsLeafOn, IsLineOn, IsLeafSound, IsLineSound}
-use Rattle.history.specs.Bound.{IsLineWithin}
-use Rattle.history.specs.Staged.{AreFitting, HasFittingValues}
+use Rattle.line_answers.specs.Alone.{IsLeafOn, IsLineOn, IsLeafSound, IsLineSound}
+use Rattle.line_answers.specs.Bound.{IsLineWithin}
+use Rattle.line_answers.specs.Staged.{AreFitting, HasFittingValues}
 use Rattle.line_meanings.specs.Conditions.{HasRules, HaveRules}
 use Rattle.line_meanings.specs.Meanings.{line_of}
 use Rattle.line_meanings.specs.Numbers.{values_of}

@@ -12,8 +12,8 @@ use Rattle.dim_expressions.specs.declared.error.ApplyError.TheVariants as apply
 use Rattle.stack_driver.specs.Changes.{under, moved}
 use Rattle.stack_driver.specs.Views.{own_transform}
 use Rattle.stack_driver.specs.declared.view.View.{View}
-use Rattle.history.specs.Answers.{StepCause, count, rank, target, label, zero_step, unbounded_step, bad_order, out_of_bounds, index_dim, step_overflow, too_large}
-use Rattle.history.specs.Lines.{ChangeError, unknown_dim, repeated_dim, refused_step, refused_view, Change}
+use Rattle.line_answers.specs.Answers.{StepCause, count, rank, target, label, zero_step, unbounded_step, bad_order, out_of_bounds, index_dim, step_overflow, too_large}
+use Rattle.line_answers.specs.Lines.{ChangeError, unknown_dim, repeated_dim, refused_step, refused_view, Change}
 
 -- why a step isn't done
 abbrev pub cause_of : Cause → StepCause

@@ -6,8 +6,8 @@ use Rattle.layer_join.specs.declared.error.JoinError.{JoinError}
 use Rattle.layer_join.specs.declared.error.JoinError.TheVariants as join
 use Rattle.line_forms.specs.declared.command.JoinForm.{JoinForm}
 use Rattle.line_forms.specs.declared.command.JoinForm.TheVariants as form
-use Rattle.history.specs.Answers.{JoinCause, depth, join_layers, axis, join_rank, join_unbounded, join_overflow}
-use Rattle.history.specs.Lines.{Join}
+use Rattle.line_answers.specs.Answers.{JoinCause, depth, join_layers, axis, join_rank, join_unbounded, join_overflow}
+use Rattle.line_answers.specs.Lines.{Join}
 
 abbrev pub form_of : JoinForm → joins.Join
 form_of form.Overlay = joins.overlay

@@ -1,7 +1,7 @@
 -- What a line means to the history.
 use Rattle.std.specs.Prelude.{ℕ, List, [], map, Option, Some, None, Result, Ok, Err, if◌then◌else◌}
-use Rattle.history.specs.Lines.{FormError, bad_line, Line}
-use Rattle.history.specs.Lines as history
+use Rattle.line_answers.specs.Lines.{FormError, bad_line, Line}
+use Rattle.line_answers.specs.Lines as history
 use Rattle.line_answers.specs.Refusals.{form_error}
 use Rattle.line_forms.specs.Form.{Form, opening, viewing, joining, reading, writing, beginning, committing, aborting, resizing, resolving}
 use Rattle.line_forms.specs.Lines.{command_of_line}

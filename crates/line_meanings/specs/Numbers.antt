@@ -5,7 +5,7 @@ use Rattle.downsample_view.specs.Downsampled.{downsampled}
 use Rattle.downsample_view.specs.declared.outcome.Down.{Down}
 use Rattle.line_forms.specs.declared.command.DownWant.{DownWant}
 use Rattle.script_lines.specs.NestedWords.{words_of}
-use Rattle.history.specs.Lines.{Values, Printed, Downsampling}
+use Rattle.line_answers.specs.Lines.{Values, Printed, Downsampling}
 
 -- the words that values give to the cells of a shape
 abbrev pub values_of : Data → Values

@@ -1,6 +1,6 @@
 -- What a Spec asks to be opened.
 use Rattle.std.specs.Prelude.{ℕ, suc, List, [], ◌∷◌, nat_le, nat_eq, length, Option, Some, None, unwrap_or, Result, Ok, Err, if◌then◌else◌}
-use Rattle.chunk_forms.specs.declared.form.Want.TheVariants as want
+use Rattle.line_answers.specs.declared.Want.TheVariants as want
 use Rattle.stack_driver.specs.declared.view.View.{View}
 use Rattle.line_forms.specs.declared.SpecLeaf as spec_leaf
 use Rattle.line_forms.specs.declared.SpecLeaf.TheVariants as spec
@@ -12,8 +12,8 @@ use Rattle.line_forms.specs.declared.BuildError.TheVariants as error
 use Rattle.line_forms.specs.declared.OpenPlan.{OpenPlan}
 use Rattle.line_forms.specs.declared.Tree.{Tree, fold-Tree}
 use Rattle.line_forms.specs.declared.Tree.TheOpen.{Tree-F}
-use Rattle.history.specs.Answers.{Text, BuildCause, by_transform, layers}
-use Rattle.history.specs.Lines.{SpecLeaf, given, stored, Build}
+use Rattle.line_answers.specs.Answers.{Text, BuildCause, by_transform, layers}
+use Rattle.line_answers.specs.Lines.{SpecLeaf, given, stored, Build}
 
 -- a leaf of the node at a path: numbers of its own, or an array that is asked of a store
 abbrev pub leaf_of : Text → spec_leaf.SpecLeaf → SpecLeaf

@@ -4,7 +4,12 @@
 //! `act_of` and the rows of a session's step speak.
 #![tactic(auto)]
 
+pub use dim_expressions::ApplyError;
 pub use line_answers::{
     Answer, Body, bad_metadata, damaged, has_few_lists, refusal, transform_has_few_lists,
 };
-pub use line_forms::{DownWant, JoinForm};
+pub use line_forms::{
+    BuildCause, BuildError, Command, DownWant, JoinForm, LineError, OpenPlan, SpecLeaf, Tree,
+    joined, read_command,
+};
+pub use zarr_chunks::ZarrMeta;

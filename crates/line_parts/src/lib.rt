@@ -13,5 +13,5 @@ pub use error::LineError;
 pub use faults::{earlier, first_fault, missing, name_at, no_name, unless_so};
 pub use names::{name_of, owned};
 pub use parts::{at_fault, name_in, steps_in};
-pub use spec_forms::SpecError;
+pub use spec_forms::{SpecError, SpecLeaf, joined};
 pub use transforms::{faulty_transform, transform_in};

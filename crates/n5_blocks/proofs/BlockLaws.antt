@@ -3,12 +3,12 @@ use Rattle.std.proofs.Common.{◌≡◌, ℕ, ◌*◌, ◌<◌, ◌≤◌, ◌^�
 use Rattle.std.specs.Prelude.{All}
 use Rattle.std.proofs.lemmas.List.{length-drop}
 use Rattle.std.proofs.lemmas.List.Elements.{All-get_or}
-use Rattle.cells.specs.Numbers.{IsWord}
-use Rattle.cells.specs.Dense.{DenseCells, IsDense}
-use Rattle.cells.specs.Bytes.{byte_count}
-use Rattle.cells.specs.Places.{cell_count, IsInside, c_place}
-use Rattle.cells.specs.declared.dtype.Dtype.{Dtype}
-use Rattle.cells.proofs.Laws.{c_place-lt}
+use Rattle.chunk_elements.specs.Numbers.{IsWord}
+use Rattle.chunk_elements.specs.Dense.{DenseCells, IsDense}
+use Rattle.chunk_elements.specs.Bytes.{byte_count}
+use Rattle.chunk_elements.specs.Places.{cell_count, IsInside, c_place}
+use Rattle.chunk_elements.specs.declared.Dtype.{Dtype}
+use Rattle.chunk_elements.proofs.Laws.{c_place-lt}
 use Rattle.chunk_elements.specs.Blocks.{AreWithin, StoresWords, AreStored, AddsBlock}
 use Rattle.chunk_elements.proofs.Laws.{AreStored-words_of_rows, fit_from_within, inside-fit, small-drop}
 use Rattle.n5_blocks.specs.Metadata.{Metadata, IsMetadata}

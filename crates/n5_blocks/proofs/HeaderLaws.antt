@@ -5,9 +5,9 @@ use Rattle.std.proofs.Math.Seq.{take-add}
 use Rattle.std.proofs.lemmas.Grind.{flat_map-append}
 use Rattle.std.proofs.lemmas.List.{length-drop, length-take-le, drop-drop, take-append-drop, get_or-drop}
 use Rattle.std.proofs.lemmas.List.FromFn.{map-range_with_len_more}
-use Rattle.cells.specs.Bytes.{byte_count, word_bytes, word_of_bytes}
-use Rattle.cells.specs.declared.dtype.Dtype.{Dtype}
-use Rattle.cells.specs.declared.dtype.Dtype.TheVariants.{U16, U32}
+use Rattle.chunk_elements.specs.Bytes.{byte_count, word_bytes, word_of_bytes}
+use Rattle.chunk_elements.specs.declared.Dtype.{Dtype}
+use Rattle.chunk_elements.specs.declared.Dtype.TheVariants.{U16, U32}
 use Rattle.chunk_elements.proofs.Laws.{bytes_of_part}
 use Rattle.n5_blocks.specs.Block.{header}
 use Rattle.n5_blocks.specs.Faults.{mode_in, rank_in, header_len, size_in, sizes_in}

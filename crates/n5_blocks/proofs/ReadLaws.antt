@@ -7,10 +7,10 @@ use Rattle.std.proofs.lemmas.Slice.Eq.{bytes_eq-Decides}
 use Rattle.serde_json.specs.Data.{Data, string}
 use Rattle.serde_json.specs.Find.{get, as_str, as_object}
 use Rattle.serde_json.proofs.OnLiterals.{serde_json_on_literals}
-use Rattle.cells.specs.DtypeNames.{dtype_name, dtype_named}
-use Rattle.cells.specs.Shapes.{IsShape}
-use Rattle.cells.specs.declared.dtype.Dtype.{Dtype}
-use Rattle.cells.proofs.Laws.{dtype_named-dtype_name, dtype_name-dtype_named, ok_from_then, ok_from_else, then_from, else_from}
+use Rattle.chunk_elements.specs.DtypeNames.{dtype_name, dtype_named}
+use Rattle.chunk_elements.specs.Shapes.{IsShape}
+use Rattle.chunk_elements.specs.declared.Dtype.{Dtype}
+use Rattle.chunk_elements.proofs.Laws.{dtype_named-dtype_name, dtype_name-dtype_named, ok_from_then, ok_from_else, then_from, else_from}
 use Rattle.meta_forms.specs.Bytes.{data_of}
 use Rattle.meta_forms.specs.Faults.{named}
 use Rattle.meta_forms.specs.Judged.{text_in, sizes_at, judged_shape, judged_chunks}

@@ -6,11 +6,11 @@ use Rattle.std.specs.Option.{option_or}
 use Rattle.std.proofs.lemmas.Bool.{cases_lt, le-ltb}
 use Rattle.std.proofs.lemmas.List.{drop_at, ext_get_or}
 use Rattle.std.proofs.lemmas.List.FromFn.{get_or-map-range_with_len}
-use Rattle.cells.specs.Bytes.{byte_count, word_bytes, word_of_bytes}
-use Rattle.cells.specs.Places.{cell_count, IsInside, f_place}
-use Rattle.cells.specs.declared.dtype.Dtype.{Dtype}
-use Rattle.cells.specs.declared.dtype.Dtype.TheVariants.{U16, U32}
-use Rattle.cells.proofs.Laws.{length-word_bytes, word_of_bytes-word_bytes, then_from, else_from}
+use Rattle.chunk_elements.specs.Bytes.{byte_count, word_bytes, word_of_bytes}
+use Rattle.chunk_elements.specs.Places.{cell_count, IsInside, f_place}
+use Rattle.chunk_elements.specs.declared.Dtype.{Dtype}
+use Rattle.chunk_elements.specs.declared.Dtype.TheVariants.{U16, U32}
+use Rattle.chunk_elements.proofs.Laws.{length-word_bytes, word_of_bytes-word_bytes, then_from, else_from}
 use Rattle.n5_blocks.specs.Metadata.{Metadata, IsMetadata}
 use Rattle.n5_blocks.specs.Block.{element_bytes, header, AreElements, AreWithin, StoresCells, SpellsBlock}
 use Rattle.n5_blocks.specs.Faults.{mode_in, rank_in, header_len, size_in, sizes_in, size_fault, length_fault, block_fault}

@@ -1,13 +1,13 @@
 -- The grammar of a block's bytes.
 use Rattle.std.specs.Prelude.{◌≡◌, ℕ, ◌-◌, ◌*◌, ◌<◌, ◌++◌, min, true, List, [], ◌∷◌, length, slice_index}
 use Rattle.std.specs.List.{flat_map}
-use Rattle.cells.specs.Numbers.{IsWord}
-use Rattle.cells.specs.Bytes.{byte_count, word_bytes}
-pub use Rattle.cells.specs.Elements.{element_bytes, word_at}
-use Rattle.cells.specs.Places.{cell_count, IsInside, f_place}
+use Rattle.chunk_elements.specs.Numbers.{IsWord}
+use Rattle.chunk_elements.specs.Bytes.{byte_count, word_bytes}
+pub use Rattle.chunk_elements.specs.Elements.{element_bytes, word_at}
+use Rattle.chunk_elements.specs.Places.{cell_count, IsInside, f_place}
 pub use Rattle.chunk_elements.specs.Blocks.{AreWithin}
-use Rattle.cells.specs.declared.dtype.Dtype.{Dtype}
-use Rattle.cells.specs.declared.dtype.Dtype.TheVariants.{U16, U32}
+use Rattle.chunk_elements.specs.declared.Dtype.{Dtype}
+use Rattle.chunk_elements.specs.declared.Dtype.TheVariants.{U16, U32}
 use Rattle.n5_blocks.specs.Metadata.{Metadata}
 
 -- the header of a block of these sizes: mode 0 and the number of dimensions in two bytes each, then each size in four,

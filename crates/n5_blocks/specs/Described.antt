@@ -1,6 +1,6 @@
 -- Which metadata bytes are.
 use Rattle.std.specs.Prelude.{◌≡◌, ℕ, List, map, codes, Some}
-use Rattle.cells.specs.DtypeNames.{dtype_name}
+use Rattle.chunk_elements.specs.DtypeNames.{dtype_name}
 use Rattle.serde_json.specs.Data.{Data, string}
 use Rattle.serde_json.specs.Find.{get}
 use Rattle.meta_forms.specs.Bytes.{data_of}

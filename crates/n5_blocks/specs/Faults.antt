@@ -2,10 +2,10 @@
 use Rattle.std.specs.Prelude.{ℕ, ◌+◌, ◌*◌, List, [], ◌∷◌, length, take, drop, map, true, Option, Some, None, ◌==◌, nat_lt, if◌then◌else◌}
 use Rattle.std.specs.List.{range_with_len}
 use Rattle.std.specs.Option.{option_or}
-use Rattle.cells.specs.Bytes.{byte_count, word_of_bytes}
-use Rattle.cells.specs.Places.{cell_count}
-use Rattle.cells.specs.declared.dtype.Dtype.{Dtype}
-use Rattle.cells.specs.declared.dtype.Dtype.TheVariants.{U16, U32}
+use Rattle.chunk_elements.specs.Bytes.{byte_count, word_of_bytes}
+use Rattle.chunk_elements.specs.Places.{cell_count}
+use Rattle.chunk_elements.specs.declared.Dtype.{Dtype}
+use Rattle.chunk_elements.specs.declared.Dtype.TheVariants.{U16, U32}
 use Rattle.n5_blocks.specs.Metadata.{Metadata}
 use Rattle.n5_blocks.specs.declared.chunk.BlockError.{BlockError}
 use Rattle.n5_blocks.specs.declared.chunk.BlockError.TheVariants.{WrongMode, WrongRank, WrongSize, WrongLength}

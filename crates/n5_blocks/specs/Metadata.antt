@@ -1,7 +1,7 @@
 -- What the metadata of an array says, and its rules.
 use Rattle.std.specs.Prelude.{◌≡◌, ℕ, ◌≤◌, List, length}
-use Rattle.cells.specs.Shapes.{IsShape, IsChunkShape}
-use Rattle.cells.specs.declared.dtype.Dtype.{Dtype}
+use Rattle.chunk_elements.specs.Shapes.{IsShape, IsChunkShape}
+use Rattle.chunk_elements.specs.declared.Dtype.{Dtype}
 
 -- an array's sizes and its blocks' sizes in cells, and what an element is
 pub record Metadata : Type 0 where

@@ -3,8 +3,8 @@ use Rattle.std.specs.Prelude.{ℕ, List, length, codes, Option, Some, None, Resu
 use Rattle.std.specs.Str.{bytes_eq}
 use Rattle.serde_json.specs.Data.{Data}
 use Rattle.serde_json.specs.Find.{get, as_object}
-use Rattle.cells.specs.DtypeNames.{dtype_named}
-use Rattle.cells.specs.declared.dtype.Dtype.{Dtype}
+use Rattle.chunk_elements.specs.DtypeNames.{dtype_named}
+use Rattle.chunk_elements.specs.declared.Dtype.{Dtype}
 use Rattle.meta_forms.specs.Bytes.{data_of}
 use Rattle.meta_forms.specs.Faults.{named, ◌>>=◌}
 use Rattle.meta_forms.specs.Judged.{text_in, sizes_at, judged_shape, judged_chunks}

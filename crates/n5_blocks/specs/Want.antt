@@ -1,7 +1,7 @@
 -- What is asked of an array's metadata, and its rules.
 use Rattle.std.specs.Prelude.{◌≡◌, ◌≤◌, ℕ, List, length, Option, Some}
-use Rattle.cells.specs.Shapes.{IsShape, IsChunkShape}
-use Rattle.cells.specs.declared.dtype.Dtype.{Dtype}
+use Rattle.chunk_elements.specs.Shapes.{IsShape, IsChunkShape}
+use Rattle.chunk_elements.specs.declared.Dtype.{Dtype}
 
 -- what is asked; what is None isn't asked
 pub record Want : Type 0 where

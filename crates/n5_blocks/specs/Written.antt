@@ -1,6 +1,6 @@
 -- The written form of metadata.
 use Rattle.std.specs.Prelude.{[], ◌∷◌, map, codes}
-use Rattle.cells.specs.DtypeNames.{dtype_name}
+use Rattle.chunk_elements.specs.DtypeNames.{dtype_name}
 use Rattle.serde_json.specs.Data.{Data, string}
 use Rattle.meta_forms.specs.Numbers.{natural}
 use Rattle.meta_forms.specs.Lists.{list_of}

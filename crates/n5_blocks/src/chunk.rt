@@ -1,8 +1,8 @@
 ghost use Rattle.std.specs.Prelude.{◌≡◌, ◌≢◌, ◌↔◌, ℕ, ◌*◌, ◌≤◌, ◌<◌, ◌^◌, ◌++◌, IfOk, IfErr, OnOk, Some, None, true, drop, length, slice_index};
-ghost use Rattle.cells.specs.Numbers.{IsWord};
-ghost use Rattle.cells.specs.Bytes.{word_bytes};
-ghost use Rattle.cells.specs.Places.{cell_count};
-ghost use Rattle.cells.specs.Shapes.{IsChunkShape};
+ghost use Rattle.chunk_elements.specs.Numbers.{IsWord};
+ghost use Rattle.chunk_elements.specs.Bytes.{word_bytes};
+ghost use Rattle.chunk_elements.specs.Places.{cell_count};
+ghost use Rattle.chunk_elements.specs.Shapes.{IsChunkShape};
 ghost use Rattle.n5_blocks.specs.Block.{AreWithin, IsReached, IsZeroOutside, SpellsBlock, WritesBlock, cut_sizes, header, word_at};
 ghost use Rattle.n5_blocks.specs.Faults.{block_fault, cells_fault, header_len, sizes_in};
 ghost use Rattle.chunk_elements.specs.Blocks.{AddsBlock, AreStored};
@@ -10,8 +10,7 @@ ghost use Rattle.n5_blocks.specs.declared.chunk.BlockError.{BlockError};
 
 use crate::faults::{block_fault, cells_of, header_len, sizes_in};
 use crate::metadata::N5Meta;
-use cells::{Dense, Dtype, Sizes, put_word};
-use chunk_elements::{put_block, words_of_block};
+use chunk_elements::{Dense, Dtype, Sizes, put_block, put_word, words_of_block};
 use std::alloc::{AllocError, Global};
 use thiserror::Error;
 

@@ -1,11 +1,11 @@
 // What is wrong with a block's bytes.
 ghost use Rattle.std.specs.Prelude.{◌≡◌, ℕ, ◌+◌, ◌<◌, ◌≤◌, ◌^◌, length, take, slice_index};
-ghost use Rattle.cells.specs.Places.{cell_count};
+ghost use Rattle.chunk_elements.specs.Places.{cell_count};
 ghost use Rattle.n5_blocks.specs.Faults.{mode_in, rank_in, header_len, size_in, sizes_in, size_fault, length_fault, cells_fault, block_fault};
 
 use crate::chunk::BlockError;
 use crate::metadata::N5Meta;
-use cells::{Dtype, LARGEST_RANK, MOST_CHUNK_CELLS, count_cells, take_word};
+use chunk_elements::{Dtype, LARGEST_RANK, MOST_CHUNK_CELLS, count_cells, take_word};
 
 /// The first fault of the bytes, if they have one.
 pub(crate) fn block_fault(m: &N5Meta, bytes: &[u8]) -> Option<BlockError>

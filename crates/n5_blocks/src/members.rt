@@ -4,7 +4,7 @@ ghost use Rattle.serde_json.specs.View.{view};
 ghost use Rattle.meta_forms.specs.Judged.{text_in};
 ghost use Rattle.n5_blocks.specs.Read.{supported, judged_dtype, judged_compression, compression_in};
 
-use cells::Dtype;
+use chunk_elements::Dtype;
 use meta_forms::{Fault, text_in};
 use serde_json::Value;
 

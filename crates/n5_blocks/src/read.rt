@@ -1,7 +1,7 @@
 // Metadata from JSON.
 ghost use Rattle.std.specs.Prelude.{◌≡◌, ◌≢◌, ◌≤◌, Some, Ok, Err, IfOk, IfErr, codes, length, option_map};
 ghost use Rattle.serde_json.specs.View.{view};
-ghost use Rattle.cells.specs.Shapes.{IsShape};
+ghost use Rattle.chunk_elements.specs.Shapes.{IsShape};
 ghost use Rattle.meta_forms.specs.Faults.{named};
 ghost use Rattle.meta_forms.specs.Judged.{sizes_at};
 ghost use Rattle.meta_forms.specs.declared.error.MetaError.{MetaError};
@@ -10,7 +10,7 @@ ghost use Rattle.n5_blocks.specs.Read.{judged_dimensions, judged_dtype, judged_c
 
 use crate::members::{judged_compression, judged_dtype};
 use crate::metadata::N5Meta;
-use cells::Sizes;
+use chunk_elements::Sizes;
 use meta_forms::{
     Fault, MetaError, ParseError, checked_chunks, checked_shape, fault_of, named, parse, sizes_at,
 };

@@ -2,7 +2,7 @@
 use Rattle.std.proofs.Common.{◌≡◌, ℕ, ◌+◌, ◌<◌, List, [], ◌∷◌, ◌++◌, length, take, cond, Option, None, sym, ap, subst, ◌∙◌}
 use Rattle.std.specs.Prelude.{IsTrue}
 use Rattle.kv_face.specs.Store.{Contents}
-use Rattle.chunk_forms.specs.declared.form.Damage.{Damage}
+use Rattle.history.specs.declared.Damage.{Damage}
 use Rattle.history.specs.History.{History}
 use Rattle.history.specs.Acts.{Act, Asked, act_of}
 use Rattle.history.specs.Answers as body

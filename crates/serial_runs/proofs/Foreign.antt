@@ -3,7 +3,7 @@ use Rattle.std.proofs.Common.{◌≡◌, ℕ, zero, suc, ◌<◌, List, [], ◌�
 use Rattle.std.specs.List.{slice_get, AllByRecursion}
 use Rattle.std.proofs.lemmas.List.{take-append-drop}
 use Rattle.kv_face.specs.Store.{Contents}
-use Rattle.chunk_forms.specs.Names.{chunk_name}
+use Rattle.history.specs.Names.{chunk_name}
 use Rattle.history.specs.History.{History}
 use Rattle.history.specs.Answers as body
 use Rattle.history.specs.Answers.{Body, Answer}

@@ -4,7 +4,7 @@ use Rattle.std.specs.FinMap as finmap
 use Rattle.std.proofs.Math.Decide.{dec_le}
 use Rattle.std.proofs.Math.Nat.{lt_of_not-le}
 use Rattle.kv_face.specs.Store.{Contents}
-use Rattle.chunk_forms.specs.Words.{is_inside}
+use Rattle.history.specs.Words.{is_inside}
 use Rattle.stack_driver.specs.Targets.{Cell}
 use Rattle.history.specs.declared.array.ArrayInfo.{ArrayInfo}
 use Rattle.history.specs.declared.array.Home.{Home}

@@ -4,7 +4,7 @@ use Rattle.std.specs.Prelude.{Contains, option_map}
 use Rattle.std.specs.FinMap as finmap
 use Rattle.std.proofs.lemmas.List.{take-append-drop}
 use Rattle.stack_driver.specs.Targets.{Cell}
-use Rattle.chunk_forms.specs.Names.{chunk_name, metadata_name}
+use Rattle.history.specs.Names.{chunk_name, metadata_name}
 use Rattle.history.specs.declared.event.Event.{Event}
 use Rattle.history.specs.declared.event.Op.{Op}
 use Rattle.history.specs.History.{History}

@@ -4,7 +4,7 @@ use Rattle.std.specs.Prelude.{◌==◌, filter_map}
 use Rattle.std.specs.List.{AllByRecursion, zip}
 use Rattle.std.specs.FinMap as finmap
 use Rattle.std.proofs.lemmas.List.{take-append-drop}
-use Rattle.chunk_forms.specs.Words.{is_inside}
+use Rattle.history.specs.Words.{is_inside}
 use Rattle.stack_driver.specs.Targets.{Cell, is_cell, Target}
 use Rattle.stack_driver.specs.Views.{targets_of}
 use Rattle.stack_driver.specs.declared.error.TargetError.{TargetError}

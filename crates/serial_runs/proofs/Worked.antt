@@ -7,7 +7,7 @@ use Rattle.std.specs.FinMap as finmap
 use Rattle.cells.specs.Numbers.{Holds, IsWord}
 use Rattle.cells.specs.declared.dtype.Dtype.TheVariants.{I32}
 use Rattle.cells.specs.declared.order.Order.TheVariants.{C}
-use Rattle.chunk_forms.specs.declared.form.Form.TheVariants as form
+use Rattle.history.specs.declared.Form.TheVariants as form
 use Rattle.index_transform.specs.Cells.{is_finite}
 use Rattle.kv_face.specs.Store.{Contents}
 use Rattle.stack_driver.proofs.Laws.{look-Leaf}

@@ -7,7 +7,7 @@ use Rattle.std.specs.FinMap as finmap
 use Rattle.std.specs.Fmt.{digits}
 use Rattle.std.proofs.Math.Seq.{take-append_seam}
 use Rattle.kv_face.specs.Store.{Contents}
-use Rattle.chunk_forms.specs.Words.{is_inside}
+use Rattle.history.specs.Words.{is_inside}
 use Rattle.stack_driver.proofs.Laws.{look-Leaf}
 use Rattle.stack_driver.proofs.Looks.{targets_by}
 use Rattle.stack_driver.specs.References.{Reference}

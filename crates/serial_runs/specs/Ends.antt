@@ -2,7 +2,7 @@
 use Rattle.std.specs.Prelude.{◌≡◌, ℕ, List, [], ◌∷◌, take, drop, false, Some, None, IsTrue, Contains}
 use Rattle.std.specs.FinMap as finmap
 use Rattle.std.specs.List.{AllByRecursion}
-use Rattle.chunk_forms.specs.Words.{is_inside}
+use Rattle.history.specs.Words.{is_inside}
 use Rattle.stack_driver.specs.Targets.{Cell}
 use Rattle.history.specs.declared.event.Event.{Event}
 use Rattle.history.specs.History.{History}

@@ -3,9 +3,9 @@ use Rattle.std.specs.Prelude.{◌≡◌, ℕ, List, false, Option, Some, None, i
 use Rattle.std.specs.FinMap as finmap
 use Rattle.cells.specs.Places.{IsInside}
 use Rattle.kv_face.specs.Store.{Contents}
-use Rattle.chunk_forms.specs.Grammar.{WritesChunk}
-use Rattle.chunk_forms.specs.Metadata.{metadata_text, with_shape}
-use Rattle.chunk_forms.specs.Words.{is_inside}
+use Rattle.history.specs.Grammar.{WritesChunk}
+use Rattle.history.specs.Metadata.{metadata_text, with_shape}
+use Rattle.history.specs.Words.{is_inside}
 use Rattle.stack_driver.specs.Targets.{Cell}
 use Rattle.history.specs.History.{History}
 use Rattle.history.specs.Arrays.{Known, known_after, chunk_shape, form_of, is_local}

@@ -2,7 +2,7 @@
 -- that the second writes this cell.
 use Rattle.std.specs.Prelude.{ℕ, List, [], ◌∷◌, codes, true, Some, None, Ok, Err}
 use Rattle.cells.specs.declared.dtype.Dtype.TheVariants.{I32}
-use Rattle.chunk_forms.specs.declared.form.Want.TheVariants as want
+use Rattle.history.specs.declared.Want.TheVariants as want
 use Rattle.stack_driver.specs.declared.view.View.TheVariants.{Leaf}
 use Rattle.history.specs.declared.event.Event.{Event}
 use Rattle.history.specs.declared.event.Kind.TheVariants.{Done}

@@ -25,3 +25,6 @@ pub use Rattle.sessions.specs.Reading
 pub use Rattle.sessions.specs.Recording
 pub use Rattle.sessions.specs.Commits
 pub use Rattle.sessions.specs.Reads
+pub use Rattle.sessions.specs.Form
+pub use Rattle.sessions.specs.Agreement
+pub use Rattle.sessions.specs.Outline

@@ -19,7 +19,7 @@ use Rattle.session_openings.specs.declared.Answer.{Answer}
 use Rattle.session_openings.specs.declared.Body.{Body}
 use Rattle.session_openings.specs.declared.Body.TheVariants as printed
 use Rattle.session_openings.proofs.Laws.{drop_front, none_added, own-append}
-use Rattle.state_laws.specs.Agreement.{Opening, fails, is_fault}
+use Rattle.session_openings.specs.Agreement.{Opening, fails, is_fault}
 use Rattle.step_forms.specs.declared.error.StepsError.TheVariants as steps
 use Rattle.turn_book.specs.Passes.{BookView, PassView}
 

@@ -26,8 +26,8 @@ use Rattle.session_openings.specs.Reads.{IsReadTold}
 use Rattle.session_openings.specs.Standing.{session_state, transaction_in, AreViews}
 use Rattle.session_openings.specs.Told.{IsToldAlone, IsToldBy, IsAnswerTo}
 use Rattle.session_openings.proofs.Laws.{sound_later}
-use Rattle.state_laws.specs.Agreement.{Opening}
-use Rattle.state_laws.specs.Outline.{outline}
+use Rattle.session_openings.specs.Agreement.{Opening}
+use Rattle.session_openings.specs.Outline.{outline}
 use Rattle.step_forms.specs.declared.error.StepsError.TheVariants as steps
 use Rattle.session_openings.specs.Txn.{TxnSeen}
 use Rattle.turn_book.specs.Passes.{BookView, PassView}

@@ -9,7 +9,7 @@ use Rattle.script_lines.specs.Script.{lines_of, lines_left, is_blank}
 use Rattle.session_runs.specs.Scripts.{asked_line, asked_by, HasRunScript, IsGivenMore, IsGivenLast}
 use Rattle.session_runs.specs.Session.{SessionSeen, IsSessionOn}
 use Rattle.session_runs.proofs.StepLaws.{session_blank}
-use Rattle.state_laws.specs.Agreement.{Opening}
+use Rattle.session_openings.specs.Agreement.{Opening}
 use Rattle.turn_book.specs.Passes.{BookView}
 
 -- the first lines of a script were given, as many as this, and these are left

@@ -28,7 +28,7 @@ use Rattle.session_openings.specs.Turns.{IsRested, HasPassed, added_by}
 use Rattle.session_openings.specs.Commits.{HasSoundTxn}
 use Rattle.session_openings.specs.Standing.{session_state, transaction_in}
 use Rattle.session_openings.specs.Told.{IsTold}
-use Rattle.state_laws.specs.Agreement.{Opening}
+use Rattle.session_openings.specs.Agreement.{Opening}
 use Rattle.session_openings.specs.Answers.{fixed_by}
 use Rattle.session_openings.specs.Txn.{TxnSeen}
 use Rattle.turn_book.specs.Passes.{BookView, PassView}

@@ -3,7 +3,7 @@ use Rattle.std.specs.Prelude.{◌≡◌, ◌⊎◌, ℕ, ◌+◌, List, [], ◌�
 use Rattle.history.specs.Lines.{Line}
 pub use Rattle.session_openings.specs.Meanings.{asked_line, asked_by}
 use Rattle.session_runs.specs.Session.{SessionSeen, IsSessionOn}
-use Rattle.state_laws.specs.Agreement.{Opening}
+use Rattle.session_openings.specs.Agreement.{Opening}
 use Rattle.turn_book.specs.Passes.{BookView}
 
 -- the session was given the script's lines from the first on: all of them, or up to where memory was wanting

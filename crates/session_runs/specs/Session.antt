@@ -20,7 +20,7 @@ use Rattle.session_openings.specs.Turns.{IsRested}
 use Rattle.session_openings.specs.Commits.{HasSoundTxn}
 use Rattle.session_openings.specs.Standing.{session_state, transaction_in, AreViews}
 use Rattle.session_openings.specs.Told.{IsToldBy}
-use Rattle.state_laws.specs.Agreement.{Opening, TakesMount}
+use Rattle.session_openings.specs.Agreement.{Opening, TakesMount}
 use Rattle.session_openings.specs.Answers.{fixed_by}
 use Rattle.session_openings.specs.Txn.{TxnSeen}
 use Rattle.turn_book.specs.Passes.{BookView, PassView}

@@ -3,7 +3,7 @@ ghost use Rattle.std.specs.Prelude.{◌≡◌, ◌≢◌, ◌⊎◌, Err, IfErr}
 ghost use Rattle.session_openings.specs.declared.Body.TheVariants as printed;
 ghost use Rattle.indexmap.specs.IndexMap.{get_by_text};
 ghost use Rattle.session_openings.specs.Refusals.{refusal_body};
-ghost use Rattle.line_forms.specs.Form.{form_of, IsSound};
+ghost use Rattle.session_openings.specs.Form.{form_of, IsSound};
 ghost use Rattle.session_openings.specs.Meanings.{line_of, line_of_bytes};
 ghost use Rattle.session_runs.specs.Session.{HasMounts, MayGoOn, IsLineTold};
 ghost use Rattle.session_openings.specs.Failures.{TellsFailures};
@@ -13,9 +13,10 @@ use crate::commands::{joined, opened, resized, resolved, shown, viewed, written}
 use cells::Name;
 use history::Mode;
 use kv_face::KvStore;
-use line_forms::{Command, read_command};
 use line_parts::LineError;
-use session_openings::{Body, Gate, Names, State, Txn, abort, begin, commit, refusal};
+use session_openings::{
+    Body, Command, Gate, Names, State, Txn, abort, begin, commit, read_command, refusal,
+};
 use std::alloc::Global;
 use std::sync::Wait;
 use turn_book::{Pass, TurnBook};

@@ -6,7 +6,7 @@ ghost use Rattle.history.specs.Bound.{AreKnownNames};
 ghost use Rattle.history.specs.History.{History};
 ghost use Rattle.history.specs.Lines.{opening, viewing, joining, reading, writing, resizing, resolving};
 ghost use Rattle.indexmap.specs.IndexMap.{get_by_text};
-ghost use Rattle.line_forms.specs.Form.{AreLayers, MayHaveFactors};
+ghost use Rattle.session_openings.specs.Form.{AreLayers, MayHaveFactors};
 ghost use Rattle.session_openings.specs.Changes.{changes_of};
 ghost use Rattle.session_openings.specs.Joins.{join_of};
 ghost use Rattle.session_openings.specs.Numbers.{values_of, downsampling_of};
@@ -25,10 +25,10 @@ ghost use Rattle.session_openings.specs.Txn.{TxnSeen};
 use cells::{List, Name, Sizes};
 use index_transform::Transform;
 use kv_face::KvStore;
-use line_forms::{DownWant, JoinForm, OpenPlan};
 use serde_json::Value;
 use session_openings::{
-    Body, Gate, Names, State, Txn, join, open, read, resize, resolve, view, write,
+    Body, DownWant, Gate, JoinForm, Names, OpenPlan, State, Txn, join, open, read, resize, resolve,
+    view, write,
 };
 use std::alloc::Global;
 use std::sync::Wait;

@@ -8,7 +8,7 @@ ghost use Rattle.indexmap.specs.IndexMap.{get_by_text};
 ghost use Rattle.session_runs.specs.Session.{HasMounts, MayGoOn, IsSessionOn, session_with};
 ghost use Rattle.session_openings.specs.Failures.{TellsFailures};
 ghost use Rattle.session_openings.specs.Turns.{HasPassed, IsRested, added_by};
-ghost use Rattle.state_laws.specs.Agreement.{Opening};
+ghost use Rattle.session_openings.specs.Agreement.{Opening};
 ghost use Rattle.turn_book.specs.Passes.{BookView};
 
 use crate::answering::answered;

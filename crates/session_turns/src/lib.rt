@@ -12,9 +12,9 @@ mod turns;
 pub use asked::Asked;
 pub use cell_faults::fault_body;
 pub use line_acts::{
-    Answer, Body, DownWant, JoinForm, Names, Worded, asked_read, bad_metadata, bound, bound_with,
-    damaged, joined, named, refusal, taken_write, transform_has_few_lists, unknown, values_body,
-    viewed,
+    Answer, Body, Command, DownWant, JoinForm, Names, OpenPlan, Worded, asked_read, bad_metadata,
+    bound, bound_with, damaged, joined, named, read_command, refusal, taken_write,
+    transform_has_few_lists, unknown, values_body, viewed,
 };
 pub use state_resizes::{Bounds, OpenError, Opened, ResizeError};
 pub use transactions::{

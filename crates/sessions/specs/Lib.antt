@@ -29,3 +29,4 @@ pub use Rattle.session_turns.specs.Told
 pub use Rattle.session_turns.specs.Turns
 pub use Rattle.session_turns.specs.Txn
 pub use Rattle.session_turns.specs.TxnTurns
+pub use Rattle.session_turns.specs.Form

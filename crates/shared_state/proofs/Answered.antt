@@ -9,14 +9,14 @@ use Rattle.state_laws.specs.Opening.{Tells}
 use Rattle.state_laws.specs.declared.Decided.{Decided}
 use Rattle.state_laws.specs.declared.OpeningRefusal.{OpeningRefusal}
 use Rattle.state_laws.specs.declared.OpeningRefusal.TheVariants as refusal
-use Rattle.history.specs.History.{History}
-use Rattle.history.specs.Arrays.{Known}
-use Rattle.history.specs.Leaves.{Leaf, nothing, location_of_leaf, metadata_key_asked}
-use Rattle.history.specs.Legal.{is_opening}
-use Rattle.history.specs.Outcomes.{Outcome, exists, mismatch, there, found, made, unless_taken, outcome_at}
-use Rattle.history.specs.Own.{opened_event}
-use Rattle.history.specs.Places.{IsFree, taken, array_at}
-use Rattle.history.proofs.Laws.{none_is_none}
+use Rattle.state_laws.specs.History.{History}
+use Rattle.state_laws.specs.Arrays.{Known}
+use Rattle.state_laws.specs.Leaves.{Leaf, nothing, location_of_leaf, metadata_key_asked}
+use Rattle.state_laws.specs.Legal.{is_opening}
+use Rattle.state_laws.specs.Outcomes.{Outcome, exists, mismatch, there, found, made, unless_taken, outcome_at}
+use Rattle.state_laws.specs.Own.{opened_event}
+use Rattle.state_laws.specs.Places.{IsFree, taken, array_at}
+use Rattle.state_laws.proofs.Laws.{none_is_none}
 use Rattle.state_laws.specs.Seen.{StoreSeen}
 use Rattle.state_laws.specs.Log.{Log}
 use Rattle.state_laws.specs.Fetches.{HasFailed}

@@ -1,7 +1,7 @@
 -- What stays beside an opening.
 use Rattle.std.proofs.Common.{◌≡◌, ℕ, List, Option, Some, None, inl, inr, arith, refl, sym, subst, ◌∙◌}
 use Rattle.std.specs.Prelude.{Result, Ok, Err, OnOk, OnErr, IsSome, IfOk}
-use Rattle.history.specs.declared.array.ArrayInfo.{ArrayInfo}
+use Rattle.state_laws.specs.declared.ArrayInfo.{ArrayInfo}
 use Rattle.state_laws.specs.Seen.{StoreSeen, IsQuiet, IsRead}
 use Rattle.state_laws.specs.declared.opening.Opened.{Opened}
 use Rattle.state_laws.specs.declared.opening.OpenError.{OpenError}

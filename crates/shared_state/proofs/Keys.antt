@@ -2,9 +2,9 @@
 use Rattle.std.proofs.Common.{◌≡◌, ◌≢◌, ℕ, List, None, false}
 use Rattle.std.specs.Option.{option_map}
 use Rattle.state_laws.specs.FormNames.{metadata_name}
-use Rattle.history.specs.declared.array.Home.{Home}
-use Rattle.history.specs.declared.array.Home.TheVariants.{Zarr, N5, Zarr3, Local}
-use Rattle.history.specs.Arrays.{form_of, is_local}
+use Rattle.state_laws.specs.declared.Home.{Home}
+use Rattle.state_laws.specs.declared.Home.TheVariants.{Zarr, N5, Zarr3, Local}
+use Rattle.state_laws.specs.Arrays.{form_of, is_local}
 
 -- a stored array's metadata has a name
 pub named_if_stored : (home : Home) (f : List ℕ → List ℕ) → is_local home ≡ false → option_map f (metadata_name (form_of home)) ≢ None

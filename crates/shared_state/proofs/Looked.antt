@@ -4,12 +4,12 @@ use Rattle.chunk_cache.specs.Cache.{kept}
 use Rattle.chunk_cache.specs.Snapshot.{SnapshotCells}
 use Rattle.state_laws.specs.declared.Damage.{Damage}
 use Rattle.state_laws.specs.declared.Form.{Form}
-use Rattle.history.specs.declared.array.Home.{Home}
-use Rattle.history.specs.declared.array.Home.TheVariants.{Zarr, N5, Zarr3, Local}
-use Rattle.history.specs.Arrays.{Known, known_after, is_local}
-use Rattle.history.specs.Chunks.{Chunk}
-use Rattle.history.specs.ReadRows.{mount_of}
-use Rattle.history.proofs.Laws.{none_is_none}
+use Rattle.state_laws.specs.declared.Home.{Home}
+use Rattle.state_laws.specs.declared.Home.TheVariants.{Zarr, N5, Zarr3, Local}
+use Rattle.state_laws.specs.Arrays.{Known, known_after, is_local}
+use Rattle.state_laws.specs.Chunks.{Chunk}
+use Rattle.state_laws.specs.ReadRows.{mount_of}
+use Rattle.state_laws.proofs.Laws.{none_is_none}
 use Rattle.state_laws.specs.declared.reading.Look.{Look}
 use Rattle.state_laws.specs.declared.reading.Look.TheVariants as look
 use Rattle.state_laws.specs.Seen.{StoreSeen, IsRead}

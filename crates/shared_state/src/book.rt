@@ -3,9 +3,8 @@ ghost use Rattle.std.specs.Prelude.{◌≡◌, ◌<◌, ◌≤◌, ◌^◌, IfOk
 ghost use Rattle.turn_book.specs.Passes.{AreNew};
 
 use crate::state::{State, StateRefused};
-use history::Event;
 use kv_face::KvStore;
-use state_laws::AtStart;
+use state_laws::{AtStart, Event};
 use std::alloc::Global;
 use turn_book::{Book, Pass, TurnBook};
 

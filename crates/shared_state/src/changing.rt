@@ -2,7 +2,7 @@
 ghost use Rattle.std.specs.Prelude.{◌≡◌, ◌≤◌, ◌<◌, ◌+◌, ℕ, length, Some, Err, IfOk, OnOk, OnErr, IsOk, IsSome};
 ghost use Rattle.std.specs.List.{AllByRecursion};
 ghost use Rattle.kv_face.specs.Store.{Contents, OneMore, after};
-ghost use Rattle.history.specs.Arrays.{known_after};
+ghost use Rattle.state_laws.specs.Arrays.{known_after};
 ghost use Rattle.state_laws.specs.Numbers.{IsPrepared, KeepsPrepared};
 ghost use Rattle.state_laws.specs.declared.deed.HeldCells.{HeldCells as HeldCellsOf};
 ghost use Rattle.state_laws.specs.Seen.{IsFrame, IsQuiet};

@@ -2,9 +2,9 @@
 ghost use Rattle.std.specs.Prelude.{◌≡◌, ◌≢◌, ◌<◌, ℕ, List, Option, Some, None, Ok, Err, IfOk, OnOk, OnErr, IsSome, false, true};
 ghost use Rattle.state_laws.specs.declared.Damage.{Damage as DamageOf};
 ghost use Rattle.kv_face.specs.Store.{Contents, takes};
-ghost use Rattle.history.specs.Arrays.{Known, known_after, is_local};
-ghost use Rattle.history.specs.Chunks.{chunk_key};
-ghost use Rattle.history.specs.ReadRows.{mount_of};
+ghost use Rattle.state_laws.specs.Arrays.{Known, known_after, is_local};
+ghost use Rattle.state_laws.specs.Chunks.{chunk_key};
+ghost use Rattle.state_laws.specs.ReadRows.{mount_of};
 ghost use Rattle.state_laws.specs.Seen.{IsRead};
 ghost use Rattle.state_laws.specs.Agreement.{IsState, KeepsAgreement};
 ghost use Rattle.state_laws.specs.Fetches.{IsChunkOf, IsNamed, HasFailed, kept_of, looked_at};

@@ -2,9 +2,9 @@
 ghost use Rattle.std.specs.Prelude.{◌≡◌, ◌≢◌, ◌<◌, ◌^◌, ℕ, length, None, Some, IfSome, IsSome};
 ghost use Rattle.state_laws.specs.Names.{local_key};
 ghost use Rattle.kv_face.specs.Store.{Contents};
-ghost use Rattle.history.specs.Arrays.{Known, known_after};
-ghost use Rattle.history.specs.Chunks.{Chunk};
-ghost use Rattle.history.specs.Generations.{HasKey, IsGenerationOf};
+ghost use Rattle.state_laws.specs.Arrays.{Known, known_after};
+ghost use Rattle.state_laws.specs.Chunks.{Chunk};
+ghost use Rattle.state_laws.specs.Generations.{HasKey, IsGenerationOf};
 ghost use Rattle.state_laws.specs.Agreement.{Opening, Agrees, IsState};
 ghost use Rattle.state_laws.specs.Fetches.{generation_in};
 ghost use Rattle.state_laws.specs.Keyed.{IsKeyIn, IsNobodys};

@@ -1,12 +1,12 @@
 // What is kept of a chunk, and new arrays whose one chunk the run holds.
 ghost use Rattle.std.specs.Prelude.{◌≡◌, Some, None, Ok, IsSome, IfOk, IfSome, OnOk, OnErr, true, string_bytes, ◌≤◌, ◌<◌, ◌+◌, ◌^◌, length, map, max};
-ghost use Rattle.history.specs.Arrays.{Known, known_after, is_local};
-ghost use Rattle.history.specs.Chunks.{chunk_key};
+ghost use Rattle.state_laws.specs.Arrays.{Known, known_after, is_local};
+ghost use Rattle.state_laws.specs.Chunks.{chunk_key};
 ghost use Rattle.state_laws.specs.Log.{cells_held};
 ghost use Rattle.state_laws.specs.Agreement.{IsState, KeepsAgreement};
 ghost use Rattle.state_laws.specs.Fetches.{IsAnswered, IsChunkOf, IsNamed, KeepsSettled, kept_of, looked_at, settled};
 ghost use Rattle.cells.specs.Places.{cell_count};
-ghost use Rattle.history.specs.OpenRows.{next_array, given_info, new_ref};
+ghost use Rattle.state_laws.specs.OpenRows.{next_array, given_info, new_ref};
 ghost use Rattle.state_laws.specs.Placed.{IsGiven, entered};
 
 use crate::state::State;

@@ -16,9 +16,9 @@ mod making;
 mod reshaping;
 mod state;
 
-pub use history::{ArrayInfo, Event, Home, Kind, Mode, Op, Ops};
 pub use state::{State, StateRefused};
 pub use state_laws::{
-    AtStart, Bounds, ChangeError, Commit, Deed, FetchError, Fetched, HeldCells, Look, MetaCause,
-    NewShape, OpenError, Opened, decode, metadata_change,
+    ArrayInfo, AtStart, Bounds, ChangeError, Commit, Deed, Event, FetchError, Fetched, HeldCells,
+    Home, Kind, Look, MetaCause, Mode, NewShape, Op, OpenError, Opened, Ops, decode,
+    metadata_change,
 };

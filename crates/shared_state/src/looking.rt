@@ -1,11 +1,11 @@
 // Chunks and arrays as they are, and whether changes go together.
 ghost use Rattle.std.specs.Prelude.{◌≡◌, ◌↔◌, IsTrue, IsSome, Some, IfOk, false, string_bytes};
 ghost use Rattle.kv_face.specs.Store.{keys_of, are_together};
-ghost use Rattle.history.specs.Arrays.{known_after, Known, form_of, is_local};
-ghost use Rattle.history.specs.Commit.{are_together as are_keys_together};
+ghost use Rattle.state_laws.specs.Arrays.{known_after, Known, form_of, is_local};
+ghost use Rattle.state_laws.specs.Commit.{are_together as are_keys_together};
 ghost use Rattle.state_laws.specs.Agreement.{IsState};
 ghost use Rattle.state_laws.specs.Fetches.{IsChunkOf, bounds_in};
-ghost use Rattle.history.specs.Chunks.{chunk_key, metadata_key};
+ghost use Rattle.state_laws.specs.Chunks.{chunk_key, metadata_key};
 ghost use Rattle.state_laws.specs.Metadata.{with_shape};
 
 use crate::state::State;

@@ -3,7 +3,7 @@ ghost use Rattle.std.specs.Prelude.{◌≡◌, ◌≤◌, ◌<◌, ◌+◌, ℕ,
 ghost use Rattle.std.specs.List.{AllByRecursion};
 ghost use Rattle.state_laws.specs.Metadata.{with_shape};
 ghost use Rattle.kv_face.specs.Store.{Contents, OneMore, after};
-ghost use Rattle.history.specs.Arrays.{Known, known_after, form_of, is_local};
+ghost use Rattle.state_laws.specs.Arrays.{Known, known_after, form_of, is_local};
 ghost use Rattle.state_laws.specs.Numbers.{IsPrepared, KeepsPrepared};
 ghost use Rattle.state_laws.specs.Seen.{IsFrame, IsQuiet};
 ghost use Rattle.state_laws.specs.Agreement.{IsState};

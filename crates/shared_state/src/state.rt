@@ -2,10 +2,9 @@ ghost use Rattle.std.specs.Prelude.{◌≡◌, ◌≤◌, ◌^◌, [], IfOk, IfE
 ghost use Rattle.std.specs.FinMap as finmap;
 ghost use Rattle.state_laws.specs.Agreement.{Agrees};
 
-use history::Event;
 use kv_face::KvStore;
 use locations::Locations;
-use state_laws::Records;
+use state_laws::{Event, Records};
 use std::alloc::{AllocError, Global};
 use std::marker::Model;
 
@@ -22,7 +21,7 @@ impl<K: KvStore> Model for State<K> {
     ghost use Rattle.std.specs.Coded.{codes};
     ghost use Rattle.stack_driver.specs.contracts.view.View as view_type;
     ghost use Rattle.state_laws.specs.Numbers.{generations_code};
-    ghost use Rattle.history.specs.Places.{IsTable};
+    ghost use Rattle.state_laws.specs.Places.{IsTable};
     ghost use Rattle.state_laws.specs.Log.{StateOf, log_of, spare_of};
 
     ghost Value = { StateOf K };

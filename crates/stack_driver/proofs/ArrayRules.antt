@@ -1,7 +1,7 @@
 -- The view of a whole array keeps the rules.
 use Rattle.std.proofs.Common.{◌≡◌, ◌≤◌, ◌∙◌, ℕ, ◌+◌, true, List, [], ◌∷◌, length, map, refl, sym, subst, arith}
 use Rattle.std.proofs.lemmas.List.{length-map}
-use Rattle.cells.specs.Shapes.{IsShape}
+use Rattle.cast_driver.specs.Shapes.{IsShape}
 use Rattle.transform_composition.specs.Bounds.{Bounds}
 use Rattle.transform_composition.specs.Transforms.{DomainAndMaps, IsDomain}
 use Rattle.transform_composition.specs.Identity.{identity_maps, identity_over}

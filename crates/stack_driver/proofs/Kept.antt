@@ -2,7 +2,7 @@
 use Rattle.std.proofs.Common.{◌≡◌, ◌∙◌, ℕ, List, [], ◌∷◌, length, map, Option, Some, None, Result, Ok, Err, refl, sym, ap, subst}
 use Rattle.std.specs.List.{AllByRecursion}
 use Rattle.std.proofs.lemmas.List.{length-map}
-use Rattle.cells.specs.declared.dtype.Dtype.{Dtype}
+use Rattle.cast_driver.specs.declared.Dtype.{Dtype}
 use Rattle.transform_composition.specs.Transforms.{DomainAndMaps}
 use Rattle.transform_composition.specs.Composing.{composed, composed_map, joined, over_tightened, unless_large, unless_passed}
 use Rattle.transform_composition.specs.Tightening.{tighten_answer}

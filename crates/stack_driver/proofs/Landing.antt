@@ -1,8 +1,8 @@
 -- Where a cell of a view lies, by the form of the view.
 use Rattle.std.proofs.Common.{◌≡◌, ◌<◌, ◌∙◌, ℕ, ℤ, false, List, [], ◌∷◌, length, map, get_or, Some, Result, Err, refl, sym, ap}
 use Rattle.std.specs.Prelude.{slice_index_or}
-use Rattle.cells.specs.declared.dtype.Dtype.{Dtype}
-use Rattle.cells.proofs.Laws.{else_from}
+use Rattle.cast_driver.specs.declared.Dtype.{Dtype}
+use Rattle.cast_driver.proofs.Laws.{else_from}
 use Rattle.transform_composition.specs.Bounds.{Bounds}
 use Rattle.transform_composition.specs.Transforms.{DomainAndMaps}
 use Rattle.transform_composition.specs.Values.{value_at}

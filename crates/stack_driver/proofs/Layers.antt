@@ -1,7 +1,7 @@
 -- A stack's layers: each is smaller, and keeps what holds at every node.
 use Rattle.std.proofs.Common.{◌≡◌, ◌<◌, ℕ, List, [], ◌∷◌, length, map, get_or, ap, subst, ◌∙◌, arith, zero, suc}
 use Rattle.std.specs.List.{AllByRecursion}
-use Rattle.cells.specs.declared.dtype.Dtype.{Dtype}
+use Rattle.cast_driver.specs.declared.Dtype.{Dtype}
 use Rattle.transform_composition.specs.Transforms.{DomainAndMaps}
 use Rattle.stack_driver.specs.References.{Reference}
 use denote.Param.Weighed.{at_most}

@@ -1,7 +1,7 @@
 -- Targets of an array under casts.
 use Rattle.std.proofs.Common.{◌≡◌, ◌∙◌, ℕ, List, [], ◌∷◌, ◌++◌, map, Option, Some, None, Result, Ok, Err, refl, sym, ap, subst}
 use Rattle.cast_driver.specs.declared.cast.Cast.{Cast}
-use Rattle.cells.specs.declared.dtype.Dtype.{Dtype}
+use Rattle.cast_driver.specs.declared.Dtype.{Dtype}
 use Rattle.transform_composition.specs.Transforms.{DomainAndMaps}
 use Rattle.transform_composition.specs.Values.{value_at}
 use Rattle.stack_driver.specs.Counts.{Shown, casts_of}

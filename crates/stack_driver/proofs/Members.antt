@@ -7,7 +7,7 @@ use Rattle.transform_composition.specs.Bounds.{Bounds, is_index}
 use Rattle.transform_composition.specs.Transforms.{DomainAndMaps}
 use Rattle.transform_composition.specs.Values.{is_effective, value_at, first_overflow, unless_overflow, unless_outside, numbers_of, at_answer}
 use Rattle.transform_composition.specs.declared.AtError.TheVariants.{OutOfRange, Overflow}
-use Rattle.cells.proofs.Laws.{both, then_from, else_from}
+use Rattle.cast_driver.proofs.Laws.{both, then_from, else_from}
 use Rattle.stack_driver.specs.Targets.{Target, is_member, has_index}
 use Rattle.stack_driver.specs.Views.{Look, look_of, last_target}
 use Rattle.stack_driver.specs.Conditions.{IsLast}

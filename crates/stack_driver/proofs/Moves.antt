@@ -1,6 +1,6 @@
 -- The targets of a view under another own transform.
 use Rattle.std.proofs.Common.{◌≡◌, ◌∙◌, ℤ, List, length, map, Err, sym, ap, subst}
-use Rattle.cells.specs.declared.dtype.Dtype.{Dtype}
+use Rattle.cast_driver.specs.declared.Dtype.{Dtype}
 use Rattle.transform_composition.specs.Bounds.{Bounds}
 use Rattle.transform_composition.specs.Transforms.{DomainAndMaps}
 use Rattle.transform_composition.specs.Values.{value_at}

@@ -2,8 +2,8 @@
 use Rattle.std.proofs.Common.{◌≡◌, ◌∙◌, ℕ, ◌+◌, ◌<◌, ◌==◌, ◌&&◌, ◌||◌, not, cond, nat_lt, Bool, true, false, List, [], ◌∷◌, ◌++◌, length, take, get_or, Option, Some, Result, Ok, Err, map, refl, sym, ap, subst, arith}
 use Rattle.std.proofs.lemmas.List.{take_more, length-take-le}
 use Rattle.std.specs.List.{list_all, list_any, zip}
-use Rattle.cells.specs.declared.dtype.Dtype.{Dtype}
-use Rattle.cells.proofs.Laws.{both, both_true}
+use Rattle.cast_driver.specs.declared.Dtype.{Dtype}
+use Rattle.cast_driver.proofs.Laws.{both, both_true}
 use Rattle.transform_composition.specs.Bounds.{Bounds, is_index}
 use Rattle.transform_composition.specs.Members.{effective_bounds}
 use Rattle.transform_composition.specs.Maps.{is_map, is_fixed, fits_dim, fits, are_entries, size_of}

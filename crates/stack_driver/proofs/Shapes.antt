@@ -4,7 +4,7 @@ use Rattle.std.proofs.lemmas.List.{drop_more, drop_all, map-append}
 use Rattle.std.specs.List.{All}
 use Rattle.std.proofs.lemmas.Int.{ints}
 use Rattle.std.proofs.lemmas.Bool.Decides.{nat_tests}
-use Rattle.cells.proofs.Laws.{then_from, else_from}
+use Rattle.cast_driver.proofs.Laws.{then_from, else_from}
 use Rattle.stack_driver.specs.Targets.{before, in_dim, in_shape, IsOutside}
 use Rattle.stack_driver.specs.declared.error.TargetError.TheVariants.{OutOfRange}
 

@@ -8,14 +8,14 @@ use Rattle.transform_composition.specs.Around.{around_all}
 use Rattle.std.proofs.lemmas.List.{take_more, length-take-le}
 use Rattle.std.specs.Str.{bytes_eq}
 use Rattle.std.proofs.lemmas.Slice.Eq.{bytes_eq-Decides}
-use Rattle.cells.specs.DtypeNames.{dtype_name, dtype_named}
-use Rattle.cells.specs.declared.dtype.Dtype.{Dtype}
+use Rattle.cast_driver.specs.DtypeNames.{dtype_name, dtype_named}
+use Rattle.cast_driver.specs.declared.Dtype.{Dtype}
 use Rattle.transform_composition.proofs.Laws.{list_all-position_from}
 use Rattle.stack_driver.specs.Conditions.{HasKind, AreLayers}
 use Rattle.stack_driver.specs.Views.{look_of}
 use Rattle.transform_composition.specs.Maps.{are_labels}
 use Rattle.transform_composition.specs.Transforms.{DomainAndMaps, IsDomain, IsTransform}
-use Rattle.cells.proofs.Laws.{both, both_false, dtype_named-dtype_name}
+use Rattle.cast_driver.proofs.Laws.{both, both_false, dtype_named-dtype_name}
 use Rattle.stack_driver.specs.Stacks.{column, stacked_dims, has_label, stacked_labels, stacked_domain, is_like, first_unlike}
 use Rattle.stack_driver.specs.declared.view.View.{View}
 

@@ -3,7 +3,7 @@ use Rattle.std.specs.Prelude.{◌≡◌, ◌<◌, ◌≤◌, ℕ, ℤ, true, len
 use Rattle.stack_driver.specs.Targets.{Target, has_index}
 use Rattle.stack_driver.specs.declared.error.TargetError.{TargetError}
 use Rattle.std.specs.List.{AllByRecursion}
-use Rattle.cells.specs.declared.dtype.Dtype.{Dtype}
+use Rattle.cast_driver.specs.declared.Dtype.{Dtype}
 use Rattle.stack_driver.specs.Views.{look_of, last_target}
 use Rattle.stack_driver.specs.declared.view.View.{View, every-View}
 use Rattle.stack_driver.specs.declared.view.View.TheOpen.{View-F}

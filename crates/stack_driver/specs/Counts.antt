@@ -1,8 +1,8 @@
 -- A view's casts, how many leaves it has, and how deep it is nested.
 use Rattle.std.specs.Prelude.{ℕ, ◌+◌, max, List, [], ◌∷◌, ◌++◌}
 use Rattle.cast_driver.specs.declared.cast.Cast.{Cast}
-use Rattle.cells.specs.declared.dtype.Dtype.{Dtype}
-use Rattle.cells.specs.declared.dtype.Dtype.TheVariants.{I32}
+use Rattle.cast_driver.specs.declared.Dtype.{Dtype}
+use Rattle.cast_driver.specs.declared.Dtype.TheVariants.{I32}
 use Rattle.stack_driver.specs.declared.view.View.{View, fold-View}
 use Rattle.stack_driver.specs.declared.view.View.TheOpen.{View-F}
 

@@ -1,7 +1,7 @@
 -- How a view names the array whose cells it shows.
 use Rattle.std.specs.Prelude.{◌≡◌, ℕ, List, length, map, max, Bool, IsTrue}
-use Rattle.cells.specs.Shapes.{IsShape, IsChunkShape}
-use Rattle.cells.specs.declared.dtype.Dtype.{Dtype}
+use Rattle.cast_driver.specs.Shapes.{IsShape, IsChunkShape}
+use Rattle.cast_driver.specs.declared.Dtype.{Dtype}
 
 -- what a contract sees of a reference: the array's number, its dtype, its shape as the view knows it, the shape of its chunks,
 -- and whether the run holds it and no store

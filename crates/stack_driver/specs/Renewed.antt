@@ -1,8 +1,8 @@
 -- A view with the bounds that its array has when it takes a new shape.
 use Rattle.std.specs.Prelude.{◌≡◌, ℕ, ◌+◌, ◌==◌, Bool, false, if◌then◌else◌, IsTrue, List, [], ◌∷◌, length, Option, Some, None, Result, Ok, Err}
 use Rattle.std.specs.List.{list_any}
-use Rattle.cells.specs.Shapes.{IsShape}
-use Rattle.cells.specs.declared.dtype.Dtype.{Dtype}
+use Rattle.cast_driver.specs.Shapes.{IsShape}
+use Rattle.cast_driver.specs.declared.Dtype.{Dtype}
 use Rattle.transform_composition.specs.Bounds.{Bounds}
 use Rattle.transform_composition.specs.Members.{effective_bounds}
 use Rattle.transform_composition.specs.Transforms.{DomainAndMaps, on_dims}

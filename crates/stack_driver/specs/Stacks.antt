@@ -2,7 +2,7 @@
 use Rattle.std.specs.Prelude.{ℕ, ◌+◌, ◌==◌, not, ◌&&◌, Bool, List, [], ◌∷◌, length, map, slice_index_or, Option, Some, None, Result, Ok, Err, if◌then◌else◌, ◌≡◌, ℤ}
 use Rattle.std.specs.List.{list_all, position_from}
 use Rattle.std.specs.Str.{bytes_eq}
-use Rattle.cells.specs.DtypeNames.{dtype_name}
+use Rattle.cast_driver.specs.DtypeNames.{dtype_name}
 use Rattle.transform_composition.specs.Bounds.{Bounds}
 use Rattle.transform_composition.specs.Around.{around_all}
 use Rattle.transform_composition.specs.Identity.{identity_over}

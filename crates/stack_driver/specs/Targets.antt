@@ -3,7 +3,7 @@ use Rattle.std.specs.Prelude.{◌≡◌, ℕ, ◌+◌, nat_lt, ℤ, pos, negsuc,
 use Rattle.std.specs.Str.{bytes_eq}
 use Rattle.cast_driver.specs.declared.cast.Cast.{Cast}
 use Rattle.cast_driver.specs.Chain.{BeginsWith, dtype_after, word_out, word_back}
-use Rattle.cells.specs.declared.dtype.Dtype.{Dtype}
+use Rattle.cast_driver.specs.declared.Dtype.{Dtype}
 use Rattle.transform_composition.specs.Bounds.{Bounds, is_index}
 use Rattle.stack_driver.specs.declared.error.TargetError.{TargetError}
 use Rattle.stack_driver.specs.declared.error.TargetError.TheVariants.{OutOfRange}

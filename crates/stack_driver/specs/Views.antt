@@ -1,7 +1,7 @@
 -- A view from outside: its domain, its dtype, and the target of each of its cells.
 use Rattle.std.specs.Prelude.{ℕ, ℤ, List, [], ◌∷◌, ◌++◌, map, Result, Ok, Err, if◌then◌else◌}
-use Rattle.cells.specs.declared.dtype.Dtype.{Dtype}
-use Rattle.cells.specs.declared.dtype.Dtype.TheVariants.{I32}
+use Rattle.cast_driver.specs.declared.Dtype.{Dtype}
+use Rattle.cast_driver.specs.declared.Dtype.TheVariants.{I32}
 use Rattle.cast_driver.specs.declared.cast.Cast.{Cast}
 use Rattle.transform_composition.specs.Bounds.{Bounds}
 use Rattle.transform_composition.specs.Transforms.{DomainAndMaps}

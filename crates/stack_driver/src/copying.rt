@@ -3,7 +3,7 @@ ghost use Rattle.stack_driver.specs.declared.view.View.TheVariants as view;
 
 use crate::reference::ArrayRef;
 use crate::view::View;
-use cells::{Boxed, Dtype, List, Sizes};
+use cast_driver::{Boxed, Dtype, List, Sizes};
 use std::alloc::{AllocError, Global};
 use transform_composition::Transform;
 

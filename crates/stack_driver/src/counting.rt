@@ -6,8 +6,7 @@ ghost use Rattle.stack_driver.specs.Views.{look_of};
 
 use crate::look::dtype;
 use crate::view::View;
-use cast_driver::{Cast, Chain};
-use cells::Dtype;
+use cast_driver::{Cast, Chain, Dtype};
 use std::alloc::{AllocError, Global};
 
 /// The casts of a view down to a leaf or a stack, the one next to it first. Those of a leaf are empty.

@@ -5,7 +5,7 @@ ghost use Rattle.stack_driver.specs.Views.{look_of, own_transform};
 
 use crate::reference::ArrayRef;
 use crate::view::View;
-use cells::Dtype;
+use cast_driver::Dtype;
 use transform_composition::Transform;
 
 /// The dtype that a view shows; that of a stack is its first layer's.

@@ -1,5 +1,4 @@
-use cast_driver::Chain;
-use cells::Index;
+use cast_driver::{Chain, Index};
 use std::marker::Model;
 
 /// The array in which a cell of a view lies, its index vector there, and the casts between, the one next to the array

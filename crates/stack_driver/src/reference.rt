@@ -1,4 +1,4 @@
-use cells::{Dtype, Sizes};
+use cast_driver::{Dtype, Sizes};
 use std::marker::Model;
 
 /// An array as a view names it.

@@ -15,7 +15,7 @@ use crate::error::RenewError;
 use crate::reference::ArrayRef;
 use crate::view::View;
 use crate::wholes::array_domain;
-use cells::Sizes;
+use cast_driver::Sizes;
 use std::alloc::{AllocError, Global};
 use transform_composition::{ComposeError, Interval, OutMap, Transform, look_at_all, tighten};
 

@@ -11,7 +11,7 @@ ghost use Rattle.stack_driver.specs.declared.error.StackError.{StackError};
 use crate::error::StackError;
 use crate::look::{dtype, transform_of};
 use crate::view::View;
-use cells::{List, Name};
+use cast_driver::{List, Name};
 use std::alloc::{AllocError, Global};
 use transform_composition::{Domain, Interval, Transform, around_all};
 

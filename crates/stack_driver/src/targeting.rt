@@ -1,7 +1,7 @@
 // Where a cell of a view lies.
 ghost use Rattle.std.specs.Prelude.{◌≡◌, ◌≢◌, ◌≤ℤ◌, ◌++◌, ◌∷◌, [], pos, false, None, Some, List, map, length, unsigned_abs, IsTrue, IfOk, IfErr, IfSome, IfNone, Ok, Err};
 ghost use Rattle.std.specs.List.{All, list_all, zip};
-ghost use Rattle.cells.specs.Shapes.{IsShape};
+ghost use Rattle.cast_driver.specs.Shapes.{IsShape};
 ghost use Rattle.transform_composition.specs.Bounds.{Bounds};
 ghost use Rattle.transform_composition.specs.Values.{value_at};
 ghost use Rattle.stack_driver.specs.Targets.{LeadTo, in_shape, IsOutside, is_member, has_index};
@@ -13,8 +13,7 @@ use crate::look::{dtype, transform_of};
 use crate::place::Target;
 use crate::reference::ArrayRef;
 use crate::view::View;
-use cast_driver::{Cast, Chain};
-use cells::{Dtype, Index};
+use cast_driver::{Cast, Chain, Dtype, Index};
 use std::alloc::{AllocError, Global};
 use transform_composition::{AtError, Interval, Transform, is_index};
 

@@ -1,5 +1,5 @@
 use crate::reference::ArrayRef;
-use cells::{Boxed, Dtype, List};
+use cast_driver::{Boxed, Dtype, List};
 use transform_composition::Transform;
 
 /// An array seen through a transform, a cast of a view, or a stack of views under a transform.

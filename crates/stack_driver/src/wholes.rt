@@ -1,13 +1,13 @@
 // The view of a whole array.
 ghost use Rattle.std.specs.Prelude.{◌≡◌, ◌≤◌, ◌-◌, ◌^◌, map, IfOk, [], length};
-ghost use Rattle.cells.specs.Shapes.{IsShape};
+ghost use Rattle.cast_driver.specs.Shapes.{IsShape};
 ghost use Rattle.transform_composition.specs.Transforms.{IsDomain};
 ghost use Rattle.stack_driver.specs.Conditions.{IsView};
 ghost use Rattle.stack_driver.specs.Arrays.{array_dim, array_domain, whole_view};
 
 use crate::reference::ArrayRef;
 use crate::view::View;
-use cells::{List, Name};
+use cast_driver::{List, Name};
 use std::alloc::{AllocError, Global};
 use transform_composition::{Domain, Interval, Transform};
 

@@ -56,3 +56,5 @@ pub use Rattle.state_laws.proofs.Outline.{known-outline, good_in}
 pub use Rattle.state_laws.proofs.OneCall.{together-keys}
 -- laws of crates below, given on to those above
 pub use Rattle.array_homes.proofs.Laws.{taken_shape}
+pub use Rattle.array_homes.proofs.Laws.{known_reference, known_shaped}
+pub use Rattle.history.proofs.Laws.{generation_by_table, none_is_none, not_taken_by_table, some_inj, table_none, table_opened, taken_by_table}

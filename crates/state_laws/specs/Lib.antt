@@ -20,3 +20,15 @@ pub use Rattle.array_homes.specs.Opening
 pub use Rattle.history.specs.Metadata
 pub use Rattle.history.specs.Names as FormNames
 pub use Rattle.history.specs.Wants
+pub use Rattle.history.specs.Arrays
+pub use Rattle.history.specs.Chunks
+pub use Rattle.history.specs.Commit
+pub use Rattle.history.specs.Generations
+pub use Rattle.history.specs.History
+pub use Rattle.history.specs.Leaves
+pub use Rattle.history.specs.Legal
+pub use Rattle.history.specs.OpenRows
+pub use Rattle.history.specs.Outcomes
+pub use Rattle.history.specs.Own
+pub use Rattle.history.specs.Places
+pub use Rattle.history.specs.ReadRows

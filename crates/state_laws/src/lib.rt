@@ -27,8 +27,8 @@ mod writing;
 
 pub use applying::{apply, apply_owned, together};
 pub use array_homes::{
-    Decided, MetaCause, OpeningRefusal, array_ref, chunk_key, decode, is_chunk_name, is_local,
-    local_number, metadata_change, metadata_key, mount_of,
+    Decided, MetaCause, OpeningRefusal, array_ref, chunk_key, decode, form_of, given_info,
+    is_chunk_name, is_local, local_number, metadata_change, metadata_key, mount_of, new_info,
 };
 pub use arrival::NewArray;
 pub use at_start::AtStart;
@@ -37,7 +37,9 @@ pub use deciding::{decided, refused};
 pub use deed::{ChangeError, Deed, HeldCells, NewShape};
 pub use entering::{add_given, add_new, enter_commit, enter_shape, prepare_all};
 pub use error::{FetchError, GetError};
-pub use history::{Damage, Form, FormError, Want, mismatch};
+pub use history::{
+    ArrayInfo, Damage, Event, Form, FormError, Home, Kind, Mode, Op, Ops, Want, mismatch,
+};
 pub use index::is_index_of;
 pub use key_names::{local_at, name_in};
 pub use making::{given_array, new_array};

@@ -13,9 +13,9 @@ use Rattle.line_acts.specs.Refusals.{refusal_body, form_error, spec_form, spec_b
 use Rattle.line_acts.specs.declared.Body.{Body}
 use Rattle.line_acts.specs.declared.Body.TheVariants as body
 use Rattle.line_acts.proofs.Laws.{refusal_told}
-use Rattle.spec_open.specs.declared.OpenPlan.{OpenPlan}
-use Rattle.spec_open.specs.declared.SpecError.{SpecError}
-use Rattle.spec_open.specs.declared.SpecError.TheVariants as spec
+use Rattle.stated_arrays.specs.declared.OpenPlan.{OpenPlan}
+use Rattle.stated_arrays.specs.declared.SpecError.{SpecError}
+use Rattle.stated_arrays.specs.declared.SpecError.TheVariants as spec
 use Rattle.stack_driver.specs.declared.view.View.{View}
 use Rattle.stated_arrays.specs.CommandLines.{command_of_line}
 use Rattle.stated_arrays.specs.declared.Command.{Command}

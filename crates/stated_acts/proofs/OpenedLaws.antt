@@ -10,10 +10,10 @@ use Rattle.history.specs.Lines.{SpecLeaf, given, stored}
 use Rattle.history.specs.OpenRows.{next_array}
 use Rattle.history.specs.Places.{array_at}
 use Rattle.line_acts.specs.Openings.{leaf_of, leaves_from, leaves_of, build_of}
-use Rattle.spec_open.specs.declared.OpenPlan.{OpenPlan}
-use Rattle.spec_open.specs.declared.SpecLeaf as spec
-use Rattle.spec_open.specs.declared.SpecLeaf.TheVariants.{Zarr, N5, Zarr3, Given}
-use Rattle.spec_open.specs.declared.Tree.{Tree}
+use Rattle.stated_arrays.specs.declared.OpenPlan.{OpenPlan}
+use Rattle.stated_arrays.specs.declared.SpecLeaf as spec
+use Rattle.stated_arrays.specs.declared.SpecLeaf.TheVariants.{Zarr, N5, Zarr3, Given}
+use Rattle.stated_arrays.specs.declared.Tree.{Tree}
 use Rattle.stack_driver.specs.References.{Reference}
 use Rattle.stated_arrays.specs.Lines.{bare}
 use Rattle.stated_arrays.specs.Outline.{outline, outlined_event}

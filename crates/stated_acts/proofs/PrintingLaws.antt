@@ -9,7 +9,7 @@ use Rattle.history.specs.History.{History}
 use Rattle.history.specs.Own.{Numbered, numbers_of}
 use Rattle.history.specs.Steps.{write_alone}
 use Rattle.line_acts.specs.Openings.{leaves_of}
-use Rattle.spec_open.specs.declared.OpenPlan.{OpenPlan}
+use Rattle.stated_arrays.specs.declared.OpenPlan.{OpenPlan}
 use Rattle.stack_driver.specs.declared.view.View.{View}
 use Rattle.stated_arrays.specs.AnswerNumbers.{PrintsNumbers}
 use Rattle.stated_arrays.specs.Claimed.{opening_of, stated_asked, faults_at, commits_at}

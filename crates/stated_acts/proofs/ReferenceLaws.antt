@@ -5,8 +5,8 @@ use Rattle.std.specs.List.{slice_get}
 use Rattle.std.specs.FinMap as finmap
 use Rattle.cells.specs.Shapes.{IsShape, IsChunkShape}
 use Rattle.locations.specs.Paths.{Located}
-use Rattle.state_laws.specs.Homes.{reference_of}
-use Rattle.state_laws.proofs.Laws.{reference_given, there_of}
+use Rattle.stated_arrays.specs.Homes.{reference_of}
+use Rattle.stated_arrays.proofs.Laws.{reference_given, there_of}
 use Rattle.history.specs.declared.array.ArrayInfo.{ArrayInfo}
 use Rattle.history.specs.declared.event.Event.{Event}
 use Rattle.history.specs.declared.Form.{Form}
@@ -23,9 +23,9 @@ use Rattle.history.specs.Outcomes.{home_of, new_info}
 use Rattle.history.specs.Places.{array_at}
 use Rattle.history.proofs.Laws.{legal_take, opened_then, opened_as, some_inj}
 use Rattle.line_acts.specs.Openings.{leaf_of}
-use Rattle.spec_open.specs.Leaves.{IsSoundLeaf}
-use Rattle.spec_open.specs.declared.SpecLeaf as spec
-use Rattle.spec_open.specs.declared.SpecLeaf.TheVariants.{Zarr, N5, Zarr3, Given}
+use Rattle.stated_arrays.specs.Leaves.{IsSoundLeaf}
+use Rattle.stated_arrays.specs.declared.SpecLeaf as spec
+use Rattle.stated_arrays.specs.declared.SpecLeaf.TheVariants.{Zarr, N5, Zarr3, Given}
 use Rattle.stack_driver.specs.References.{IsReference}
 use Rattle.stated_arrays.specs.Outcomes.{AreKeptOf, IsOpenedAt, IsArrayAt}
 use Rattle.stated_arrays.specs.Takings.{before, taking, made_info, ref_of_leaf}

@@ -18,7 +18,7 @@ use Rattle.line_acts.specs.Bound.{AreViews}
 use Rattle.line_acts.specs.declared.Body.{Body}
 use Rattle.line_acts.specs.declared.Body.TheVariants as body
 use Rattle.line_acts.proofs.Laws.{kept_bound}
-use Rattle.spec_open.specs.declared.OpenPlan.{OpenPlan}
+use Rattle.stated_arrays.specs.declared.OpenPlan.{OpenPlan}
 use Rattle.stack_driver.specs.Conditions.{IsView}
 use Rattle.stack_driver.specs.declared.view.View.{View}
 use Rattle.stated_arrays.specs.AnswerNumbers.{PrintsNumbers}

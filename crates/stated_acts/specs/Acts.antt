@@ -14,7 +14,7 @@ use Rattle.stack_driver.specs.Conditions.{IsView}
 use Rattle.stack_driver.specs.Views.{look_of}
 use Rattle.stack_driver.specs.declared.view.View.{View}
 use Rattle.line_acts.specs.Openings as meant
-use Rattle.spec_open.specs.Conditions.{IsSoundPlan}
+use Rattle.stated_arrays.specs.Conditions.{IsSoundPlan}
 use Rattle.stated_arrays.specs.Standings.{Standing}
 use Rattle.stated_arrays.specs.Transcript.{mount}
 use Rattle.stated_acts.specs.declared.acts.Act.{Act}

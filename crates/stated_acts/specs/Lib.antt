@@ -24,3 +24,11 @@ pub use Rattle.line_acts.specs.Bound
 pub use Rattle.script_lines.specs.Script
 pub use Rattle.stated_arrays.specs.Standings as ToldStandings
 pub use Rattle.line_acts.specs.Openings as SpecOpenings
+pub use Rattle.stated_arrays.specs.Built
+pub use Rattle.stated_arrays.specs.Conditions
+pub use Rattle.stated_arrays.specs.Leaves
+pub use Rattle.stated_arrays.specs.Homes
+pub use Rattle.stated_arrays.specs.Asked
+pub use Rattle.stated_arrays.specs.Lines
+pub use Rattle.stated_arrays.specs.Still
+pub use Rattle.stated_arrays.specs.StatedCommits

@@ -14,8 +14,12 @@ mod standing;
 mod told_words;
 
 pub use acts::{Act, act_of};
+pub use line_acts::{Answer, Body, values_body, viewed_body};
 pub use opened_views::view_opened;
 pub use printing::may_print;
-pub use spec_open::{OpenPlan, SpecLeaf, Tree};
 pub use standing::{Ongoing, Standing};
-pub use stated_arrays::{Openings, Said, bytes_of};
+pub use stated_arrays::{
+    Asked, BuildCause, BuildError, LeafOutcome, OpenPlan, Openings, Said, SpecLeaf, Tree, Wanted,
+    array_opened, array_ref, build, bytes_of, joined, outcome_after, place_next, wanted_by,
+};
+pub use told_words::words_told;

@@ -1,14 +1,14 @@
 // The views that open lines bind.
 ghost use Rattle.std.specs.Prelude.{◌≡◌, ◌∷◌, ◌++◌, [], None, Some, IfOk, length, map, option_map};
 ghost use Rattle.std.specs.List.{AllByRecursion};
-ghost use Rattle.state_laws.specs.Homes.{reference_of};
+ghost use Rattle.stated_arrays.specs.Homes.{reference_of};
 ghost use Rattle.history.specs.History.{History};
 ghost use Rattle.history.specs.Arrays.{ref_of};
 ghost use Rattle.history.specs.Places as place;
 ghost use Rattle.history.specs.declared.array.ArrayInfo.{ArrayInfo as InfoOf};
 ghost use Rattle.line_acts.specs.Openings.{leaf_of, leaves_of, build_of};
-ghost use Rattle.spec_open.specs.Leaves.{IsSoundLeaf};
-ghost use Rattle.spec_open.specs.Conditions.{IsSoundPlan, IsTree};
+ghost use Rattle.stated_arrays.specs.Leaves.{IsSoundLeaf};
+ghost use Rattle.stated_arrays.specs.Conditions.{IsSoundPlan, IsTree};
 ghost use Rattle.stack_driver.specs.Conditions.{IsView};
 ghost use Rattle.stack_driver.specs.References.{IsReference};
 ghost use Rattle.stack_driver.specs.declared.view.View.{View as ViewOf};
@@ -23,10 +23,10 @@ ghost use Rattle.stated_arrays.specs.Transcript.{mount};
 use cells::Name;
 use history::{ArrayInfo, ArrayRef, Event};
 use locations::Locations;
-use spec_open::{BuildError, build};
 use stack_driver::View;
-use state_laws::array_ref;
-use stated_arrays::{OpenPlan, Openings, SpecLeaf, array_at, array_opened};
+use stated_arrays::{
+    BuildError, OpenPlan, Openings, SpecLeaf, array_at, array_opened, array_ref, build,
+};
 use std::alloc::{AllocError, Global};
 
 /// The view that an open line of a plan binds over the arrays of its leaves, if there is one. Each leaf takes a number

@@ -17,12 +17,14 @@ use serde_json::Value;
 use stack_driver::{View, dtype, transform_of};
 use std::alloc::{AllocError, Global};
 
-/// The words that values give to the cells of a view, one after another: lists that are nested as its shape says.
-/// Values that are no such lists give none.
+/// The words that values give to the cells of a view, one after another: lists that are nested as its shape says, in
+/// row-major order. Values that are no such lists give none.
+///
+/// The view's cells are few enough to be counted, as those of each view are that a transcript has opened.
 ///
 /// # Errors
 /// An allocation failed.
-pub(crate) fn words_told(alloc: Global, v: &View, values: &Value) -> Result<Words, AllocError>
+pub fn words_told(alloc: Global, v: &View, values: &Value) -> Result<Words, AllocError>
     requires { count_answer (look_of v.now).dims ≡ Ok (length (cells_of (look_of v.now).dims)) }
     ensures { IfOk result (λ words. words
         ≡ words_given (nested_words (look_of v.now).dtype (sizes_of v.now) (data_in values.now))) }

@@ -20,8 +20,8 @@ use Rattle.transcript_cut.proofs.Laws.{free_of, places_apart}
 use Rattle.stated_arrays.specs.Outcomes.{IsStill, AreStill, AreKeptOf, IsOpenedAt, IsOpenedAs, IsArrayAt, IsToldAs, placed_by}
 use Rattle.stated_arrays.specs.declared.outcomes.LeafOutcome.{LeafOutcome}
 use Rattle.stated_arrays.proofs.TableLaws.{outline_legal}
-use Rattle.array_homes.specs.Homes.{MayHaveShape}
-use Rattle.array_homes.proofs.Laws.{known_shaped}
+use Rattle.transcript_cut.specs.Homes.{MayHaveShape}
+use Rattle.transcript_cut.proofs.Laws.{known_shaped}
 use Rattle.chunk_forms.specs.Metadata.{with_shape}
 use Rattle.chunk_forms.specs.Wants.{mismatch_of}
 use Rattle.chunk_forms.specs.declared.form.Form.{Form}
@@ -53,7 +53,7 @@ item_front (y ∷ xs) ys zero x is = is
 item_front (y ∷ xs) ys (suc n) x is = item_front xs ys n x is
 
 -- an array was opened by an event, and has the shape that it had then
-record IsKnownBy (h : History) (k : Known) : Type 0 where
+pub record IsKnownBy (h : History) (k : Known) : Type 0 where
   pub at : ℕ
   pub event : Event
   pub number : k.opened ≡ at + 1
@@ -61,7 +61,7 @@ record IsKnownBy (h : History) (k : Known) : Type 0 where
   pub kind : event.kind ≡ Opened k.info
   pub shape : k.shape ≡ k.info.shape
 
-known_by : (a : ℕ) (h : History) → AreStill h → (k : Known) → known_after h a ≡ Some k → IsKnownBy h k
+pub known_by : (a : ℕ) (h : History) → AreStill h → (k : Known) → known_after h a ≡ Some k → IsKnownBy h k
 known_by a =
     each_history (λ h. AreStill h → (k : Known) → known_after h a ≡ Some k → IsKnownBy h k) (λ still k is. absurd (no_array a k is))
     (λ h e before still k is.

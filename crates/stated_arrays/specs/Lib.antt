@@ -22,3 +22,8 @@ pub use Rattle.transcript_cut.specs.Takings
 pub use Rattle.transcript_cut.specs.ToldNumbers
 pub use Rattle.transcript_cut.specs.Transcript
 pub use Rattle.transcript_cut.specs.Unchecked
+pub use Rattle.transcript_cut.specs.Homes
+pub use Rattle.transcript_cut.specs.Conditions
+pub use Rattle.transcript_cut.specs.Leaves
+pub use Rattle.transcript_cut.specs.Built
+pub use Rattle.transcript_cut.specs.StatedCommits

@@ -16,12 +16,11 @@ ghost use Rattle.stated_arrays.specs.Asked.{wanted_leaf, location_asked, leaf_as
 ghost use Rattle.stated_arrays.specs.Served.{AreArraysOf, IsServed, HasOpened, undone};
 
 use crate::asked::{Asked, Wanted, location_of, made_form, wanted_by};
-use array_homes::{given_info, new_info};
 use cells::{Dense, Name};
 use history::{ArrayInfo, Event, Form, Kind};
 use locations::{Found, Locations};
 use std::alloc::{AllocError, Global};
-use transcript_cut::SpecLeaf;
+use transcript_cut::{SpecLeaf, given_info, new_info};
 
 /// The events so far, for each array the number of the event that opened it, and where arrays lie.
 #[derive(Drop)]

@@ -19,6 +19,7 @@ pub use asked::{Asked, Wanted, wanted_by};
 pub use openings::{Openings, state_openings};
 pub use outcomes::{LeafOutcome, array_at, array_opened, outcome_after, place_next};
 pub use transcript_cut::{
-    AskedLine, Command, Cutting, EventNumbers, LineError, OpenPlan, Said, SpecLeaf, Tree, cut,
-    first_unchecked, number_events, read_command,
+    AskedLine, BuildCause, BuildError, Command, Cutting, EventNumbers, LineError, OpenPlan, Said,
+    SpecError, SpecLeaf, Tree, array_ref, build, cut, first_unchecked, joined, number_events,
+    read_command,
 };

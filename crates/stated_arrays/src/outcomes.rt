@@ -2,7 +2,7 @@
 ghost use Rattle.std.specs.Prelude.{◌≡◌, Some, ◌++◌, ◌∷◌, [], ℕ, IfOk, OnOk, option_map};
 ghost use Rattle.std.specs.FinMap as finmap;
 ghost use Rattle.std.specs.List.{slice_get};
-ghost use Rattle.array_homes.specs.Homes.{MayHaveShape};
+ghost use Rattle.transcript_cut.specs.Homes.{MayHaveShape};
 ghost use Rattle.chunk_forms.specs.Wants.{mismatch_of};
 ghost use Rattle.history.specs.Arrays.{Known, known_after};
 ghost use Rattle.history.specs.History.{History};
@@ -14,11 +14,11 @@ ghost use Rattle.stated_arrays.specs.Asked.{leaf_asked};
 ghost use Rattle.stated_arrays.specs.Outcomes.{IsStill, AreKeptOf, IsOpenedAt, IsOpenedAs, IsArrayAt, IsToldAs, placed_by};
 
 use crate::asked::{Asked, location_of};
-use array_homes::form_of;
 use cells::Name;
 use history::{ArrayInfo, Event, Form, Home, Kind, MadeError, Member, Want, made, mismatch};
 use locations::{Found, Locations};
 use std::alloc::{AllocError, Global};
+use transcript_cut::form_of;
 
 /// What opening a leaf gives.
 #[derive(Debug, Drop)]

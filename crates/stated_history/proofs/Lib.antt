@@ -1,6 +1,7 @@
-mod WalkLaws
-mod OpenLines
-mod LineLaws
-mod SourceLaws
-mod PutLaws
-mod StatedLaws
+pub mod WalkLaws
+pub mod OpenLines
+pub mod LineLaws
+pub mod SourceLaws
+pub mod PutLaws
+pub mod StatedLaws
+pub mod Laws

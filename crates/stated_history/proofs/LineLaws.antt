@@ -34,12 +34,12 @@ got_low [] k low = absurd (omega (arith, low))
 got_low (x ∷ xs) zero low = (x, refl)
 got_low (x ∷ xs) (suc k) low = got_low xs k (omega (arith, low))
 
-each_at : {A : Type 0} (P : A → Type 0) (xs : List A) (k : ℕ) (x : A) → AllByRecursion P xs → slice_get xs k ≡ Some x → P x
+pub each_at : {A : Type 0} (P : A → Type 0) (xs : List A) (k : ℕ) (x : A) → AllByRecursion P xs → slice_get xs k ≡ Some x → P x
 each_at P [] k x all is = absurd (cc)
 each_at P (y ∷ xs) zero x all is = let same : y ≡ x = cc in subst P same all.0
 each_at P (y ∷ xs) (suc k) x all is = each_at P xs k x all.1 is
 
-map_got : {A B : Type 0} (f : A → B) (xs : List A) (k : ℕ) (x : A) → slice_get xs k ≡ Some x → slice_get (map f xs) k ≡ Some (f x)
+pub map_got : {A B : Type 0} (f : A → B) (xs : List A) (k : ℕ) (x : A) → slice_get xs k ≡ Some x → slice_get (map f xs) k ≡ Some (f x)
 map_got f [] k x is = absurd (cc)
 map_got f (y ∷ xs) zero x is = let same : y ≡ x = cc in ap (λ z. Some (f z)) same
 map_got f (y ∷ xs) (suc k) x is = map_got f xs k x is

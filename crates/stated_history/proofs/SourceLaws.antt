@@ -28,7 +28,7 @@ use Rattle.stated_acts.specs.ToldNumbers.{opened_in, done_in, numbers_in, told_o
 use Rattle.stated_acts.specs.Transcript.{Told, asked_by, lines_of_scripts}
 use Rattle.stated_acts.specs.Unchecked.{is_unchecked}
 use Rattle.stated_acts.specs.declared.Said.{Said}
-use Rattle.transcript_laws.proofs.Stances.{standing_stance}
+use Rattle.stated_acts.proofs.Laws.{standing_stance}
 use Rattle.stated_acts.specs.Acts.{IsActAt, IsActBy}
 use Rattle.stated_acts.specs.OpenedViews.{paired, AreGiven}
 use Rattle.stated_acts.specs.Printing.{OpensAll}
@@ -46,12 +46,12 @@ use Rattle.stated_history.proofs.OpenLines.{leaves_opened}
 use Rattle.stated_acts.proofs.Laws.{pairs_of}
 use Rattle.stated_acts.proofs.Laws.{outlined_given}
 
-got_or : {A : Type 0} (xs : List A) (k : ℕ) (x d : A) → slice_get xs k ≡ Some x → slice_index_or xs k d ≡ x
+pub got_or : {A : Type 0} (xs : List A) (k : ℕ) (x d : A) → slice_get xs k ≡ Some x → slice_index_or xs k d ≡ x
 got_or [] k x d is = absurd (cc)
 got_or (y ∷ xs) zero x d is = let same : y ≡ x = cc in same
 got_or (y ∷ xs) (suc k) x d is = got_or xs k x d is
 
-takings_count : (h : History) (leaves : List SpecLeaf) (numbers : List ℕ) → length (takings h leaves numbers) ≡ length leaves
+pub takings_count : (h : History) (leaves : List SpecLeaf) (numbers : List ℕ) → length (takings h leaves numbers) ≡ length leaves
 takings_count h [] numbers = refl
 takings_count h (leaf ∷ leaves) [] = ap suc (takings_count h leaves [])
 takings_count h (given cells ∷ leaves) (n ∷ numbers) = ap suc (takings_count h leaves numbers)
@@ -66,11 +66,11 @@ leaves_count : (tree : Tree) (k : ℕ) (leaves : List spec.SpecLeaf) → length 
 leaves_count tree k [] = refl
 leaves_count tree k (leaf ∷ leaves) = ap suc (leaves_count tree (suc k) leaves)
 
-map_count : {A B : Type 0} (f : A → B) (xs : List A) → length (map f xs) ≡ length xs
+pub map_count : {A B : Type 0} (f : A → B) (xs : List A) → length (map f xs) ≡ length xs
 map_count f [] = refl
 map_count f (x ∷ xs) = ap suc (map_count f xs)
 
-said_count : (scripts : List (List ℕ)) (transcript : List ℕ) (said : List Said) (told : List Told) → AreSaid scripts transcript said told → length told ≡ length said
+pub said_count : (scripts : List (List ℕ)) (transcript : List ℕ) (said : List Said) (told : List Told) → AreSaid scripts transcript said told → length told ≡ length said
 said_count scripts transcript [] [] are = refl
 said_count scripts transcript [] (t ∷ told) are = absurd are
 said_count scripts transcript (s ∷ said) [] are = absurd are
@@ -138,15 +138,15 @@ facing s told place d t w v act of_it at there reached order session same first 
     low_by m n (u ∷ earlier) low all = let one = all.0 in (omega (arith, one, low), low_by m n earlier low all.1)
 
 -- the act of the line that a walk faces
-act_faced : (s : Source) (told : List Told) (place : ℕ) (t : Told) (w : Walk) (act : Act) → IsFacing s told place t w act → IsActBy (standing_before (outlined s) (take place told) t).transaction (act_at (standing_before (outlined s) (take place told) t) t) act
+pub act_faced : (s : Source) (told : List Told) (place : ℕ) (t : Told) (w : Walk) (act : Act) → IsFacing s told place t w act → IsActBy (standing_before (outlined s) (take place told) t).transaction (act_at (standing_before (outlined s) (take place told) t) t) act
 act_faced s told place t w act is = subst (λ (x : Standing). IsActAt x t.asked act) is.before.stands is.does
 
 -- an open line's leaves, by the outline
-record IsOpenLine (s : Source) (told : List Told) (place : ℕ) (t : Told) (plan : OpenPlan) : Type 0 where
-  opened : AreOpenedBy (outlined s) t.session (leaves_of plan) (opened_in t.answer)
-  numbers : slice_get s.openings.now.takings place ≡ Some (map (λ (x : Taking). x.number) (takings (outlined s) (leaves_of plan) (opened_in t.answer)))
+pub record IsOpenLine (s : Source) (told : List Told) (place : ℕ) (t : Told) (plan : OpenPlan) : Type 0 where
+  pub opened : AreOpenedBy (outlined s) t.session (leaves_of plan) (opened_in t.answer)
+  pub numbers : slice_get s.openings.now.takings place ≡ Some (map (λ (x : Taking). x.number) (takings (outlined s) (leaves_of plan) (opened_in t.answer)))
 
-open_line : (s : Source) (told : List Told) (place : ℕ) (t : Told) (w : Walk) (name : List ℕ) (plan : OpenPlan) → IsSource s → IsFacing s told place t w (Opens name plan) → IsOpenLine s told place t plan
+pub open_line : (s : Source) (told : List Told) (place : ℕ) (t : Told) (w : Walk) (name : List ℕ) (plan : OpenPlan) → IsSource s → IsFacing s told place t w (Opens name plan) → IsOpenLine s told place t plan
 open_line s told place t w name plan is faces =
     let h = outlined s in
     let by : IsStatedBy told s.openings.now = is.stated.stated s.transcript.now told faces.told_of_it.said_of in
@@ -277,7 +277,7 @@ gone s told place d t w v act commit faces at session stands event =
           (stands asked faces.does ∙ (λ i. standing_asked h (faces.before.stands i) (sym said.number i) (same i) t.answer));
     }
 
-got_below : {A : Type 0} (xs : List A) (k : ℕ) (x : A) → slice_get xs k ≡ Some x → k < length xs
+pub got_below : {A : Type 0} (xs : List A) (k : ℕ) (x : A) → slice_get xs k ≡ Some x → k < length xs
 got_below [] k x is = absurd (cc)
 got_below (y ∷ xs) zero x is = omega arith
 got_below (y ∷ xs) (suc k) x is = let rest = got_below xs k x is in omega (arith, rest)
@@ -399,7 +399,7 @@ walked_line s place w v cs c d is at are next session sound = record {
     more : (told : List Told) (t : Told) → slice_get told place ≡ Some t → take (place + 1) told ≡ take place told ++ t ∷ []
     more told t there = ap (λ n. take n told) (add-one place) ∙ take_got told place t there
 
-whole_of : (told : List Told) (n : ℕ) → length told ≤ n → take n told ≡ told
+pub whole_of : (told : List Told) (n : ℕ) → length told ≤ n → take n told ≡ told
 whole_of [] zero long = refl
 whole_of [] (suc n) long = refl
 whole_of (t ∷ told) zero long = absurd (omega (arith, long))

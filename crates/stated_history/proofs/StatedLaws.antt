@@ -32,8 +32,8 @@ use Rattle.stated_acts.specs.Transcript.{mount, Told}
 use Rattle.stated_acts.specs.declared.Said.{Said}
 use Rattle.stated_acts.proofs.Laws.{exact_table}
 use Rattle.stated_acts.proofs.Laws.{in_front, in_back}
-use Rattle.transcript_laws.proofs.SameOutline.{step_same, stated_same}
-use Rattle.transcript_laws.proofs.Stances.{standing_stance}
+use Rattle.stated_acts.proofs.Laws.{step_same, stated_same}
+use Rattle.stated_acts.proofs.Laws.{standing_stance}
 use Rattle.stated_history.specs.Commits.{commit_of, kind_in, is_undone, event_with, commit_at}
 use Rattle.stated_history.specs.StatedHistories.{ArePutIn, AreStatedWithCommits, NoneIsClaimed}
 use Rattle.stated_history.specs.Walks.{outlined, commit_by, standing_before, HasItsNumbers, IsWalked, AreWalked, HaveTheirNumbers}

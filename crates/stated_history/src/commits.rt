@@ -121,8 +121,12 @@ fn state_none(_: Act) -> Result<Option<Option<Commit>>, AllocError>
     Ok(None)
 }
 
-// The line's commit; the walk stands behind the line then.
-fn pass_line(
+/// Goes on behind the line at a place, before which the walk stands and which does this and was answered so. Gives the line's
+/// commit, if it prints a number of one.
+///
+/// # Errors
+/// An allocation failed; the walk is of no use then.
+pub fn pass_line(
     alloc: Global,
     walk: &mut Walk,
     source: &Source,
@@ -152,8 +156,11 @@ fn fail(_: Act, e: AllocError) -> Result<Option<Commit>, AllocError>
     Err(e)
 }
 
-// What a line does for its session.
-fn act_said(
+/// What a line does for its session, which stands so before it.
+///
+/// # Errors
+/// An allocation failed.
+pub fn act_said(
     alloc: Global,
     standing: &Standing,
     source: &Source,
@@ -175,8 +182,11 @@ fn act_said(
     )
 }
 
-// The answer to a line, whose text ends in an LF.
-fn answer_said(alloc: Global, source: &Source, said: &Said) -> Result<Value, AllocError>
+/// The answer to a line, as JSON: that of its text without the LF at the end.
+///
+/// # Errors
+/// An allocation failed.
+pub fn answer_said(alloc: Global, source: &Source, said: &Said) -> Result<Value, AllocError>
     requires within { IsSpanOf source.now.transcript.now said.now.text }
     requires some { said.now.text.from < said.now.text.upto }
     ensures { IfOk result (λ v. data_of (line_said said.now source.now.transcript.now) ≡ Some (data_in v)) }

@@ -9,6 +9,6 @@ mod commits;
 mod putting;
 mod walk;
 
-pub use commits::{Source, state_commits};
+pub use commits::{Source, act_said, answer_said, pass_line, state_commits};
 pub use putting::{Commit, commits_complete_the_history, put_commits};
 pub use walk::Walk;

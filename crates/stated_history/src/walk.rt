@@ -32,7 +32,7 @@ pub struct Walk {
 
 impl Walk {
     /// Before the first line.
-    pub(crate) fn first(alloc: Global) -> Walk
+    pub fn first(alloc: Global) -> Walk
         ensures session { result.session ≡ 0 }
         ensures stands { standing_of result.standing ≡ first_standing }
         ensures sound { IsSoundStanding result.standing }
@@ -44,7 +44,7 @@ impl Walk {
     }
 
     /// Turns to a session, which stands before its first line where it is another one.
-    pub(crate) fn turn_to(&mut self, alloc: Global, session: u32)
+    pub fn turn_to(&mut self, alloc: Global, session: u32)
         requires { IsSoundStanding self.old.standing }
         ensures session { self.new.session ≡ session }
         ensures same { self.old.session ≡ session → self.new.standing ≡ self.old.standing }

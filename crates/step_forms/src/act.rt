@@ -1,4 +1,4 @@
-use cells::{Index, List, Name};
+use index_transform::{Index, List, Name};
 
 /// One step: which dimensions it is for, in this order, and what it does with them.
 ///

@@ -6,8 +6,8 @@ ghost use Rattle.step_forms.specs.Forms.{index_of, or_null, list_by};
 ghost use Rattle.step_forms.specs.Acts.{per_dim_of, numbers_of, texts_of};
 
 use crate::act::{Numbers, PerDim};
-use cells::{Index, List, Name};
 use index_intervals::is_index;
+use index_transform::{Index, List, Name};
 use json_forms::{list_items, whole_number};
 use serde_json::Value;
 use std::alloc::{AllocError, Global};

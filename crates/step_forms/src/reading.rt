@@ -13,7 +13,7 @@ use crate::error::StepsError;
 use crate::numbers::{arrays_of, indices_of, numbers_of, per_dim_of, texts_of};
 use crate::selector::{positions_of, selectors_of};
 use crate::slices::{has_only, marks_of, slices_of};
-use cells::{Index, List};
+use index_transform::{Index, List};
 use json_forms::list_items;
 use serde_json::Value;
 use std::alloc::{AllocError, Global};

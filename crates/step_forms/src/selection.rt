@@ -6,8 +6,7 @@ ghost use Rattle.step_forms.specs.Selection.{from_end, dim_numbered, dim_of_labe
 ghost use Rattle.step_forms.specs.declared.selection.SelectError.{SelectError};
 
 use crate::act::{Act, Select, Step};
-use cells::Name;
-use index_transform::Domain;
+use index_transform::{Domain, Name};
 use std::alloc::{AllocError, Global};
 
 /// Why a step selects no dimensions.

@@ -8,7 +8,7 @@ ghost use Rattle.step_forms.specs.declared.act.Select.TheVariants as select;
 use crate::act::Select;
 use crate::numbers::{index_of, name_of};
 use crate::slices::{has_only, index_at};
-use cells::List;
+use index_transform::List;
 use json_forms::list_items;
 use serde_json::Value;
 use std::alloc::{AllocError, Global};

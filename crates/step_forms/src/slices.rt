@@ -7,7 +7,7 @@ ghost use Rattle.step_forms.specs.Acts.{has_only, slice_part_of, slices_of, mark
 
 use crate::act::{Act, SlicePart, Slices};
 use crate::numbers::{index_of, index_or_null};
-use cells::List;
+use index_transform::List;
 use json_forms::{least_unknown, list_items};
 use serde_json::Value;
 use std::alloc::{AllocError, Global};

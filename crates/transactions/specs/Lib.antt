@@ -13,3 +13,5 @@ pub mod Reading
 pub mod Keeping
 -- names of crates below, given on to those above
 pub use Rattle.commits.specs.Answers
+pub use Rattle.commits.specs.Agreement
+pub use Rattle.commits.specs.Outline

@@ -14,9 +14,9 @@ pub mod Risen
 pub use Rattle.transcript_laws.specs.Meanings
 pub use Rattle.transcript_laws.specs.Openings
 pub use Rattle.transcript_laws.specs.Outline
-pub use Rattle.spec_forms.specs.Leaves
-pub use Rattle.line_forms.specs.Form
-pub use Rattle.line_forms.specs.Lines
+pub use Rattle.transcript_laws.specs.Leaves
+pub use Rattle.transcript_laws.specs.Form
+pub use Rattle.transcript_laws.specs.Lines
 pub use Rattle.transcript_laws.specs.Numbered as StatedEvents
 pub use Rattle.transcript_laws.specs.Numbers as ToldNumbers
 pub use Rattle.transcript_laws.specs.Claimed
@@ -25,3 +25,21 @@ pub use Rattle.transcript_laws.specs.Standings
 pub use Rattle.transcript_laws.specs.Takings
 pub use Rattle.transcript_laws.specs.Transcript
 pub use Rattle.transcript_laws.specs.Unchecked
+pub use Rattle.transcript_laws.specs.Homes
+pub use Rattle.transcript_laws.specs.Conditions
+pub use Rattle.transcript_laws.specs.Fitting
+pub use Rattle.transcript_laws.specs.Windows
+pub use Rattle.transcript_laws.specs.Answers
+pub use Rattle.transcript_laws.specs.Causes
+pub use Rattle.transcript_laws.specs.Members
+pub use Rattle.transcript_laws.specs.Printable
+pub use Rattle.transcript_laws.specs.Nested
+pub use Rattle.transcript_laws.specs.Pieces
+pub use Rattle.transcript_laws.specs.Text
+pub use Rattle.transcript_laws.specs.AnswerLines
+pub use Rattle.transcript_laws.specs.Bodies
+pub use Rattle.transcript_laws.specs.Opening
+pub use Rattle.transcript_laws.specs.Built
+pub use Rattle.transcript_laws.specs.LineCauses
+pub use Rattle.transcript_laws.specs.StatedCommits
+pub use Rattle.transcript_laws.specs.Verdicts

@@ -18,8 +18,12 @@ mod spots;
 mod unchecked;
 
 pub use cutting::{Cutting, cut};
-pub use line_forms::{Command, LineError, OpenPlan, SpecLeaf, Tree, read_command};
 pub use numbering::number_events;
 pub use numbers::EventNumbers;
 pub use said::{AskedLine, Said, Span};
+pub use transcript_laws::{
+    Answer, Body, BuildCause, BuildError, Command, JoinError, LineError, MetaWhy, OpenPlan,
+    SpecError, SpecLeaf, Tree, Why, array_ref, build, form_of, given_info, joined, new_info,
+    read_command, render,
+};
 pub use unchecked::first_unchecked;

@@ -1,9 +1,9 @@
 // Lines that aren't checked.
 ghost use Rattle.std.specs.Prelude.{◌≡◌, ◌<◌, ◌^◌, [], ◌∷◌, IfOk, IfSome, IfNone, length};
 ghost use Rattle.std.specs.List.{list_any};
-ghost use Rattle.line_forms.specs.Form.{form_of};
-ghost use Rattle.line_forms.specs.Lines.{command_of_line};
-ghost use Rattle.spec_forms.specs.declared.leaf.SpecLeaf.{SpecLeaf as SpecLeafOf};
+ghost use Rattle.transcript_laws.specs.Form.{form_of};
+ghost use Rattle.transcript_laws.specs.Lines.{command_of_line};
+ghost use Rattle.transcript_laws.specs.declared.SpecLeaf.{SpecLeaf as SpecLeafOf};
 ghost use Rattle.transcript_laws.specs.Transcript.{mount};
 ghost use Rattle.transcript_laws.specs.Unchecked.{AreChecked, IsFirstUnchecked, is_zarr3, is_unchecked, is_unchecked_form, is_unchecked_in};
 ghost use Rattle.transcript_cut.specs.Spans.{line_at, IsPlaced};
@@ -11,9 +11,8 @@ ghost use Rattle.transcript_cut.specs.Spans.{line_at, IsPlaced};
 use crate::cursor::Cursor;
 use crate::said::AskedLine;
 use cells::{List, Name};
-use line_forms::{Command, LineError, read_command};
-use spec_forms::SpecLeaf;
 use std::alloc::{AllocError, Global};
+use transcript_laws::{Command, LineError, SpecLeaf, read_command};
 
 /// The first line of the scripts that isn't checked: a resize, a resolve, an open whose Spec has a node of the driver zarr3, a downsampled
 /// read, or a joined view. A line that has no such form is checked. `None` where all lines are.

@@ -1,10 +1,10 @@
 -- What lines ask for that are checked.
 use Rattle.std.proofs.Common.{◌≡◌, ℕ, ◌+◌, List, [], ◌∷◌, ◌++◌, map, Bool, true, false, cond, Option, Some, None, Result, Ok, Err, refl}
 use Rattle.std.specs.List.{AllByRecursion}
-use Rattle.line_forms.specs.Form.{Form}
-use Rattle.line_forms.specs.Form as form
-use Rattle.line_forms.specs.Lines.{command_of_line}
-use Rattle.line_forms.specs.declared.LineError.{LineError}
+use Rattle.line_meanings.specs.Form.{Form}
+use Rattle.line_meanings.specs.Form as form
+use Rattle.line_meanings.specs.Lines.{command_of_line}
+use Rattle.line_meanings.specs.declared.LineError.{LineError}
 use Rattle.line_meanings.specs.Refusals.{form_error}
 use Rattle.line_meanings.specs.Meanings.{line_of, line_in, line_of_bytes, refused_by, asked_line}
 use Rattle.script_lines.specs.Script.{lines_of, is_blank}

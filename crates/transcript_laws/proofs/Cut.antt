@@ -2,7 +2,7 @@
 use Rattle.std.proofs.Common.{◌≡◌, ℕ, ◌+◌, List, [], ◌∷◌, ◌++◌, map, Bool, true, false, cond, Some, None, refl, sym, ap, ap₂, subst, ◌∙◌}
 use Rattle.std.proofs.lemmas.Grind.{flat_map-append}
 use Rattle.std.specs.List.{flat_map, AllByRecursion}
-use Rattle.answer_text.specs.Text.{answer_text}
+use Rattle.answer_data.specs.Text.{answer_text}
 use Rattle.answer_data.specs.Answers.{answer_data}
 use Rattle.answer_data.specs.Lines.{IsAnswerText}
 use Rattle.answer_data.specs.Printable.{IsPrintable}

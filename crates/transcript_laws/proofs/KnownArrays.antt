@@ -74,7 +74,7 @@ never_resized a =
 abbrev opened_at : ℕ → ArrayInfo → Known
 opened_at n info = record { info = info; opened = n; shape = info.shape }
 
-new_known : (history : History) (owner n : ℕ) (info : ArrayInfo) → IsEvent history n (opened_event owner info) → IsKnownRef history (ref_of (opened_at n info))
+pub new_known : (history : History) (owner n : ℕ) (info : ArrayInfo) → IsEvent history n (opened_event owner info) → IsKnownRef history (ref_of (opened_at n info))
 new_known history owner n info is =
     let e = opened_event owner info in
     let count : n ≡ length (is.before ++ e ∷ []) = is.numbered ∙ sym (length-append is.before (e ∷ [])) in
@@ -90,7 +90,7 @@ new_known history owner n info is =
 
 module _ (history : History) (legal : IsLegal finmap.empty (outline history)) where
   -- an array that lies somewhere is one of the history
-  lies_known : (here : List ℕ) (k : Known) → array_at history here ≡ Some k → IsKnownRef history (ref_of k)
+  pub lies_known : (here : List ℕ) (k : Known) → array_at history here ≡ Some k → IsKnownRef history (ref_of k)
   lies_known here k at =
       let now : known_after history k.info.number ≡ Some k = sym (known-outline k.info.number history) ∙ array_at-known finmap.empty here (outline history) legal k (array_at-outline here history ∙ at) in
       record { seen = length history; array = k; known = ap (λ (h : History). known_after h k.info.number) (take-length history) ∙ now; same = refl }
@@ -139,7 +139,7 @@ module _ (history : History) (legal : IsLegal finmap.empty (outline history)) wh
   refs_known (t ∷ ts) all refs is = first_known (ref_of_leaf history t) (map (ref_of_leaf history) ts) all.0 (refs_known ts all.1) refs is
 
   module _ (build : Build) (rules : IsBuilding build) (within : IsBuildWithin build) (view : View) where
-    built_known : (refs : List Reference) (r : Result View (Text × BuildCause)) → AllByRecursion (IsKnownRef history) refs → build refs ≡ r → built_view r ≡ Some view → IsViewOf history view
+    pub built_known : (refs : List Reference) (r : Result View (Text × BuildCause)) → AllByRecursion (IsKnownRef history) refs → build refs ≡ r → built_view r ≡ Some view → IsViewOf history view
     built_known refs (Ok made) known is there = subst (IsViewOf history) (some_inj made view there) (rules refs made is, within history refs made known is)
     built_known refs (Err refusal) known is there = absurd (none_is_none view there)
 
@@ -153,7 +153,7 @@ module _ (history : History) (legal : IsLegal finmap.empty (outline history)) wh
 
   module _ (still : AreUnresized history) where
     -- an array keeps its shape
-    known_kept : (a seen : ℕ) (k : Known) → known_after (take seen history) a ≡ Some k → known_after history a ≡ Some k
+    pub known_kept : (a seen : ℕ) (k : Known) → known_after (take seen history) a ≡ Some k → known_after history a ≡ Some k
     known_kept a seen k is =
         let all = outline history in
         let early = take seen all in

@@ -10,6 +10,12 @@ pub use Rattle.transcript_laws.proofs.Cuts.{cut_is_one}
 pub use Rattle.transcript_laws.proofs.OneHistory.{history_is_one, stated_is_one}
 -- each commit that lines of checked scripts state is sound, and no line states that an array gets another shape
 pub use Rattle.transcript_laws.proofs.StatedCommits.{stated_commits_are_sound}
+-- what a sound session's next line does is sound, and so is the session behind it
+pub use Rattle.transcript_laws.proofs.StatedCommits.{IsGoodLine, AreGoodLines, good_lines, AreSoundOps, IsSoundStanding, IsSoundAct, line_sound, act_leaves, with_read_sound, read_sound, left_sound, found_of}
+-- arrays that leaves open or find, and views over them, are of the history
+pub use Rattle.transcript_laws.proofs.KnownArrays.{IsViewOf, AreViewsOf, new_known, lies_known, known_kept, built_known, view_present, bound_views, opened_names}
+pub use Rattle.transcript_laws.proofs.Views.{IsBuilding}
+pub use Rattle.transcript_laws.proofs.Places.{AreUnresized, unresized_front}
 pub use Rattle.transcript_laws.proofs.StatedEvents.{stated_unresized}
 -- a sound operation may follow the events behind which its arrays are known, where there is one word for each of its cells
 pub use Rattle.transcript_laws.proofs.StatedCommits.{sound_follows}
@@ -22,3 +28,7 @@ pub use Rattle.state_laws.proofs.Fresh.{location_new, opening_new}
 pub use Rattle.state_laws.proofs.Keyed.{places_apart}
 pub use Rattle.state_laws.proofs.Located.{free_of}
 pub use Rattle.state_laws.proofs.Outline.{array_at-outline, count-outline, known-outline, length-outline, outline-more, outline_opening}
+pub use Rattle.state_laws.proofs.Laws.{known_reference, known_shaped}
+pub use Rattle.state_laws.proofs.Laws.{reference_given, there_of}
+pub use Rattle.answer_data.proofs.Laws.{told_data}
+pub use Rattle.answer_data.proofs.Laws.{nested_words-values_data}

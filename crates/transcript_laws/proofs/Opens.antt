@@ -3,9 +3,9 @@ use Rattle.std.proofs.Common.{◌≡◌, ◌≢◌, ℕ, ◌+◌, ◌-◌, ◌<�
 use Rattle.std.specs.Prelude.{filter_map, option_map, is_some}
 use Rattle.std.specs.List.{AllByRecursion, cons_option}
 use Rattle.std.specs.FinMap as finmap
-use Rattle.chunk_forms.specs.Made.{form_made}
-use Rattle.chunk_forms.specs.Wants.{mismatch_of}
-use Rattle.chunk_forms.specs.declared.form.Form.{Form}
+use Rattle.serial_runs.specs.Made.{form_made}
+use Rattle.serial_runs.specs.Wants.{mismatch_of}
+use Rattle.serial_runs.specs.declared.Form.{Form}
 use Rattle.stack_driver.specs.References.{Reference}
 use Rattle.history.specs.declared.array.ArrayInfo.{ArrayInfo}
 use Rattle.history.specs.Answers.{Text}

@@ -3,9 +3,9 @@ use Rattle.std.proofs.Common.{◌≡◌, ℕ, ℤ, codes, List, [], ◌∷◌, �
 use Rattle.std.specs.Prelude.{◌==◌}
 use Rattle.std.specs.List.{AllByRecursion}
 use Rattle.std.specs.FinMap as finmap
-use Rattle.chunk_forms.specs.declared.form.Form.{Form}
-use Rattle.chunk_forms.specs.Made.{form_made}
-use Rattle.chunk_forms.specs.Wants.{mismatch_of}
+use Rattle.serial_runs.specs.declared.Form.{Form}
+use Rattle.serial_runs.specs.Made.{form_made}
+use Rattle.serial_runs.specs.Wants.{mismatch_of}
 use Rattle.serde_json.specs.Data.{Data}
 use Rattle.stack_driver.specs.References.{Reference}
 use Rattle.stack_driver.specs.Renewed.{array_of}

@@ -9,27 +9,27 @@ use Rattle.json_forms.specs.Lists.{list_of}
 use Rattle.json_forms.specs.Members.{least_unknown, has_exactly}
 use Rattle.json_forms.specs.Numbers.{natural}
 use Rattle.cells.specs.declared.dtype.Dtype.TheVariants.{I32}
-use Rattle.line_forms.specs.Form.{opening, reading, writing, beginning, committing}
-use Rattle.line_forms.specs.Lines.{command_of_line, command_in, other_form, small_form}
-use Rattle.line_forms.specs.Reads.{read_form, read_members, write_form}
-use Rattle.line_forms.specs.Small.{open_form, plan_in, flag_members, begin_form, word_form}
-use Rattle.line_parts.specs.Parts.{steps_in}
+use Rattle.line_meanings.specs.Form.{opening, reading, writing, beginning, committing}
+use Rattle.line_meanings.specs.Lines.{command_of_line, command_in, other_form, small_form}
+use Rattle.line_meanings.specs.Reads.{read_form, read_members, write_form}
+use Rattle.line_meanings.specs.Small.{open_form, plan_in, flag_members, begin_form, word_form}
+use Rattle.line_meanings.specs.Parts.{steps_in}
 use Rattle.line_meanings.specs.Meanings.{line_in}
 use Rattle.line_meanings.specs.Openings.{leaves_of, build_of}
 use Rattle.line_meanings.specs.Numbers.{values_of}
-use Rattle.spec_forms.specs.declared.leaf.SpecLeaf.TheVariants as leaf
-use Rattle.spec_open.specs.declared.plan.OpenPlan.{OpenPlan}
-use Rattle.spec_open.specs.declared.tree.Tree.TheVariants as tree
-use Rattle.spec_open.specs.Specs.{driver_at, node_by, node_of, inner_of}
-use Rattle.spec_open.specs.Nodes.{few_leaves, leaf_node}
-use Rattle.spec_forms.specs.Stored.{asked_at, own_dtype, asked_in, stored_at}
-use Rattle.spec_forms.specs.Members.{transform_at, false_at, tail_at}
-use Rattle.spec_forms.specs.Kvstores.{below_in, location_in, location_at}
-use Rattle.spec_forms.specs.Faults as faults
-use Rattle.want_forms.specs.Asking as asking
-use Rattle.want_forms.specs.Sizes.{judged_alone, judged_beside}
-use Rattle.want_forms.specs.Zarr as zarr
-use Rattle.want_forms.specs.Wants.{want_of, named_dtype}
+use Rattle.line_meanings.specs.declared.SpecLeaf.TheVariants as leaf
+use Rattle.answer_data.specs.declared.OpenPlan.{OpenPlan}
+use Rattle.answer_data.specs.declared.Tree.TheVariants as tree
+use Rattle.answer_data.specs.Specs.{driver_at, node_by, node_of, inner_of}
+use Rattle.answer_data.specs.Nodes.{few_leaves, leaf_node}
+use Rattle.line_meanings.specs.Stored.{asked_at, own_dtype, asked_in, stored_at}
+use Rattle.line_meanings.specs.Members.{transform_at, false_at, tail_at}
+use Rattle.line_meanings.specs.Kvstores.{below_in, location_in, location_at}
+use Rattle.line_meanings.specs.Faults as faults
+use Rattle.line_meanings.specs.Asking as asking
+use Rattle.line_meanings.specs.Sizes.{judged_alone, judged_beside}
+use Rattle.line_meanings.specs.Zarr as zarr
+use Rattle.line_meanings.specs.Wants.{want_of, named_dtype}
 use Rattle.history.specs.Lines as history
 use Rattle.history.specs.Worked.{repeatable}
 use Rattle.transcript_laws.specs.Transcript.{mount, Told, asked_by, IsToldOf, IsCut}

@@ -4,7 +4,7 @@ use Rattle.std.specs.Prelude.{◌||◌, IsTrue, not, Contains}
 use Rattle.std.specs.List.{AllByRecursion}
 use Rattle.std.specs.FinMap as finmap
 use Rattle.std.proofs.lemmas.List.{take-append-drop}
-use Rattle.chunk_forms.specs.Words.{is_inside}
+use Rattle.serial_runs.specs.Words.{is_inside}
 use Rattle.stack_driver.specs.Targets.{Cell}
 use Rattle.stack_driver.specs.declared.view.View.{View}
 use Rattle.history.specs.declared.event.Kind.{Kind}

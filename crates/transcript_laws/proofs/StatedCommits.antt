@@ -9,7 +9,7 @@ use Rattle.std.proofs.Math.Nat.{mul_assoc}
 use Rattle.cells.specs.Places.{cell_count}
 use Rattle.serde_json.specs.Data.{Data}
 use Rattle.serde_json.specs.Find.{get}
-use Rattle.line_forms.specs.Lines.{command_of_line}
+use Rattle.line_meanings.specs.Lines.{command_of_line}
 use Rattle.line_meanings.specs.Meanings.{line_of_bytes}
 use Rattle.line_meanings.proofs.Laws.{bytes_of_mount}
 use Rattle.stack_driver.specs.Cells.{cells_of}
@@ -135,11 +135,11 @@ act_few names t (resizing name shape) checked = absurd checked
 act_few names t (resolving name) checked = absurd checked
 
 -- what lines of checked scripts ask for
-record IsGoodLine (line : Line) : Type 0 where
-  checked : IsCheckedLine line
-  views : IsViewLine line
-  within : IsLineWithin line
-  fits : HasFittingValues line
+pub record IsGoodLine (line : Line) : Type 0 where
+  pub checked : IsCheckedLine line
+  pub views : IsViewLine line
+  pub within : IsLineWithin line
+  pub fits : HasFittingValues line
 
 good_bytes : (line : ScriptLine) → is_unchecked line ≡ false → IsGoodLine (line_of_bytes (mount ∷ []) line.bytes)
 good_bytes line is = record {
@@ -149,27 +149,27 @@ good_bytes line is = record {
   fits = bytes_fit line.bytes;
 }
 
-abbrev AreGoodLines : List Told → Type 0
+abbrev pub AreGoodLines : List Told → Type 0
 AreGoodLines told = AllByRecursion (λ (t : Told). IsGoodLine t.asked) told
 
-good_lines : (lines : List ScriptLine) (told : List Told) → AreToldOf lines told → AllByRecursion (λ line. is_unchecked line ≡ false) lines → AreGoodLines told
+pub good_lines : (lines : List ScriptLine) (told : List Told) → AreToldOf lines told → AllByRecursion (λ line. is_unchecked line ≡ false) lines → AreGoodLines told
 good_lines [] [] are checked = tt
 good_lines [] (t ∷ told) are checked = absurd are
 good_lines (line ∷ lines) [] are checked = absurd are
 good_lines (line ∷ lines) (t ∷ told) are checked = (subst IsGoodLine (sym are.0.asked) (good_bytes line checked.0), good_lines lines told are.1 checked.1)
 
 module _ (history : History) where
-  abbrev AreSoundOps : Option Transaction → Type 0
+  abbrev pub AreSoundOps : Option Transaction → Type 0
   AreSoundOps None = Unit {0}
   AreSoundOps (Some t) = AllByRecursion (IsSoundOp history) t.ops
 
   -- a session's names are bound to views of arrays of the history, and its transaction's operations are sound
-  record IsSoundStanding (s : Standing) : Type 0 where
-    bound : AreViewsOf history s.names
-    staged : AreSoundOps s.transaction
+  pub record IsSoundStanding (s : Standing) : Type 0 where
+    pub bound : AreViewsOf history s.names
+    pub staged : AreSoundOps s.transaction
 
   -- so are those of an act
-  abbrev IsSoundAct : Act → Type 0
+  abbrev pub IsSoundAct : Act → Type 0
   IsSoundAct (opens name leaves build) = IsBuilding build × IsBuildWithin build
   IsSoundAct (binds name view) = IsViewOf history view
   IsSoundAct (reads view down) = (words : List ℕ) → IsSoundOp history (Read view words)
@@ -206,7 +206,7 @@ module _ (history : History) where
   asks_sound line (Err refusal) sound = tt
 
   -- the transaction behind a read and behind a commit
-  with_read_sound : (t : Option Transaction) (view : View) (words : List ℕ) → IsSoundOp history (Read view words) → AreSoundOps t → AreSoundOps (with_read t view words [])
+  pub with_read_sound : (t : Option Transaction) (view : View) (words : List ℕ) → IsSoundOp history (Read view words) → AreSoundOps t → AreSoundOps (with_read t view words [])
   with_read_sound None view words one all = tt
   with_read_sound (Some t) view words one all = by t.mode.repeatable_read
     where
@@ -214,18 +214,18 @@ module _ (history : History) where
       by true = all_with (IsSoundOp history) t.ops (Read view words ∷ []) all (one, tt)
       by false = all
 
-  read_sound : (t : Option Transaction) (view : View) (values : Option Data) → ((words : List ℕ) → IsSoundOp history (Read view words)) → AreSoundOps t → AreSoundOps (read_told t view values)
+  pub read_sound : (t : Option Transaction) (view : View) (values : Option Data) → ((words : List ℕ) → IsSoundOp history (Read view words)) → AreSoundOps t → AreSoundOps (read_told t view values)
   read_sound t view None one all = all
   read_sound t view (Some values) one all = with_read_sound t view _ (one _) all
 
-  left_sound : (t : Transaction) (done failed : List ℕ) → AllByRecursion (IsSoundOp history) t.ops → AreSoundOps (left_told t done failed)
+  pub left_sound : (t : Transaction) (done failed : List ℕ) → AllByRecursion (IsSoundOp history) t.ops → AreSoundOps (left_told t done failed)
   left_sound t done [] all = tt
   left_sound t [] (n ∷ failed) all = all
   left_sound t (m ∷ done) (n ∷ failed) all = tt
 
   module _ (legal : IsLegal finmap.empty (outline history)) where
     -- the session behind an act
-    act_leaves : (s : Standing) (owner line : ℕ) (act : Act) (answer : Data) → AreEvents history (stated_by history owner line act answer) → IsSoundAct act → IsSoundStanding s → IsSoundStanding (standing_by history s line act answer)
+    pub act_leaves : (s : Standing) (owner line : ℕ) (act : Act) (answer : Data) → AreEvents history (stated_by history owner line act answer) → IsSoundAct act → IsSoundStanding s → IsSoundStanding (standing_by history s line act answer)
     act_leaves s owner line (opens name leaves build) answer are sound so =
         let ts = takings history leaves (opened_in answer) in
         let known = takings_known history legal owner ts (events_front history (filter_map (opening_of history owner) ts) (faults_at owner (failed_in answer)) are) in
@@ -279,7 +279,7 @@ module _ (history : History) where
       asked_sound t (Ok act) views known whole few stands all = act_sound t act views known whole few stands all
       asked_sound t (Err refusal) views known whole few stands all = tt
 
-      line_sound : (s : Standing) (line : Line) → IsGoodLine line → IsSoundStanding s → IsAskedBy IsSoundAct (act_of s.names s.transaction line)
+      pub line_sound : (s : Standing) (line : Line) → IsGoodLine line → IsSoundStanding s → IsAskedBy IsSoundAct (act_of s.names s.transaction line)
       line_sound s line good so =
           asked_sound s.transaction (act_of s.names s.transaction line) (act_views s.names s.transaction line (λ name view there. (so.bound name view there).0) good.checked good.views)
           (act_of-known history s.names s.transaction line (λ name view there. (so.bound name view there).1) good.within) (act_of-whole s.names s.transaction line good.fits) (act_few s.names s.transaction line good.checked)
@@ -303,7 +303,7 @@ stated_commits_are_sound scripts told history are checked numbered states count 
     lines_sound history legal still (told_of session told) first_standing (all_filter (λ (t : Told). IsGoodLine t.asked) (λ (t : Told). t.session == session) told good) (states session)
     (record { bound = λ name view there. absurd (cc); staged = tt }))
 
-found_of : (history : History) (ts : List (Result Target TargetError)) → AllByRecursion (HasTarget history) ts → AllByRecursion IsFound ts
+pub found_of : (history : History) (ts : List (Result Target TargetError)) → AllByRecursion (HasTarget history) ts → AllByRecursion IsFound ts
 found_of history [] all = tt
 found_of history (Ok t ∷ ts) all = (tt, found_of history ts all.1)
 found_of history (Err e ∷ ts) all = absurd all.0

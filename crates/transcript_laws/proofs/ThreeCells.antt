@@ -8,10 +8,10 @@ use Rattle.std.specs.Fmt.{digits}
 use Rattle.cells.specs.Numbers.{Holds, IsWord}
 use Rattle.cells.specs.declared.dtype.Dtype.TheVariants.{I32}
 use Rattle.cells.specs.declared.order.Order.TheVariants.{C}
-use Rattle.chunk_forms.specs.declared.form.Form.TheVariants as form
-use Rattle.answer_text.specs.Text.{answer_text, domain_text, events_text, dtype_text}
-use Rattle.answer_text.specs.Pieces.{indices_text, numbers_text, text_of}
-use Rattle.answer_text.specs.Nested.{word_text}
+use Rattle.serial_runs.specs.declared.Form.TheVariants as form
+use Rattle.answer_data.specs.Text.{answer_text, domain_text, events_text, dtype_text}
+use Rattle.answer_data.specs.Pieces.{indices_text, numbers_text, text_of}
+use Rattle.answer_data.specs.Nested.{word_text}
 use Rattle.answer_data.specs.Answers.{answer_data}
 use Rattle.serde_json.proofs.OnLiterals.{serde_json_on_literals}
 use Rattle.index_transform.specs.Cells.{is_finite}
@@ -30,8 +30,8 @@ use Rattle.history.specs.Answers as body
 use Rattle.history.specs.Legal.{IsLegal, IsLegalDone, IsLegalOpening, HasTarget}
 use Rattle.history.specs.Leaves.{Leaf, nothing, metadata_key_asked}
 use Rattle.history.specs.Outcomes.{IsOutcome, made}
-use Rattle.zarr_chunks.specs.declared.metadata.ZarrMeta.{ZarrMeta}
-use Rattle.chunk_forms.specs.declared.form.Want.TheVariants as want
+use Rattle.line_meanings.specs.declared.ZarrMeta.{ZarrMeta}
+use Rattle.serial_runs.specs.declared.Want.TheVariants as want
 use Rattle.history.specs.Lines as lines
 use Rattle.history.specs.Own as own
 use Rattle.history.specs.Own.{Numbered}

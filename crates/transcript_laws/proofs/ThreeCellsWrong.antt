@@ -9,9 +9,9 @@ use Rattle.std.specs.Str.{is_utf8, chars}
 use Rattle.serde_json.proofs.OnLiterals.{serde_json_on_literals}
 use Rattle.json_forms.specs.Bytes.{data_of}
 use Rattle.json_forms.specs.Members.{has_exactly, least_unknown}
-use Rattle.answer_text.specs.Text.{answer_text, store_text}
-use Rattle.answer_text.specs.Pieces.{indices_text}
-use Rattle.answer_text.specs.Nested.{word_text}
+use Rattle.answer_data.specs.Text.{answer_text, store_text}
+use Rattle.answer_data.specs.Pieces.{indices_text}
+use Rattle.answer_data.specs.Nested.{word_text}
 use Rattle.line_meanings.specs.Bodies.{answer_of}
 use Rattle.history.specs.Acts.{Act, opens, binds, reads, stages, writes, begins, commits, aborts, resizes, resolves}
 use Rattle.history.specs.Answers as body

@@ -4,14 +4,14 @@ use Rattle.std.specs.Prelude.{nat_le}
 use Rattle.std.specs.List.{AllByRecursion}
 use Rattle.std.proofs.lemmas.List.{length-map}
 use Rattle.cells.specs.declared.dtype.Dtype.{Dtype}
-use Rattle.chunk_forms.specs.Wants.{same_dtype}
+use Rattle.serial_runs.specs.Wants.{same_dtype}
 use Rattle.index_transform.specs.Identity.{identity_over}
 use Rattle.index_transform.specs.Transforms.{DomainAndMaps}
 use Rattle.transform_composition.specs.Composing.{composed}
 use Rattle.transform_composition.specs.declared.error.ComposeError.{ComposeError}
 use Rattle.step_forms.specs.declared.act.Step.{Step}
-use Rattle.dim_expressions.specs.Applying.{applied}
-use Rattle.dim_expressions.specs.declared.error.ApplyError.{ApplyError}
+use Rattle.line_meanings.specs.Applying.{applied}
+use Rattle.line_meanings.specs.declared.ApplyError.{ApplyError}
 use Rattle.stack_driver.specs.Arrays.{whole_view}
 use Rattle.stack_driver.specs.Changes.{under, under_result, moved}
 use Rattle.stack_driver.specs.Conditions.{IsView}
@@ -23,19 +23,19 @@ use Rattle.stack_driver.specs.declared.view.View.TheVariants as view
 use Rattle.stack_driver.proofs.ArrayRules.{whole_rules, length-identity}
 use Rattle.stack_driver.proofs.Kept.{cast_view, stack_view, kept, composed-outputs}
 use Rattle.stack_driver.proofs.StackRules.{layers_alike}
-use Rattle.line_forms.specs.Built.{composed_at, through, through_if, cast_if, before, all_built, of_dtype, stacked_at, stacked_if, no_array, built}
-use Rattle.line_forms.specs.Conditions.{IsNode as IsTreeNode, IsTree}
-use Rattle.line_forms.specs.Form.{Form}
-use Rattle.line_forms.specs.Form as form
-use Rattle.line_forms.specs.Lines.{command_of_line}
-use Rattle.line_forms.specs.declared.BuildCause.TheVariants.{Layers}
-use Rattle.line_forms.specs.declared.BuildError.{BuildError}
-use Rattle.line_forms.specs.declared.BuildError.TheVariants.{Refused}
-use Rattle.line_forms.specs.declared.LineError.{LineError}
-use Rattle.line_forms.specs.declared.OpenPlan.{OpenPlan}
-use Rattle.line_forms.specs.declared.Tree.{Tree, ind-Tree, roll-Tree, map-Tree, every_here-Tree}
-use Rattle.line_forms.specs.declared.Tree.TheOpen.{Tree-F}
-use Rattle.line_forms.specs.declared.Tree.TheVariants as tree
+use Rattle.line_meanings.specs.Built.{composed_at, through, through_if, cast_if, before, all_built, of_dtype, stacked_at, stacked_if, no_array, built}
+use Rattle.answer_data.specs.Conditions.{IsNode as IsTreeNode, IsTree}
+use Rattle.line_meanings.specs.Form.{Form}
+use Rattle.line_meanings.specs.Form as form
+use Rattle.line_meanings.specs.Lines.{command_of_line}
+use Rattle.line_meanings.specs.declared.BuildCause.TheVariants.{Layers}
+use Rattle.line_meanings.specs.declared.BuildError.{BuildError}
+use Rattle.line_meanings.specs.declared.BuildError.TheVariants.{Refused}
+use Rattle.line_meanings.specs.declared.LineError.{LineError}
+use Rattle.line_meanings.specs.declared.OpenPlan.{OpenPlan}
+use Rattle.line_meanings.specs.declared.Tree.{Tree, ind-Tree, roll-Tree, map-Tree, every_here-Tree}
+use Rattle.line_meanings.specs.declared.Tree.TheOpen.{Tree-F}
+use Rattle.line_meanings.specs.declared.Tree.TheVariants as tree
 use Rattle.history.specs.Answers as told
 use Rattle.history.specs.Acts.{changed}
 use Rattle.history.specs.Lines.{FormError, ChangeError, Change, Build, Line, refused, opening, viewing, joining, reading, writing, beginning, committing, aborting, resizing, resolving}

@@ -4,8 +4,8 @@ use Rattle.std.specs.List.{AllByRecursion}
 use Rattle.std.specs.FinMap as finmap
 use Rattle.serde_json.specs.Data.{Data}
 use Rattle.serde_json.specs.Find.{get}
-use Rattle.answer_text.specs.Text.{answer_text}
-use Rattle.answer_text.specs.declared.answer.Answer.{Answer}
+use Rattle.answer_data.specs.Text.{answer_text}
+use Rattle.answer_data.specs.declared.Answer.{Answer}
 use Rattle.answer_data.specs.Answers.{answer_data}
 use Rattle.line_meanings.specs.Bodies.{answer_of}
 use Rattle.stack_driver.specs.declared.view.View.{View}

@@ -23,3 +23,18 @@ pub use Rattle.line_meanings.specs.Meanings
 pub use Rattle.line_meanings.specs.Openings
 pub use Rattle.serial_runs.specs.Numbered
 pub use Rattle.state_laws.specs.Outline
+pub use Rattle.line_meanings.specs.Form
+pub use Rattle.line_meanings.specs.Lines
+pub use Rattle.line_meanings.specs.Leaves
+pub use Rattle.state_laws.specs.Homes
+pub use Rattle.answer_data.specs.Conditions
+pub use Rattle.answer_data.specs.Answers
+pub use Rattle.answer_data.specs.Causes
+pub use Rattle.answer_data.specs.Members
+pub use Rattle.answer_data.specs.Printable
+pub use Rattle.answer_data.specs.Nested
+pub use Rattle.answer_data.specs.Pieces
+pub use Rattle.answer_data.specs.Text
+pub use Rattle.line_meanings.specs.Bodies
+pub use Rattle.answer_data.specs.Built
+pub use Rattle.line_meanings.specs.Causes as LineCauses

@@ -2,7 +2,7 @@
 use Rattle.std.specs.Prelude.{◌≡◌, ℕ, ◌+◌, List, [], ◌∷◌, ◌++◌, map, take, Option, Some, None, Ok, Err}
 use Rattle.std.specs.List.{AllByRecursion}
 use Rattle.std.specs.FinMap as finmap
-use Rattle.chunk_forms.specs.declared.form.Form.{Form}
+use Rattle.serial_runs.specs.declared.Form.{Form}
 use Rattle.stack_driver.specs.References.{Reference}
 use Rattle.stack_driver.specs.declared.view.View.{View}
 use Rattle.history.specs.Answers as body

@@ -2,7 +2,7 @@
 use Rattle.std.specs.Prelude.{◌≡◌, ◌<◌, ◌^◌, ℕ, ◌+◌, List, [], ◌∷◌, ◌++◌, length, map, All, Option, Some, None, false}
 use Rattle.std.specs.List.{flat_map, AllByRecursion}
 use Rattle.std.specs.FinMap as finmap
-use Rattle.answer_text.specs.Text.{answer_text}
+use Rattle.answer_data.specs.Text.{answer_text}
 use Rattle.answer_data.specs.Answers.{answer_data}
 use Rattle.answer_data.specs.Printable.{IsPrintable}
 use Rattle.cells.specs.Numbers.{IsWord}

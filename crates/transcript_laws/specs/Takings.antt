@@ -1,7 +1,7 @@
 -- Which leaf of an open line takes which of the numbers that its answer prints, and the view over the arrays.
 use Rattle.std.specs.Prelude.{ℕ, ◌-◌, List, [], ◌∷◌, map, take, Bool, Option, Some, None, Result, Ok, Err, is_some, option_and_then, option_map, if◌then◌else◌}
-use Rattle.chunk_forms.specs.Made.{form_made}
-use Rattle.chunk_forms.specs.declared.form.Form.{Form}
+use Rattle.serial_runs.specs.Made.{form_made}
+use Rattle.serial_runs.specs.declared.Form.{Form}
 use Rattle.stack_driver.specs.References.{Reference}
 use Rattle.stack_driver.specs.declared.view.View.{View}
 use Rattle.history.specs.declared.array.ArrayInfo.{ArrayInfo}

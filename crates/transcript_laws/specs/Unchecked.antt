@@ -5,11 +5,11 @@ use Rattle.serde_json.specs.Data.{Data}
 use Rattle.serde_json.specs.Find.{get, as_bool}
 use Rattle.json_forms.specs.Bytes.{data_of}
 use Rattle.json_forms.specs.Members.{has_exactly}
-use Rattle.spec_forms.specs.declared.leaf.SpecLeaf.{SpecLeaf}
-use Rattle.spec_forms.specs.declared.leaf.SpecLeaf.TheVariants.{Zarr, N5, Zarr3, Given}
-use Rattle.line_forms.specs.Form.{Form, opening, viewing, joining, reading, writing, beginning, committing, aborting, resizing, resolving}
-use Rattle.line_forms.specs.Lines.{command_of_line}
-use Rattle.line_parts.specs.declared.error.LineError.{LineError}
+use Rattle.line_meanings.specs.declared.SpecLeaf.{SpecLeaf}
+use Rattle.line_meanings.specs.declared.SpecLeaf.TheVariants.{Zarr, N5, Zarr3, Given}
+use Rattle.line_meanings.specs.Form.{Form, opening, viewing, joining, reading, writing, beginning, committing, aborting, resizing, resolving}
+use Rattle.line_meanings.specs.Lines.{command_of_line}
+use Rattle.line_meanings.specs.declared.LineError.{LineError}
 use Rattle.answer_data.specs.Lines.{has_lf}
 use Rattle.transcript_laws.specs.Transcript.{mount, ScriptLine, lines_of_scripts, Told, AreToldOf}
 

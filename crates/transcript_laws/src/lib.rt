@@ -94,3 +94,9 @@ pub fn outputs_are_yes()
 pub fn stated_commits_are_sound()
     ensures { StatedCommitsAreSound }
 {}
+
+pub use answer_data::{
+    Answer, Body, BuildCause, BuildError, JoinError, MetaWhy, SpecError, Why, build, render,
+};
+pub use line_meanings::{Command, LineError, OpenPlan, SpecLeaf, Tree, joined, read_command};
+pub use state_laws::{array_ref, form_of, given_info, new_info};

@@ -1,10 +1,10 @@
 -- Edges met one after another.
 use Rattle.std.proofs.Common.{◌≡◌, ◌∙◌, suc, ℕ, ◌+◌, ◌<◌, ◌==◌, ◌||◌, Bool, true, false, cond, List, [], ◌∷◌, ◌++◌, length, drop, get_or, refl, sym, ap, arith, ℤ, Option, Some, None, option_to_list}
 use Rattle.std.proofs.Math.Seq.{drop-cons}
-use Rattle.index_intervals.specs.Bounds.{Bounds}
-use Rattle.index_intervals.specs.declared.edge.Ends.{Ends}
-use Rattle.index_intervals.specs.Edges.{preimage}
-use Rattle.index_intervals.specs.Meet.{bounds_met}
+use Rattle.index_transform.specs.Bounds.{Bounds}
+use Rattle.index_transform.specs.declared.Ends.{Ends}
+use Rattle.index_transform.specs.Edges.{preimage}
+use Rattle.index_transform.specs.Meet.{bounds_met}
 use Rattle.index_transform.specs.declared.map.OutMap.{OutMap}
 use Rattle.index_transform.specs.declared.map.OutMap.TheVariants.{Constant, Strided, Indexed}
 use Rattle.transform_composition.specs.Tightening.{gathered_from, preimages, preimages_at}

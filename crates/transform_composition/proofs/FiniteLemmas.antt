@@ -5,8 +5,8 @@ use Rattle.std.proofs.lemmas.Bool.Decides.{nat_tests}
 use Rattle.std.specs.List.{list_all, zip}
 use Rattle.std.specs.Int.RustNames.{int_lt}
 use Rattle.index_transform.specs.Places.{cell_count}
-use Rattle.index_intervals.specs.Bounds.{Bounds, is_index}
-use Rattle.index_intervals.specs.Members.{effective_lo, effective_hi}
+use Rattle.index_transform.specs.Bounds.{Bounds, is_index}
+use Rattle.index_transform.specs.Members.{effective_lo, effective_hi}
 use Rattle.index_transform.specs.declared.map.OutMap.{OutMap}
 use Rattle.index_transform.specs.declared.map.OutMap.TheVariants.{Constant, Strided, Indexed}
 use Rattle.index_transform.specs.Maps.{size_of, is_fixed, fits_dim, fits, are_entries, is_map}

@@ -3,7 +3,7 @@ use Rattle.std.proofs.Common.{◌≡◌, suc, ℕ, ◌+◌, ◌==◌, ◌&&◌, 
 use Rattle.std.proofs.lemmas.Int.{ints}
 use Rattle.std.specs.Int.RustNames.{int_lt}
 use Rattle.std.specs.List.{list_all, zip}
-use Rattle.index_intervals.specs.Bounds.{Bounds, is_index}
+use Rattle.index_transform.specs.Bounds.{Bounds, is_index}
 use Rattle.index_transform.specs.declared.map.OutMap.{OutMap}
 use Rattle.index_transform.specs.declared.map.OutMap.TheVariants.{Constant, Strided, Indexed}
 use Rattle.index_transform.specs.Maps.{is_fixed, fits_dim, fits, are_entries, is_map}

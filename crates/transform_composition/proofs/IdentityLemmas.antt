@@ -4,7 +4,7 @@ use Rattle.std.proofs.Math.IntN.{*ℤ_comm, *ℤ-one, one}
 use Rattle.std.proofs.lemmas.Int.{ints}
 use Rattle.std.proofs.lemmas.Bool.Decides.{nat_tests}
 use Rattle.std.specs.List.{list_all, list_any, zip, position_from}
-use Rattle.index_intervals.specs.Bounds.{Bounds, is_index}
+use Rattle.index_transform.specs.Bounds.{Bounds, is_index}
 use Rattle.index_transform.specs.declared.domain.Domain.{Domain}
 use Rattle.index_transform.specs.declared.map.OutMap.{OutMap}
 use Rattle.index_transform.specs.declared.map.OutMap.TheVariants.{Constant, Strided, Indexed}

@@ -8,7 +8,7 @@ use Rattle.std.proofs.lemmas.Bool.Decides.{Decides-int_eq}
 use Rattle.std.specs.List.{list_all, list_any, zip, position_from}
 use Rattle.std.specs.Ordering.{int_eq}
 use Rattle.index_transform.specs.Places.{cell_count}
-use Rattle.index_intervals.specs.Bounds.{Bounds, is_index}
+use Rattle.index_transform.specs.Bounds.{Bounds, is_index}
 use Rattle.index_transform.specs.declared.map.OutMap.{OutMap}
 use Rattle.index_transform.specs.declared.map.OutMap.TheVariants.{Constant, Strided, Indexed}
 use Rattle.index_transform.specs.Maps.{size_of, is_fixed, fits_dim, fits, are_entries, is_map, is_plain}

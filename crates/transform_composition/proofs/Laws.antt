@@ -19,3 +19,4 @@ pub use Rattle.transform_composition.proofs.FitLemmas.{maps-tight, tight-fixed}
 pub use Rattle.transform_composition.proofs.ValueLemmas.{values-tight}
 -- laws of crates below, given on to those above
 pub use Rattle.index_transform.proofs.Laws.{length-cells_of, list_all-position_from}
+pub use Rattle.index_transform.proofs.Laws.{between_down, between_up, get_or-inside}

@@ -5,12 +5,12 @@ use Rattle.std.proofs.lemmas.List.Elements.{All-from_recursion}
 use Rattle.std.specs.Option.{option_map, ForSome}
 use Rattle.std.specs.Int.RustNames.{int_lt}
 use Rattle.std.specs.List.{All, AllByRecursion, list_all}
-use Rattle.index_intervals.specs.Bounds.{Bounds, AreBounds, IsIndex, is_index, are_bounds, minus_infinity, plus_infinity}
-use Rattle.index_intervals.specs.Edges.{finite_part, lower_edge, upper_edge, is_open, interval_of, preimage, IsBetween}
-use Rattle.index_intervals.specs.Meet.{cross_at, below, met_all}
-use Rattle.index_intervals.specs.declared.edge.Edge.{Edge}
-use Rattle.index_intervals.specs.declared.edge.Ends.{Ends}
-use Rattle.index_intervals.proofs.Laws.{IsIndex-true, AreBounds-true, IsMember-interval_of, IsBetween-met_all, lo_infinite, hi_infinite, same_bounds}
+use Rattle.index_transform.specs.Bounds.{Bounds, AreBounds, IsIndex, is_index, are_bounds, minus_infinity, plus_infinity}
+use Rattle.index_transform.specs.Edges.{finite_part, lower_edge, upper_edge, is_open, interval_of, preimage, IsBetween}
+use Rattle.index_transform.specs.Meet.{cross_at, below, met_all}
+use Rattle.index_transform.specs.declared.Edge.{Edge}
+use Rattle.index_transform.specs.declared.Ends.{Ends}
+use Rattle.index_transform.proofs.Laws.{IsIndex-true, AreBounds-true, IsMember-interval_of, IsBetween-met_all, lo_infinite, hi_infinite, same_bounds}
 use Rattle.index_transform.specs.declared.map.OutMap.{OutMap}
 use Rattle.index_transform.proofs.Laws.{all-at}
 use Rattle.transform_composition.specs.Reading.{point}

@@ -8,12 +8,12 @@ use Rattle.std.specs.Int.{int_max, int_min, is_negative}
 use Rattle.std.specs.Int.RustNames.{int_lt}
 use Rattle.std.specs.List.{AllByRecursion, list_all, list_any, zip, position_from}
 use Rattle.index_transform.proofs.Laws.{both, both_true, second_true}
-use Rattle.index_intervals.specs.Bounds.{Bounds, is_index, minus_infinity, plus_infinity}
-use Rattle.index_intervals.specs.Edges.{lower_edge, upper_edge, is_open, interval_of, preimage}
-use Rattle.index_intervals.specs.Meet.{greater_at, greater_edge, lesser_at, lesser_edge, cross_at, below, uncrossed, bounds_met, met_all}
-use Rattle.index_intervals.specs.declared.edge.Edge.{Edge}
-use Rattle.index_intervals.specs.declared.edge.Ends.{Ends}
-use Rattle.index_intervals.proofs.Laws.{up_at, down_at, beyond_at, before_at}
+use Rattle.index_transform.specs.Bounds.{Bounds, is_index, minus_infinity, plus_infinity}
+use Rattle.index_transform.specs.Edges.{lower_edge, upper_edge, is_open, interval_of, preimage}
+use Rattle.index_transform.specs.Meet.{greater_at, greater_edge, lesser_at, lesser_edge, cross_at, below, uncrossed, bounds_met, met_all}
+use Rattle.index_transform.specs.declared.Edge.{Edge}
+use Rattle.index_transform.specs.declared.Ends.{Ends}
+use Rattle.index_transform.proofs.Laws.{up_at, down_at, beyond_at, before_at}
 use Rattle.index_transform.specs.declared.map.OutMap.{OutMap}
 use Rattle.index_transform.specs.declared.map.OutMap.TheVariants.{Constant, Strided, Indexed}
 use Rattle.index_transform.specs.Maps.{is_plain}

@@ -6,14 +6,14 @@ use Rattle.std.specs.Ordering.{int_eq}
 use Rattle.std.specs.Int.RustNames.{int_lt}
 use Rattle.std.specs.List.{list_all, zip, position_from}
 use Rattle.index_transform.proofs.Laws.{list_all-position_from, get_or-inside}
-use Rattle.index_intervals.specs.Bounds.{Bounds, IsIndex, is_index}
-use Rattle.index_intervals.proofs.Laws.{is_index-true}
-use Rattle.index_intervals.specs.declared.edge.Edge.{Edge}
-use Rattle.index_intervals.specs.declared.edge.Ends.{Ends}
-use Rattle.index_intervals.specs.Meet.{bounds_met, cross, below, met_all}
+use Rattle.index_transform.specs.Bounds.{Bounds, IsIndex, is_index}
+use Rattle.index_transform.proofs.Laws.{is_index-true}
+use Rattle.index_transform.specs.declared.Edge.{Edge}
+use Rattle.index_transform.specs.declared.Ends.{Ends}
+use Rattle.index_transform.specs.Meet.{bounds_met, cross, below, met_all}
 use Rattle.index_transform.specs.declared.map.OutMap.{OutMap}
 use Rattle.index_transform.specs.declared.map.OutMap.TheVariants.{Constant, Strided, Indexed}
-use Rattle.index_intervals.specs.Edges.{finite_part, lower_edge, upper_edge, preimage}
+use Rattle.index_transform.specs.Edges.{finite_part, lower_edge, upper_edge, preimage}
 use Rattle.transform_composition.specs.Tightening.{greater_at, greater_edge, lesser_at, lesser_edge, preimages, is_open, met, takes, tight_lower, tight_upper, gathered_from, passes_at, passes_below, upper_passes, overflows_at, overflows_by, first_overflow_by}
 use Rattle.index_transform.proofs.Laws.{both, both_true}
 

@@ -1,7 +1,7 @@
 -- How the values of composed and of tightened transforms agree with those of their parts.
 use Rattle.std.specs.Prelude.{◌≡◌, ℕ, ◌<◌, ℤ, pos, ◌≤ℤ◌, Bool, false, IsTrue, List, length, slice_index_or, None}
 use Rattle.std.specs.List.{list_all, list_any}
-use Rattle.index_intervals.specs.Bounds.{Bounds}
+use Rattle.index_transform.specs.Bounds.{Bounds}
 use Rattle.index_transform.specs.declared.map.OutMap.{OutMap}
 use Rattle.index_transform.specs.declared.map.OutMap.TheVariants.{Constant, Strided, Indexed}
 use Rattle.index_transform.specs.Cells.{is_finite}

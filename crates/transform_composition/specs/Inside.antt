@@ -2,8 +2,8 @@
 use Rattle.std.specs.Prelude.{ℕ, ℤ, pos, ◌+ℤ◌, ◌*ℤ◌, int_lt, Bool, not, ◌&&◌, ◌||◌, if◌then◌else◌, List, slice_index_or, Option}
 use Rattle.std.specs.Int.{is_negative}
 use Rattle.std.specs.List.{list_all, zip, position_from}
-use Rattle.index_intervals.specs.Bounds.{Bounds, is_index}
-use Rattle.index_intervals.specs.Members.{effective_lo, effective_hi}
+use Rattle.index_transform.specs.Bounds.{Bounds, is_index}
+use Rattle.index_transform.specs.Members.{effective_lo, effective_hi}
 use Rattle.index_transform.specs.declared.map.OutMap.{OutMap}
 use Rattle.index_transform.specs.declared.map.OutMap.TheVariants.{Constant, Strided, Indexed}
 use Rattle.index_transform.specs.Values.{is_effective}

@@ -13,3 +13,4 @@ pub use Rattle.index_transform.specs.Maps
 pub use Rattle.index_transform.specs.Members
 pub use Rattle.index_transform.specs.Transforms
 pub use Rattle.index_transform.specs.Values
+pub use Rattle.index_transform.specs.Walks

@@ -1,12 +1,12 @@
 -- What tightening makes of the bounds of one dimension.
 use Rattle.std.specs.Prelude.{◌≡◌, ℕ, ◌<◌, ℤ, pos, ◌≤ℤ◌, ◌↔◌, IsTrue, true, false, List, [], ◌∷◌, length, slice_index_or, None}
 use Rattle.std.specs.List.{All, list_any}
-use Rattle.index_intervals.specs.Bounds.{Bounds, IsIndex}
-use Rattle.index_intervals.specs.Members.{IsMember}
-use Rattle.index_intervals.specs.Edges.{lower_edge, upper_edge, is_open, preimage, IsBetween}
-use Rattle.index_intervals.specs.Meet.{uncrossed, met_all}
-use Rattle.index_intervals.specs.declared.edge.Edge.{Edge}
-use Rattle.index_intervals.specs.declared.edge.Ends.{Ends}
+use Rattle.index_transform.specs.Bounds.{Bounds, IsIndex}
+use Rattle.index_transform.specs.Members.{IsMember}
+use Rattle.index_transform.specs.Edges.{lower_edge, upper_edge, is_open, preimage, IsBetween}
+use Rattle.index_transform.specs.Meet.{uncrossed, met_all}
+use Rattle.index_transform.specs.declared.Edge.{Edge}
+use Rattle.index_transform.specs.declared.Ends.{Ends}
 use Rattle.index_transform.specs.declared.map.OutMap.{OutMap}
 use Rattle.index_transform.specs.Transforms.{DomainAndMaps}
 use Rattle.index_transform.specs.Values.{value_at, first_outside}

@@ -3,20 +3,20 @@ use Rattle.std.specs.Prelude.{ℕ, ◌+◌, ◌==◌, ℤ, pos, ◌-ℤ◌, Bool
 use Rattle.std.specs.Option.{option_map}
 use Rattle.std.specs.List.{zip, position_from}
 use Rattle.std.specs.Ordering.{int_eq}
-use Rattle.index_intervals.specs.Bounds.{Bounds, is_index}
+use Rattle.index_transform.specs.Bounds.{Bounds, is_index}
 use Rattle.index_transform.specs.declared.map.OutMap.{OutMap}
 use Rattle.index_transform.specs.declared.map.OutMap.TheVariants.{Constant, Strided, Indexed}
-use Rattle.index_intervals.specs.declared.edge.Edge.{Edge}
+use Rattle.index_transform.specs.declared.Edge.{Edge}
 use Rattle.transform_composition.specs.declared.error.ComposeError.{ComposeError}
 use Rattle.transform_composition.specs.declared.error.ComposeError.TheVariants.{Rank, Overflow, Outside}
 use Rattle.index_transform.specs.declared.domain.Domain.{Domain}
 pub use Rattle.index_transform.specs.Transforms.{DomainAndMaps, on_dims}
-use Rattle.index_intervals.specs.Edges.{lower_edge, upper_edge, preimage}
-use Rattle.index_intervals.specs.Meet.{bounds_met, cross, met_all}
-use Rattle.index_intervals.specs.declared.edge.Ends.{Ends}
-pub use Rattle.index_intervals.specs.Bounds.{is_ordered, are_bounds}
-pub use Rattle.index_intervals.specs.Edges.{is_open, interval_of}
-pub use Rattle.index_intervals.specs.Meet.{greater_at, greater_edge, lesser_at, lesser_edge}
+use Rattle.index_transform.specs.Edges.{lower_edge, upper_edge, preimage}
+use Rattle.index_transform.specs.Meet.{bounds_met, cross, met_all}
+use Rattle.index_transform.specs.declared.Ends.{Ends}
+pub use Rattle.index_transform.specs.Bounds.{is_ordered, are_bounds}
+pub use Rattle.index_transform.specs.Edges.{is_open, interval_of}
+pub use Rattle.index_transform.specs.Meet.{greater_at, greater_edge, lesser_at, lesser_edge}
 use Rattle.transform_composition.specs.Inside.{first_outside_by}
 
 -- what the outer intervals are along one dimension, under the strided maps from it; with `preimage` their pre-images

@@ -2,7 +2,7 @@ ghost use Rattle.std.specs.Prelude.{◌≡◌, ◌≢◌, ◌≤◌, ◌<◌, �
 ghost use Rattle.std.specs.List.{list_all, list_any, position_from};
 ghost use Rattle.index_transform.specs.Maps.{is_map};
 ghost use Rattle.transform_composition.specs.Tightening.{on_dims};
-ghost use Rattle.index_intervals.specs.Bounds.{are_bounds};
+ghost use Rattle.index_transform.specs.Bounds.{are_bounds};
 ghost use Rattle.transform_composition.specs.Inside.{first_outside_by};
 ghost use Rattle.transform_composition.specs.Agreeing.{Agrees, GoesInto};
 ghost use Rattle.transform_composition.specs.Meeting.{KeepsComposed};
@@ -13,9 +13,9 @@ ghost use Rattle.transform_composition.specs.Composing.{strided_over, composed_m
 use crate::error::ComposeError;
 use crate::reading::{has_array_along, read_dims, read_entries, sizes_of};
 use crate::tightening::tightened;
-use index_intervals::Interval;
 use index_transform::{
-    Domain, Index, List, MOST_ENTRIES, OutMap, Sizes, Transform, copied_names, count_cells, scaled,
+    Domain, Index, Interval, List, MOST_ENTRIES, OutMap, Sizes, Transform, copied_names,
+    count_cells, scaled,
 };
 use std::alloc::{AllocError, Global};
 

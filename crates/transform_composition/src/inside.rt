@@ -1,13 +1,12 @@
 ghost use Rattle.std.specs.Prelude.{◌≡◌, ◌<◌, not, ◌+ℤ◌, ◌*ℤ◌, length, IsTrue, IfSome};
 ghost use Rattle.std.specs.List.{list_all};
 ghost use Rattle.index_transform.specs.Maps.{is_map};
-ghost use Rattle.index_intervals.specs.Bounds.{is_index};
-ghost use Rattle.index_intervals.specs.Members.{effective_lo, effective_hi};
+ghost use Rattle.index_transform.specs.Bounds.{is_index};
+ghost use Rattle.index_transform.specs.Members.{effective_lo, effective_hi};
 ghost use Rattle.index_transform.specs.Values.{is_effective};
 ghost use Rattle.transform_composition.specs.Inside.{goes_down, end_inside, are_ends_inside, is_inside_by, first_outside_by};
 
-use index_intervals::{INFINITY, Interval, is_index};
-use index_transform::{OutMap, is_effective, scaled};
+use index_transform::{INFINITY, Interval, OutMap, is_effective, is_index, scaled};
 
 // Whether a number is an effective member of the interval.
 fn admits(outer: &Interval, x: i128) -> bool

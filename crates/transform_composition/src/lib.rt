@@ -13,6 +13,7 @@ mod tightening;
 pub use composing::compose;
 pub use error::ComposeError;
 pub use index_transform::{
-    AtError, Domain, Interval, OutMap, Transform, around_all, is_index, look_at_all,
+    AtError, Domain, Interval, OutMap, Transform, TransformError, around_all, copied_maps,
+    copied_names, is_index, look_at_all,
 };
 pub use tightening::tighten;

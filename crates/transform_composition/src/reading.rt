@@ -5,11 +5,10 @@ ghost use Rattle.index_transform.specs.Maps.{size_of, are_entries};
 ghost use Rattle.index_transform.specs.Values.{reaches_dim, entry_index, entry_place, has_value, map_value};
 ghost use Rattle.index_transform.specs.Cells.{is_finite, cells_of};
 ghost use Rattle.transform_composition.specs.Reading.{has_array_along, depends_on, is_read_along, point, read_along, read_dims, entry_over, can_read};
-ghost use Rattle.index_intervals.specs.Bounds.{is_ordered};
+ghost use Rattle.index_transform.specs.Bounds.{is_ordered};
 ghost use Rattle.index_transform.specs.Walks.{IsCell};
 
-use index_intervals::Interval;
-use index_transform::{OutMap, Walk, lower_bounds, size_of};
+use index_transform::{Interval, OutMap, Walk, lower_bounds, size_of};
 use std::alloc::{AllocError, Global};
 
 // Whether the map has an index array that depends on the dimension.

@@ -1,10 +1,10 @@
 ghost use Rattle.std.specs.Prelude.{◌≡◌, ◌≢◌, ◌≤◌, ◌<◌, ◌⊎◌, ◌-ℤ◌, int_lt, if◌then◌else◌, unwrap_or, None, IfOk, IfErr, IfSome, OnOk, Ok, Err, true, pos, ◌+ℤ◌, [], length, List, ℤ, IsTrue, option_to_list};
 ghost use Rattle.std.specs.List.{list_all};
 ghost use Rattle.index_transform.specs.Maps.{is_plain, is_map};
-ghost use Rattle.index_intervals.specs.Bounds.{is_index};
+ghost use Rattle.index_transform.specs.Bounds.{is_index};
 ghost use Rattle.std.specs.Option.{ForSome};
-ghost use Rattle.index_intervals.specs.Edges.{preimage};
-ghost use Rattle.index_intervals.specs.Meet.{cross_at};
+ghost use Rattle.index_transform.specs.Edges.{preimage};
+ghost use Rattle.index_transform.specs.Meet.{cross_at};
 ghost use Rattle.transform_composition.specs.declared.error.ComposeError.{ComposeError};
 ghost use Rattle.transform_composition.specs.Tightening.{tighten_answer, tightened, tight_lower, tight_upper, preimages, preimages_at, met, gathered_from, passes_at, passes_below, upper_passes, overflows_at, overflows_by, first_overflow_by, tight_dims, is_ordered, are_bounds};
 ghost use Rattle.transform_composition.specs.Inside.{first_outside_by};
@@ -16,8 +16,9 @@ ghost use Rattle.transform_composition.specs.Composing.{composed};
 
 use crate::error::ComposeError;
 use crate::inside::first_outside;
-use index_intervals::{Edge, Ends, INFINITY, Interval, interval_of, is_index};
-use index_transform::{Domain, OutMap, Transform};
+use index_transform::{
+    Domain, Edge, Ends, INFINITY, Interval, OutMap, Transform, interval_of, is_index,
+};
 use std::alloc::{AllocError, Global};
 
 /// Tightens the domain to the indices whose output numbers lie in the outer domain. Labels and maps stay.

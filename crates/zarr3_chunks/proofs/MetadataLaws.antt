@@ -9,7 +9,7 @@ use Rattle.meta_forms.specs.Lists.{list_of}
 use Rattle.meta_forms.specs.Members.{object_of}
 use Rattle.meta_forms.specs.Numbers.{natural, integer, whole_number}
 use Rattle.meta_forms.proofs.Laws.{has_float-integer, has_float-naturals}
-use Rattle.cells.specs.Numbers.{number_of}
+use Rattle.chunk_elements.specs.Numbers.{number_of}
 use Rattle.zarr3_chunks.specs.Key.{separator}
 use Rattle.zarr3_chunks.specs.Metadata.{Metadata}
 use Rattle.zarr3_chunks.specs.Written.{named, endian, metadata_data}

@@ -4,10 +4,10 @@ use Rattle.std.specs.Prelude.{option_and_then, is_some, not, ◌&&◌, if◌then
 use Rattle.serde_json.specs.Data.{Data, string}
 use Rattle.serde_json.specs.Find.{get, as_str, as_object}
 use Rattle.serde_json.proofs.OnLiterals.{serde_json_on_literals}
-use Rattle.cells.specs.Bytes.{byte_count}
-use Rattle.cells.specs.Shapes.{IsChunkShape}
-use Rattle.cells.specs.declared.dtype.Dtype.{Dtype}
-use Rattle.cells.proofs.Laws.{dtype_named-dtype_name, then_from}
+use Rattle.chunk_elements.specs.Bytes.{byte_count}
+use Rattle.chunk_elements.specs.Shapes.{IsChunkShape}
+use Rattle.chunk_elements.specs.declared.Dtype.{Dtype}
+use Rattle.chunk_elements.proofs.Laws.{dtype_named-dtype_name, then_from}
 use Rattle.meta_forms.specs.Lists.{list_of, list_items}
 use Rattle.meta_forms.specs.Judged.{text_in, list_len, judged_format, judged_shape, judged_word, judged_chunks, sizes_at}
 use Rattle.meta_forms.specs.declared.error.MetaError.TheVariants.{NotJson}

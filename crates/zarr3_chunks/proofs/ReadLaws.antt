@@ -5,11 +5,11 @@ use Rattle.std.specs.Str.{bytes_eq}
 use Rattle.std.proofs.lemmas.Slice.Eq.{bytes_eq-Decides}
 use Rattle.serde_json.specs.Data.{Data, Items, null, boolean, number, string, array, object, no_items, item}
 use Rattle.serde_json.specs.Find.{get, as_object}
-use Rattle.cells.specs.Bytes.{byte_count}
-use Rattle.cells.specs.DtypeNames.{dtype_name, dtype_named}
-use Rattle.cells.specs.Shapes.{IsChunkShape}
-use Rattle.cells.specs.declared.dtype.Dtype.{Dtype}
-use Rattle.cells.proofs.Laws.{dtype_name-dtype_named, ok_from_then, then_from, else_from, true_or_false}
+use Rattle.chunk_elements.specs.Bytes.{byte_count}
+use Rattle.chunk_elements.specs.DtypeNames.{dtype_name, dtype_named}
+use Rattle.chunk_elements.specs.Shapes.{IsChunkShape}
+use Rattle.chunk_elements.specs.declared.Dtype.{Dtype}
+use Rattle.chunk_elements.proofs.Laws.{dtype_name-dtype_named, ok_from_then, then_from, else_from, true_or_false}
 use Rattle.meta_forms.specs.Bytes.{data_of}
 use Rattle.meta_forms.specs.Numbers.{natural}
 use Rattle.meta_forms.specs.Lists.{list_of, list_items, data_list}

@@ -1,9 +1,9 @@
 -- Which metadata bytes are.
 use Rattle.std.specs.Prelude.{◌≡◌, ◌⊎◌, ℕ, pos, List, [], ◌∷◌, Bool, true, false, map, codes, Some, None, is_some, option_and_then}
-use Rattle.cells.specs.Bytes.{byte_count}
-use Rattle.cells.specs.DtypeNames.{dtype_name}
-use Rattle.cells.specs.Numbers.{number_of}
-use Rattle.cells.specs.declared.dtype.Dtype.{Dtype}
+use Rattle.chunk_elements.specs.Bytes.{byte_count}
+use Rattle.chunk_elements.specs.DtypeNames.{dtype_name}
+use Rattle.chunk_elements.specs.Numbers.{number_of}
+use Rattle.chunk_elements.specs.declared.Dtype.{Dtype}
 use Rattle.serde_json.specs.Data.{Data, string, boolean}
 use Rattle.serde_json.specs.Find.{get, as_object}
 use Rattle.meta_forms.specs.Bytes.{data_of}

@@ -1,9 +1,9 @@
 -- What the metadata of an array says, and its rules.
 use Rattle.std.specs.Prelude.{◌≡◌, ℕ, Bool, false, List, length}
-use Rattle.cells.specs.Bytes.{byte_count}
-use Rattle.cells.specs.Numbers.{IsWord}
-use Rattle.cells.specs.Shapes.{IsShape, IsChunkShape}
-use Rattle.cells.specs.declared.dtype.Dtype.{Dtype}
+use Rattle.chunk_elements.specs.Bytes.{byte_count}
+use Rattle.chunk_elements.specs.Numbers.{IsWord}
+use Rattle.chunk_elements.specs.Shapes.{IsShape, IsChunkShape}
+use Rattle.chunk_elements.specs.declared.Dtype.{Dtype}
 
 -- an array's shape and its chunks' shape in cells, what an element is, and how elements and keys are written: `big` for the
 -- highest byte first, `fill` the word of a cell that is in no chunk, `dot` for "." in keys and not "/"

@@ -4,9 +4,9 @@ use Rattle.std.specs.List.{list_all}
 use Rattle.std.specs.Str.{bytes_eq}
 use Rattle.serde_json.specs.Data.{Data}
 use Rattle.serde_json.specs.Find.{get, as_bool, as_object}
-use Rattle.cells.specs.Bytes.{byte_count}
-use Rattle.cells.specs.DtypeNames.{dtype_named}
-use Rattle.cells.specs.declared.dtype.Dtype.{Dtype}
+use Rattle.chunk_elements.specs.Bytes.{byte_count}
+use Rattle.chunk_elements.specs.DtypeNames.{dtype_named}
+use Rattle.chunk_elements.specs.declared.Dtype.{Dtype}
 use Rattle.meta_forms.specs.Bytes.{data_of}
 use Rattle.meta_forms.specs.Lists.{list_items}
 use Rattle.meta_forms.specs.Members.{is_among, least_name, member_names}

@@ -1,7 +1,7 @@
 -- The written form of metadata.
 use Rattle.std.specs.Prelude.{ℕ, Bool, List, [], ◌∷◌, map, codes, if◌then◌else◌}
-use Rattle.cells.specs.DtypeNames.{dtype_name}
-use Rattle.cells.specs.Numbers.{number_of}
+use Rattle.chunk_elements.specs.DtypeNames.{dtype_name}
+use Rattle.chunk_elements.specs.Numbers.{number_of}
 use Rattle.serde_json.specs.Data.{Data, string}
 use Rattle.meta_forms.specs.Numbers.{natural, integer}
 use Rattle.meta_forms.specs.Lists.{list_of}

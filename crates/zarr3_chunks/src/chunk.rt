@@ -1,14 +1,13 @@
 ghost use Rattle.std.specs.Prelude.{◌≡◌, ◌≢◌, ◌↔◌, ◌<◌, ◌≤◌, ◌^◌, ℕ, Err, IfOk, IfErr, length, slice_index};
-ghost use Rattle.cells.specs.Numbers.{IsWord};
-ghost use Rattle.cells.specs.Places.{cell_count, c_place};
+ghost use Rattle.chunk_elements.specs.Numbers.{IsWord};
+ghost use Rattle.chunk_elements.specs.Places.{cell_count, c_place};
 ghost use Rattle.chunk_elements.specs.Chunk.{word_at};
 ghost use Rattle.chunk_elements.specs.declared.error.ChunkError.{ChunkError};
 ghost use Rattle.chunk_elements.specs.declared.error.ChunkError.TheVariants as error;
 ghost use Rattle.zarr3_chunks.specs.Chunk.{SpellsChunk, chunk_len};
 
 use crate::metadata::Zarr3Meta;
-use cells::{Dense, MOST_CHUNK_CELLS, Sizes, count_cells};
-use chunk_elements::{ChunkError, bytes_of, words_of};
+use chunk_elements::{ChunkError, Dense, MOST_CHUNK_CELLS, Sizes, bytes_of, count_cells, words_of};
 use std::alloc::{AllocError, Global};
 
 /// The numbers that a chunk's bytes spell: the elements in C order in the stated byte order, and nothing else.

@@ -4,14 +4,14 @@ ghost use Rattle.std.specs.BTreeMap.{IsOrdered, keys};
 ghost use Rattle.std.specs.List.{list_all};
 ghost use Rattle.serde_json.specs.Find.{get, as_bool};
 ghost use Rattle.serde_json.specs.View.{view};
-ghost use Rattle.cells.specs.Bytes.{byte_count};
+ghost use Rattle.chunk_elements.specs.Bytes.{byte_count};
 ghost use Rattle.meta_forms.specs.Lists.{list_items};
 ghost use Rattle.meta_forms.specs.Members.{is_among};
 ghost use Rattle.meta_forms.specs.Judged.{text_in, is_there, is_object_at, list_len_at};
 ghost use Rattle.zarr3_chunks.specs.Described.{known_members};
 ghost use Rattle.zarr3_chunks.specs.Read.{judged_node, supported, judged_dtype, grid_sizes, judged_dot, dot_in, judged_keys, is_byte, unsaid, judged_endian, endian_in, sole_codec, are_named, judged_codecs, judged_transformers, says_no, is_passed, unread_member};
 
-use cells::Dtype;
+use chunk_elements::Dtype;
 use meta_forms::{
     Fault, is_object_at, is_there, judged_len, list_items, list_len_at, sizes_at, text_in,
 };

@@ -1,4 +1,4 @@
-use cells::{Dtype, Sizes};
+use chunk_elements::{Dtype, Sizes};
 use std::marker::Model;
 
 /// The metadata of an array.

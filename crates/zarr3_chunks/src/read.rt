@@ -2,7 +2,7 @@
 ghost use Rattle.std.specs.Prelude.{◌≡◌, ◌≢◌, Some, Ok, Err, IfOk, IfErr, OnOk, codes, false, length};
 ghost use Rattle.serde_json.specs.Find.{get};
 ghost use Rattle.serde_json.specs.View.{view};
-ghost use Rattle.cells.specs.Shapes.{IsChunkShape};
+ghost use Rattle.chunk_elements.specs.Shapes.{IsChunkShape};
 ghost use Rattle.meta_forms.specs.Faults.{named};
 ghost use Rattle.meta_forms.specs.Judged.{text_in};
 ghost use Rattle.meta_forms.specs.declared.error.MetaError.{MetaError};
@@ -14,7 +14,7 @@ use crate::members::{
     unread_member,
 };
 use crate::metadata::Zarr3Meta;
-use cells::Sizes;
+use chunk_elements::Sizes;
 use meta_forms::{
     Fault, MetaError, ParseError, checked_chunks, checked_shape, fault_of, judged_format,
     judged_word, named, parse, sizes_at, text_in, whole_at,

@@ -3,7 +3,7 @@ ghost use Rattle.std.specs.Prelude.{◌≡◌, [], ◌∷◌, Ok, IfOk, codes, m
 ghost use Rattle.serde_json.specs.Data.{string};
 ghost use Rattle.serde_json.specs.View.{view};
 ghost use Rattle.serde_json.specs.Written.{compact_text};
-ghost use Rattle.cells.specs.Numbers.{number_of};
+ghost use Rattle.chunk_elements.specs.Numbers.{number_of};
 ghost use Rattle.meta_forms.specs.Lists.{list_of};
 ghost use Rattle.meta_forms.specs.Numbers.{integer, natural};
 ghost use Rattle.zarr3_chunks.specs.Described.{SpellsMetadata};
@@ -13,7 +13,7 @@ ghost use Rattle.zarr3_chunks.specs.Written.{named, endian, metadata_data};
 
 use crate::key::separator;
 use crate::metadata::Zarr3Meta;
-use cells::Dtype;
+use chunk_elements::Dtype;
 use meta_forms::{compact, list_from_u64s};
 use serde_json::{Map, Value, put};
 use std::alloc::{AllocError, Global};

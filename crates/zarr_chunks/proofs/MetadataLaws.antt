@@ -7,8 +7,8 @@ use Rattle.serde_json.specs.Written.{has_float}
 use Rattle.serde_json.proofs.OnLiterals.{serde_json_on_literals}
 use Rattle.meta_forms.specs.Numbers.{natural, integer, whole_number}
 use Rattle.meta_forms.proofs.Laws.{has_float-integer, has_float-naturals}
-use Rattle.cells.specs.Numbers.{number_of}
-use Rattle.cells.specs.declared.dtype.Dtype.{Dtype}
+use Rattle.chunk_elements.specs.Numbers.{number_of}
+use Rattle.chunk_elements.specs.declared.Dtype.{Dtype}
 use Rattle.zarr_chunks.specs.Metadata.{Metadata}
 use Rattle.zarr_chunks.specs.Written.{fill_data, metadata_data, byte_order, dtype_text}
 use Rattle.zarr_chunks.specs.Described.{Describes, IsFillMember}

@@ -4,12 +4,12 @@ use Rattle.std.specs.Prelude.{option_and_then, is_some}
 use Rattle.std.specs.Option.{ForSome}
 use Rattle.serde_json.specs.Data.{Data, null, boolean, number, string, array, object}
 use Rattle.serde_json.specs.Find.{get, as_str, as_null, as_object}
-use Rattle.cells.specs.Bytes.{byte_count}
-use Rattle.cells.specs.Numbers.{IsWord}
-use Rattle.cells.specs.declared.dtype.Dtype.{Dtype}
-use Rattle.cells.specs.declared.order.Order.{Order}
-use Rattle.cells.specs.declared.order.Order.TheVariants.{C, F}
-use Rattle.cells.proofs.Laws.{ok_from_then, then_from}
+use Rattle.chunk_elements.specs.Bytes.{byte_count}
+use Rattle.chunk_elements.specs.Numbers.{IsWord}
+use Rattle.chunk_elements.specs.declared.Dtype.{Dtype}
+use Rattle.chunk_elements.specs.declared.Order.{Order}
+use Rattle.chunk_elements.specs.declared.Order.TheVariants.{C, F}
+use Rattle.chunk_elements.proofs.Laws.{ok_from_then, then_from}
 use Rattle.meta_forms.specs.Bytes.{data_of}
 use Rattle.meta_forms.specs.Numbers.{whole_number}
 use Rattle.meta_forms.specs.Lists.{list_of}

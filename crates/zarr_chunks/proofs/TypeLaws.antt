@@ -2,9 +2,9 @@
 use Rattle.std.proofs.Common.{◌≡◌, ◌⊎◌, inl, inr, ℕ, List, [], ◌∷◌, Bool, true, false, cond, Option, Some, refl, sym, ap, subst, ◌∙◌, arith}
 use Rattle.std.specs.Str.{bytes_eq}
 use Rattle.std.proofs.lemmas.Slice.Eq.{bytes_eq-Decides}
-use Rattle.cells.specs.Bytes.{byte_count}
-use Rattle.cells.specs.declared.dtype.Dtype.{Dtype}
-use Rattle.cells.specs.declared.dtype.Dtype.TheVariants.{I8, U8, I16, U16, I32, U32, I64, U64}
+use Rattle.chunk_elements.specs.Bytes.{byte_count}
+use Rattle.chunk_elements.specs.declared.Dtype.{Dtype}
+use Rattle.chunk_elements.specs.declared.Dtype.TheVariants.{I8, U8, I16, U16, I32, U32, I64, U64}
 use Rattle.zarr_chunks.specs.Described.{NamesType}
 use Rattle.zarr_chunks.specs.Written.{byte_order, type_name}
 use Rattle.zarr_chunks.specs.Read.{of_type, written_types, beside, type_named}

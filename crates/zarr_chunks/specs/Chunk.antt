@@ -2,7 +2,7 @@
 use Rattle.std.specs.Prelude.{ℕ, List}
 use Rattle.chunk_elements.specs.Chunk as chunk
 use Rattle.zarr_chunks.specs.Metadata.{Metadata}
-pub use Rattle.cells.specs.Elements.{element_bytes, word_at}
+pub use Rattle.chunk_elements.specs.Elements.{element_bytes, word_at}
 
 -- how the elements of an array's chunks lie
 abbrev pub layout_of : Metadata → chunk.Layout

@@ -1,8 +1,8 @@
 -- Which metadata bytes are.
 use Rattle.std.specs.Prelude.{◌≡◌, ◌⊎◌, ℕ, pos, List, [], ◌∷◌, Bool, false, map, codes, Option, Some, None, option_and_then}
-use Rattle.cells.specs.Bytes.{byte_count}
-use Rattle.cells.specs.Numbers.{number_of}
-use Rattle.cells.specs.declared.dtype.Dtype.{Dtype}
+use Rattle.chunk_elements.specs.Bytes.{byte_count}
+use Rattle.chunk_elements.specs.Numbers.{number_of}
+use Rattle.chunk_elements.specs.declared.Dtype.{Dtype}
 use Rattle.serde_json.specs.Data.{Data, null, string}
 use Rattle.serde_json.specs.Find.{get}
 use Rattle.meta_forms.specs.Bytes.{data_of}

@@ -3,10 +3,10 @@ use Rattle.std.specs.Prelude.{ℕ, ℤ, List, [], ◌∷◌, length, codes, Bool
 use Rattle.std.specs.Str.{bytes_eq}
 use Rattle.serde_json.specs.Data.{Data}
 use Rattle.serde_json.specs.Find.{as_object}
-use Rattle.cells.specs.declared.dtype.Dtype.{Dtype}
-use Rattle.cells.specs.declared.dtype.Dtype.TheVariants.{I8, U8, I16, U16, I32, U32, I64, U64}
-use Rattle.cells.specs.declared.order.Order.{Order}
-use Rattle.cells.specs.declared.order.Order.TheVariants.{C, F}
+use Rattle.chunk_elements.specs.declared.Dtype.{Dtype}
+use Rattle.chunk_elements.specs.declared.Dtype.TheVariants.{I8, U8, I16, U16, I32, U32, I64, U64}
+use Rattle.chunk_elements.specs.declared.Order.{Order}
+use Rattle.chunk_elements.specs.declared.Order.TheVariants.{C, F}
 use Rattle.meta_forms.specs.Bytes.{data_of}
 use Rattle.meta_forms.specs.Faults.{named, ◌>>=◌}
 use Rattle.meta_forms.specs.Judged.{text_in, whole_at, sizes_at, is_there, is_null_at, is_object_at, list_len_at, judged_len, judged_format, judged_shape, judged_chunks, judged_word}

@@ -1,11 +1,11 @@
 -- The written form of metadata.
 use Rattle.std.specs.Prelude.{ℕ, List, [], ◌∷◌, Bool, map, codes, Option, Some, None, ◌==◌, if◌then◌else◌}
-use Rattle.cells.specs.Bytes.{byte_count}
-use Rattle.cells.specs.Numbers.{number_of}
-use Rattle.cells.specs.declared.dtype.Dtype.{Dtype}
-use Rattle.cells.specs.declared.dtype.Dtype.TheVariants.{I8, U8, I16, U16, I32, U32, I64, U64}
-use Rattle.cells.specs.declared.order.Order.{Order}
-use Rattle.cells.specs.declared.order.Order.TheVariants.{C, F}
+use Rattle.chunk_elements.specs.Bytes.{byte_count}
+use Rattle.chunk_elements.specs.Numbers.{number_of}
+use Rattle.chunk_elements.specs.declared.Dtype.{Dtype}
+use Rattle.chunk_elements.specs.declared.Dtype.TheVariants.{I8, U8, I16, U16, I32, U32, I64, U64}
+use Rattle.chunk_elements.specs.declared.Order.{Order}
+use Rattle.chunk_elements.specs.declared.Order.TheVariants.{C, F}
 use Rattle.serde_json.specs.Data.{Data, null, string}
 use Rattle.meta_forms.specs.Numbers.{natural, integer}
 use Rattle.meta_forms.specs.Lists.{list_of}

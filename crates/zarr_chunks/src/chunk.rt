@@ -1,14 +1,16 @@
 ghost use Rattle.std.specs.Prelude.{◌≡◌, ◌≢◌, ◌↔◌, ◌*◌, ◌<◌, ◌≤◌, ◌^◌, ℕ, IfOk, IfErr, false, length, slice_index};
-ghost use Rattle.cells.specs.Numbers.{IsWord};
-ghost use Rattle.cells.specs.declared.order.Order.TheVariants as ordering;
-ghost use Rattle.cells.specs.Places.{cell_count, c_place};
-ghost use Rattle.cells.specs.Shapes.{IsChunkShape};
+ghost use Rattle.chunk_elements.specs.Numbers.{IsWord};
+ghost use Rattle.chunk_elements.specs.declared.Order.TheVariants as ordering;
+ghost use Rattle.chunk_elements.specs.Places.{cell_count, c_place};
+ghost use Rattle.chunk_elements.specs.Shapes.{IsChunkShape};
 ghost use Rattle.chunk_elements.specs.Blocks.{StoresWords};
 ghost use Rattle.zarr_chunks.specs.Chunk.{SpellsChunk, chunk_len, word_at};
 
 use crate::metadata::ZarrMeta;
-use cells::{Dense, Dtype, MOST_CHUNK_CELLS, Order, Sizes, count_cells};
-use chunk_elements::{ChunkError, bytes_of, put_block, words_of, words_of_block};
+use chunk_elements::{
+    ChunkError, Dense, Dtype, MOST_CHUNK_CELLS, Order, Sizes, bytes_of, count_cells, put_block,
+    words_of, words_of_block,
+};
 use std::alloc::{AllocError, Global};
 
 /// The numbers that a chunk's bytes spell: the elements in the stated order and byte order, and nothing else.

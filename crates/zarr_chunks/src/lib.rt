@@ -12,9 +12,11 @@ mod metadata;
 mod read;
 mod write;
 
-pub use cells::{is_chunk_shape, is_shape};
 pub use chunk::{decode, encode};
-pub use chunk_elements::ChunkError;
+pub use chunk_elements::{
+    ChunkError, Dense, Dtype, List, MOST_CHUNK_CELLS, Order, Sizes, count_cells, is_chunk_shape,
+    is_shape,
+};
 pub use key::key_of;
 pub use members::{
     ElementType, judged_compressor, judged_fill, judged_filters, judged_order, judged_separator,

@@ -2,12 +2,12 @@
 ghost use Rattle.std.specs.Prelude.{◌≡◌, Some, IfOk, codes, false, is_some};
 ghost use Rattle.std.specs.Option.{ForSome};
 ghost use Rattle.serde_json.specs.View.{view};
-ghost use Rattle.cells.specs.Bytes.{byte_count};
-ghost use Rattle.cells.specs.Numbers.{IsWord};
+ghost use Rattle.chunk_elements.specs.Bytes.{byte_count};
+ghost use Rattle.chunk_elements.specs.Numbers.{IsWord};
 ghost use Rattle.meta_forms.specs.Judged.{text_in, whole_at, is_there, is_null_at, is_object_at, list_len_at};
 ghost use Rattle.zarr_chunks.specs.Read.{type_named, supported, judged_type, judged_compressor, filled, judged_fill, order_named, judged_order, judged_filters, separator_named, judged_separator};
 
-use cells::{Dtype, Order};
+use chunk_elements::{Dtype, Order};
 use meta_forms::{
     Fault, is_null_at, is_object_at, is_there, judged_len, judged_word, list_len_at, text_in,
     whole_at,

@@ -1,4 +1,4 @@
-use cells::{Dtype, Order, Sizes};
+use chunk_elements::{Dtype, Order, Sizes};
 use std::marker::Model;
 
 /// The metadata of an array: what stands in its `.zarray`.

@@ -2,8 +2,8 @@
 ghost use Rattle.std.specs.Prelude.{◌≡◌, ◌≢◌, Some, Ok, Err, IfOk, IfErr, false};
 ghost use Rattle.std.specs.Option.{ForSome};
 ghost use Rattle.serde_json.specs.View.{view};
-ghost use Rattle.cells.specs.Bytes.{byte_count};
-ghost use Rattle.cells.specs.Numbers.{IsWord};
+ghost use Rattle.chunk_elements.specs.Bytes.{byte_count};
+ghost use Rattle.chunk_elements.specs.Numbers.{IsWord};
 ghost use Rattle.meta_forms.specs.Judged.{whole_at};
 ghost use Rattle.meta_forms.specs.declared.error.MetaError.{MetaError};
 ghost use Rattle.zarr_chunks.specs.Described.{SpellsMetadata};
@@ -13,7 +13,7 @@ use crate::members::{
     judged_compressor, judged_fill, judged_filters, judged_order, judged_separator, judged_type,
 };
 use crate::metadata::ZarrMeta;
-use cells::{Dtype, Order, Sizes};
+use chunk_elements::{Dtype, Order, Sizes};
 use meta_forms::{
     MetaError, ParseError, checked_chunks, checked_shape, judged_format, named, parse, sizes_at,
     whole_at,

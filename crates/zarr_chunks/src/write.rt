@@ -2,7 +2,7 @@
 ghost use Rattle.std.specs.Prelude.{◌≡◌, [], ◌∷◌, Ok, IfOk};
 ghost use Rattle.serde_json.specs.View.{view};
 ghost use Rattle.serde_json.specs.Written.{compact_text};
-ghost use Rattle.cells.specs.Numbers.{IsWord};
+ghost use Rattle.chunk_elements.specs.Numbers.{IsWord};
 ghost use Rattle.zarr_chunks.specs.Described.{SpellsMetadata};
 ghost use Rattle.zarr_chunks.specs.Key.{separator};
 ghost use Rattle.zarr_chunks.specs.Read.{metadata_of};
@@ -10,7 +10,7 @@ ghost use Rattle.zarr_chunks.specs.Written.{dtype_text, fill_data, order_text, m
 
 use crate::key::separator;
 use crate::metadata::ZarrMeta;
-use cells::{Dtype, Order};
+use chunk_elements::{Dtype, Order};
 use meta_forms::{compact, list_from_u64s};
 use serde_json::{Map, Value, put};
 use std::alloc::{AllocError, Global};

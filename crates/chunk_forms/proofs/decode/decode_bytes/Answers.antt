@@ -1,7 +1,7 @@
 use Rattle.std.proofs.Common.{rules, subst}
 use Rattle.std.specs.Result.{IfOk}
 use Rattle.std.proofs.lemmas.Result.{IfOk-weaker}
-use Rattle.cells.specs.Elements.{word_at}
+use Rattle.zarr_chunks.specs.Elements.{word_at}
 use Rattle.n5_blocks.specs.Metadata.{IsMetadata}
 use Rattle.chunk_forms.specs.Grammar.{SpellsChunk}
 use Rattle.chunk_forms.proofs.Laws.{in_zarr, in_zarr3, in_n5}

@@ -1,7 +1,7 @@
 use Rattle.std.proofs.Common.{ap, sym, subst, ◌∙◌}
-use Rattle.cells.specs.Dense.{DenseCells}
-use Rattle.cells.specs.Elements.{word_at}
-use Rattle.cells.specs.Places.{IsInside}
+use Rattle.zarr_chunks.specs.Dense.{DenseCells}
+use Rattle.zarr_chunks.specs.Elements.{word_at}
+use Rattle.zarr_chunks.specs.Places.{IsInside}
 use Rattle.chunk_forms.proofs.Laws.{filled_word}
 use Rattle.chunk_forms.proofs.decode.filled.Goals as goal
 

@@ -4,7 +4,7 @@ use Rattle.std.specs.List.{enumerate_from}
 use Rattle.std.specs.Result.{result_err}
 use Rattle.index_intervals.specs.Bounds.{Bounds}
 use Rattle.transform_composition.specs.Reading.{point}
-use Rattle.index_transform.proofs.Laws.{get_or-inside}
+use Rattle.transform_composition.proofs.Laws.{get_or-inside}
 use Rattle.step_forms.specs.declared.act.Act.{Act}
 use Rattle.dim_changes.specs.declared.cause.Cause.{Cause}
 use Rattle.dim_changes.specs.declared.cut.Cut.{Cut}

@@ -1,6 +1,6 @@
 use Rattle.std.proofs.Common.{◌∙◌, sym, ap, subst}
-use Rattle.index_transform.specs.declared.domain.Domain.{Domain}
-use Rattle.index_transform.specs.Transforms.{KeepsRules}
+use Rattle.transform_composition.specs.declared.Domain.{Domain}
+use Rattle.transform_composition.specs.Transforms.{KeepsRules}
 use Rattle.dim_changes.proofs.CutViews.{emptied_view-made, IsTransform-cut}
 use Rattle.dim_changes.proofs.RangeLaws.{AreBounds-each}
 use Rattle.dim_changes.proofs.CutOver.{composed-emptied, fault-refilled}

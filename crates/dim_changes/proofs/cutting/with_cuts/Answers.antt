@@ -1,6 +1,6 @@
 use Rattle.std.proofs.Common.{◌∙◌, List, sym, ap}
 use Rattle.index_intervals.specs.Bounds.{Bounds}
-use Rattle.index_transform.specs.declared.domain.Domain.{Domain}
+use Rattle.transform_composition.specs.declared.Domain.{Domain}
 use Rattle.dim_changes.specs.Causes.{first_cause, over}
 use Rattle.dim_changes.specs.CutViews.{cut_causes, cut_view, cut_answer}
 use Rattle.dim_changes.proofs.CutViews.{cut_answer-over}

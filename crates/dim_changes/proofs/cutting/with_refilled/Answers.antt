@@ -1,9 +1,9 @@
 use Rattle.std.proofs.Common.{◌≡◌, ◌∙◌, ℕ, List, Ok, length, sym, ap, subst, true}
 use Rattle.std.specs.List.{list_all}
 use Rattle.index_intervals.specs.Bounds.{Bounds}
-use Rattle.index_transform.specs.declared.domain.Domain.{Domain}
-use Rattle.index_transform.specs.Maps.{is_map}
-use Rattle.index_transform.specs.Transforms.{DomainAndMaps, on_dims}
+use Rattle.transform_composition.specs.declared.Domain.{Domain}
+use Rattle.transform_composition.specs.Maps.{is_map}
+use Rattle.transform_composition.specs.Transforms.{DomainAndMaps, on_dims}
 use Rattle.step_forms.specs.declared.act.Act.{Act}
 use Rattle.dim_changes.specs.Causes.{Gives, over}
 use Rattle.dim_changes.specs.CutViews.{cut_view}

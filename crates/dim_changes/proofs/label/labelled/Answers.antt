@@ -1,5 +1,5 @@
 use Rattle.std.proofs.Common.{rules, ◌∙◌, ap, length}
-use Rattle.index_transform.specs.declared.domain.Domain.{Domain}
+use Rattle.transform_composition.specs.declared.Domain.{Domain}
 use Rattle.dim_changes.specs.Marks.{new_label}
 use Rattle.dim_changes.proofs.LabelledLaws.{ranks_same, length_new}
 use Rattle.dim_changes.proofs.label.labelled.Goals as goal

@@ -1,5 +1,5 @@
 use Rattle.std.proofs.Common.{◌≡◌, subst, rules, false, ◌&&◌, Ok}
-use Rattle.index_transform.specs.Transforms.{DomainAndMaps, KeepsRules}
+use Rattle.transform_composition.specs.Transforms.{DomainAndMaps, KeepsRules}
 use Rattle.dim_changes.specs.Marks.{with_marks, makes_implicit, has_array_on, mark_answer}
 use Rattle.dim_changes.proofs.MarkLemmas.{marks_kept, marks_values}
 use Rattle.dim_changes.proofs.mark.with_marks.Goals as goal

@@ -1,7 +1,7 @@
 use Rattle.std.proofs.Common.{◌∙◌, sym, subst, IfOk}
 use Rattle.transform_composition.specs.Composing.{composed}
 use Rattle.transform_composition.specs.Agreeing.{Agrees}
-use Rattle.index_transform.specs.Transforms.{DomainAndMaps}
+use Rattle.transform_composition.specs.Transforms.{DomainAndMaps}
 use Rattle.dim_changes.specs.Causes.{or_cause, Gives}
 use Rattle.dim_changes.proofs.StepLemmas.{made-same, made-Err}
 use Rattle.dim_changes.proofs.stepping.agreeing.Goals as goal

@@ -2,8 +2,8 @@ use Rattle.std.proofs.Common.{◌∷◌, [], sym, subst, refl, arith}
 use Rattle.std.specs.Prelude.{codes}
 use Rattle.serde_json.specs.Data.{string}
 use Rattle.json_forms.specs.Numbers.{natural}
-use Rattle.answer_data.specs.Causes.{step_members, compose_members, build_members, join_members, meta_members, chunk_members}
-use Rattle.answer_data.specs.Members.{indices_data}
+use Rattle.transcript_cut.specs.Causes.{step_members, compose_members, build_members, join_members, meta_members, chunk_members}
+use Rattle.transcript_cut.specs.Members.{indices_data}
 use Rattle.line_fits.specs.ReadBack.{ReadsBack}
 use Rattle.line_fits.proofs.Plain.{outer, inner, object_outer, natural_plain, text_plain, true_plain, dtype_plain}
 use Rattle.line_fits.proofs.ReadBack.{bad_spec_back, body_back, store_failed_back, values_back}

@@ -1,7 +1,7 @@
 use Rattle.std.proofs.Common.{sym, subst, refl, arith}
 use Rattle.std.specs.Prelude.{codes}
 use Rattle.std.specs.List.{AllByRecursion}
-use Rattle.answer_data.specs.Causes.{meta_members}
+use Rattle.transcript_cut.specs.Causes.{meta_members}
 use Rattle.line_fits.specs.Plain.{IsPlainMember}
 use Rattle.line_fits.proofs.Plain.{inner, text_plain, closed_plain}
 use Rattle.line_fits.proofs.causes.look_at_meta.Goals as goal

@@ -1,7 +1,7 @@
 use Rattle.std.proofs.Common.{sym, subst, refl, arith, rules, FitsSigned, w64}
 use Rattle.std.specs.Prelude.{codes}
 use Rattle.std.specs.List.{AllByRecursion}
-use Rattle.answer_data.specs.Causes.{step_members}
+use Rattle.transcript_cut.specs.Causes.{step_members}
 use Rattle.line_fits.specs.Plain.{IsPlainMember}
 use Rattle.line_fits.proofs.Plain.{cause_plain, inner, bound_plain, whole_of}
 use Rattle.line_fits.proofs.causes.look_at_step.Goals as goal

@@ -1,8 +1,8 @@
 use Rattle.std.proofs.Common.{◌≡◌, ◌∙◌, ◌+◌, ◌-◌, [], None, ap, sym, arith}
-use Rattle.answer_data.specs.Answers.{answer_data}
-use Rattle.answer_text.specs.Text.{answer_text}
+use Rattle.transcript_cut.specs.Answers.{answer_data}
+use Rattle.transcript_cut.specs.Text.{answer_text}
 use Rattle.history.specs.Answers as old
-use Rattle.transcript_laws.specs.Fitting.{printed_at}
+use Rattle.transcript_cut.specs.Fitting.{printed_at}
 use Rattle.line_fits.proofs.OneAnswer.{failure_is}
 use Rattle.line_fits.proofs.told.failed_at.Goals as goal
 

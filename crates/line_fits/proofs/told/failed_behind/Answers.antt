@@ -1,6 +1,6 @@
 use Rattle.std.proofs.Common.{◌∙◌, ap}
 use Rattle.std.proofs.lemmas.Result.{IfOk-weaker}
-use Rattle.transcript_laws.specs.Numbers.{single}
+use Rattle.transcript_cut.specs.ToldNumbers.{single}
 use Rattle.line_fits.proofs.OneAnswer.{no_failure}
 use Rattle.line_fits.proofs.told.failed_behind.Goals as goal
 

@@ -1,10 +1,10 @@
 use Rattle.std.proofs.Common.{◌≡◌, ◌∙◌, List, ℕ, None, subst}
 use Rattle.std.specs.Prelude.{◌↔◌, IsTrue}
 use Rattle.std.proofs.lemmas.Result.{IfOk-weaker}
-use Rattle.answer_data.specs.Answers.{answer_data}
-use Rattle.answer_text.specs.Text.{answer_text}
-use Rattle.answer_text.specs.declared.answer.Answer.{Answer}
-use Rattle.answer_text.specs.declared.answer.Body.TheVariants.{StoreFailed}
+use Rattle.transcript_cut.specs.Answers.{answer_data}
+use Rattle.transcript_cut.specs.Text.{answer_text}
+use Rattle.transcript_cut.specs.declared.Answer.{Answer}
+use Rattle.transcript_cut.specs.declared.Body.TheVariants.{StoreFailed}
 use Rattle.line_fits.proofs.told.is_told_failed.Goals as goal
 
 pub returns : goal.returns

@@ -1,5 +1,5 @@
 use Rattle.std.proofs.Common.{◌∙◌, ◌++◌, ap, ap₂, sym}
-use Rattle.transcript_laws.specs.Numbers.{single}
+use Rattle.transcript_cut.specs.ToldNumbers.{single}
 use Rattle.line_fits.specs.Walls.{last_from}
 use Rattle.line_fits.proofs.Walls.{last_from-append}
 use Rattle.line_fits.proofs.windows.last_behind.Goals as goal

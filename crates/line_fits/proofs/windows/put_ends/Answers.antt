@@ -1,5 +1,5 @@
 use Rattle.std.proofs.Common.{◌≡◌, ◌∙◌, ◌<◌, ◌+◌, ◌-◌, List, ℕ, length, ap, arith}
-use Rattle.transcript_laws.specs.Windows.{before_first}
+use Rattle.transcript_cut.specs.Windows.{before_first}
 use Rattle.line_fits.proofs.Walls.{ends_step, no_ends}
 use Rattle.line_fits.proofs.windows.put_ends.Goals as goal
 

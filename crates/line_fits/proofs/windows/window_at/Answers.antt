@@ -1,6 +1,6 @@
 use Rattle.std.proofs.Common.{◌∙◌, ◌<◌, ℕ, length, sym, ap, ap₂, arith}
 use Rattle.transcript_cut.specs.declared.said.Said.{Said}
-use Rattle.transcript_laws.specs.Windows.{Window}
+use Rattle.transcript_cut.specs.Windows.{Window}
 use Rattle.line_fits.specs.Walls.{last_from}
 use Rattle.line_fits.proofs.Walls.{window_is}
 use Rattle.line_fits.proofs.windows.window_at.Goals as goal

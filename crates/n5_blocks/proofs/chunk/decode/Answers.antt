@@ -1,5 +1,5 @@
 use Rattle.std.proofs.Common.{◌≡◌, ◌<◌, ℕ, List, None, true, length, get_or, drop, sym, ap, subst, ◌∙◌, arith}
-use Rattle.cells.specs.Dense.{DenseCells}
+use Rattle.chunk_elements.specs.Dense.{DenseCells}
 use Rattle.chunk_elements.specs.Blocks.{AreStored}
 use Rattle.n5_blocks.specs.Block.{SpellsBlock, word_at}
 use Rattle.n5_blocks.specs.Faults.{block_fault, header_len, sizes_in}

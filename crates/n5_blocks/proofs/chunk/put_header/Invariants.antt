@@ -1,7 +1,7 @@
 use Rattle.std.proofs.Common.{◌≡◌, ◌++◌, take, true, length}
 use Rattle.std.specs.List.{flat_map}
-use Rattle.cells.specs.Bytes.{word_bytes}
-use Rattle.cells.specs.declared.dtype.Dtype.TheVariants.{U16, U32}
+use Rattle.chunk_elements.specs.Bytes.{word_bytes}
+use Rattle.chunk_elements.specs.declared.Dtype.TheVariants.{U16, U32}
 use Rattle.n5_blocks.proofs.chunk.put_header.Given as goal
 
 abbrev pub invariant-loop-size : goal.invariant-loop-size

@@ -1,5 +1,5 @@
 use Rattle.std.proofs.Common.{subst, sym, arith}
-use Rattle.cells.proofs.Laws.{cell_count-pos}
+use Rattle.chunk_elements.proofs.Laws.{cell_count-pos}
 use Rattle.n5_blocks.specs.Block.{AreWithin}
 use Rattle.n5_blocks.proofs.FaultLaws.{sound_from_no_fault}
 use Rattle.n5_blocks.proofs.chunk.read_words.Goals as goal

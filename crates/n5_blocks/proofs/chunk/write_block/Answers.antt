@@ -1,6 +1,6 @@
 use Rattle.std.proofs.Common.{◌*◌, ◌≤◌, ◌^◌, length, arith}
 use Rattle.std.proofs.Math.Nat.{mul-le-mul}
-use Rattle.cells.proofs.Laws.{cell_count-pos}
+use Rattle.chunk_elements.proofs.Laws.{cell_count-pos}
 use Rattle.chunk_elements.proofs.Laws.{cell_count-within}
 use Rattle.n5_blocks.proofs.chunk.write_block.Goals as goal
 

@@ -1,7 +1,7 @@
 use Rattle.std.proofs.Common.{length, sym, subst}
 use Rattle.indexmap.specs.IndexMap.{get_by_text}
 use Rattle.history.specs.Lines.{viewing, joining, beginning, aborting}
-use Rattle.line_forms.specs.Form.{form_of}
+use Rattle.session_openings.specs.Form.{form_of}
 use Rattle.session_openings.specs.Changes.{changes_of}
 use Rattle.session_openings.specs.Joins.{join_of}
 use Rattle.session_openings.specs.Meanings.{line_of}

@@ -1,6 +1,6 @@
 use Rattle.std.proofs.Common.{◌≡◌, ◌∙◌, ◌++◌, ◌∷◌, [], IfOk, List, sym, ap, subst}
 use Rattle.cast_driver.specs.declared.cast.Cast.{Cast}
-use Rattle.cells.specs.declared.dtype.Dtype.{Dtype}
+use Rattle.cast_driver.specs.declared.Dtype.{Dtype}
 use Rattle.stack_driver.specs.Counts.{casts_of}
 use Rattle.stack_driver.specs.Targets.{LeadTo}
 use Rattle.stack_driver.specs.Views.{look_of}

@@ -1,6 +1,6 @@
 use Rattle.std.proofs.Common.{arith, ◌≡◌, ◌≢◌, ◌<◌, ◌∙◌, ℕ, ℤ, true, List, Result, Ok, Err, Some, None, length, get_or, sym, ap, subst}
 use Rattle.std.specs.Prelude.{IsTrue, IfOk, IfErr}
-use Rattle.cells.specs.declared.dtype.Dtype.{Dtype}
+use Rattle.cast_driver.specs.declared.Dtype.{Dtype}
 use Rattle.transform_composition.specs.Bounds.{Bounds}
 use Rattle.stack_driver.specs.Targets.{Target, LeadTo, has_index}
 use Rattle.transform_composition.specs.Transforms.{DomainAndMaps}

@@ -1,5 +1,5 @@
 use Rattle.std.proofs.Common.{rules, ◌≡◌, sym, subst}
-use Rattle.cells.specs.Shapes.{IsShape}
+use Rattle.cast_driver.specs.Shapes.{IsShape}
 use Rattle.transform_composition.specs.Transforms.{IsDomain}
 use Rattle.stack_driver.specs.References.{Reference}
 use Rattle.stack_driver.specs.Arrays.{array_domain}

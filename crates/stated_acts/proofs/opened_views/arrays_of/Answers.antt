@@ -1,6 +1,6 @@
 use Rattle.std.proofs.Common.{◌≡◌, ◌∙◌, ◌<◌, [], ◌∷◌, Some, None, length, take, get_or, refl, sym, ap, arith}
 use Rattle.std.proofs.lemmas.Option.{slice_get_read, slice_get-get_or}
-use Rattle.spec_open.specs.Leaves.{IsSoundLeaf}
+use Rattle.stated_arrays.specs.Leaves.{IsSoundLeaf}
 use Rattle.stated_arrays.specs.Takings.{all_refs}
 use Rattle.stated_arrays.specs.Transcript.{mount}
 use Rattle.stated_acts.proofs.OpenedLaws.{each_at, refs, arrays_more, arrays_lack, refs_all, given_at}

@@ -1,7 +1,7 @@
 use Rattle.std.proofs.Common.{◌≡◌, Some, sym, ap, subst, ◌∙◌}
 use Rattle.std.proofs.lemmas.Result.{IfOk-weaker}
 use Rattle.history.specs.declared.array.ArrayInfo.{ArrayInfo}
-use Rattle.state_laws.specs.Homes.{reference_of}
+use Rattle.stated_arrays.specs.Homes.{reference_of}
 use Rattle.stack_driver.specs.References.{IsReference}
 use Rattle.stated_arrays.specs.Outcomes.{IsOpenedAt}
 use Rattle.stated_acts.proofs.opened_views.given.Goals as goal

@@ -4,7 +4,7 @@ use Rattle.std.specs.List.{AllByRecursion}
 use Rattle.std.proofs.lemmas.Result.{IfOk-weaker}
 use Rattle.history.specs.History.{History}
 use Rattle.line_acts.specs.Openings.{leaves_of, build_of}
-use Rattle.spec_open.specs.Leaves.{IsSoundLeaf}
+use Rattle.stated_arrays.specs.Leaves.{IsSoundLeaf}
 use Rattle.stated_arrays.specs.Lines.{bare}
 use Rattle.stated_arrays.specs.Outline.{outline}
 use Rattle.stated_arrays.specs.Takings.{all_refs, opened_view}

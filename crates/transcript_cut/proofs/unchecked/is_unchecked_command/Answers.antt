@@ -1,7 +1,7 @@
 use Rattle.std.proofs.Common.{sym, ap, ◌∙◌}
 use Rattle.std.specs.List.{list_any}
-use Rattle.line_forms.specs.Form.{form_of}
-use Rattle.line_forms.specs.declared.command.Command.{Command}
+use Rattle.transcript_laws.specs.Form.{form_of}
+use Rattle.transcript_laws.specs.declared.Command.{Command}
 use Rattle.transcript_laws.specs.Unchecked.{is_zarr3, is_unchecked_form}
 use Rattle.transcript_cut.proofs.unchecked.is_unchecked_command.Goals as goal
 

@@ -1,5 +1,5 @@
 use Rattle.std.proofs.Common.{◌≡◌, ◌∙◌, ◌<◌, List, ap, sym, subst, arith, length, set}
-use Rattle.index_intervals.specs.Bounds.{Bounds}
+use Rattle.index_transform.specs.Bounds.{Bounds}
 use Rattle.transform_composition.specs.Composing.{closed_along}
 use Rattle.transform_composition.proofs.JoinLemmas.{closed_dims-more, closed_dims-whole}
 use Rattle.index_transform.proofs.Laws.{written_back}

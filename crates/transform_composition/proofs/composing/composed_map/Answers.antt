@@ -1,6 +1,6 @@
 use Rattle.std.proofs.Common.{◌≡◌, ◌∙◌, List, ℕ, true, sym, subst, ap}
 use Rattle.std.specs.List.{list_all}
-use Rattle.index_intervals.specs.Bounds.{Bounds}
+use Rattle.index_transform.specs.Bounds.{Bounds}
 use Rattle.index_transform.specs.Cells.{is_finite}
 use Rattle.transform_composition.specs.Tightening.{is_ordered}
 use Rattle.index_transform.specs.Walks.{IsCell}

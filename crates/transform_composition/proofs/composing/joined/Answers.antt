@@ -1,5 +1,5 @@
 use Rattle.std.proofs.Common.{◌∙◌, List, ap, map}
-use Rattle.index_intervals.specs.Bounds.{Bounds}
+use Rattle.index_transform.specs.Bounds.{Bounds}
 use Rattle.index_transform.specs.declared.domain.Domain.{Domain}
 use Rattle.index_transform.specs.declared.map.OutMap.{OutMap}
 use Rattle.transform_composition.specs.Composing.{composed_map, closed_dims}

@@ -1,6 +1,6 @@
 use Rattle.std.proofs.Common.{◌≡◌, ap, arith, to_z, of_z, w64}
 use Rattle.std.proofs.lemmas.Int.{ints}
-use Rattle.index_intervals.specs.Bounds.{Bounds}
+use Rattle.index_transform.specs.Bounds.{Bounds}
 use Rattle.transform_composition.proofs.EdgeLemmas.{ends-both, ends-first}
 use Rattle.transform_composition.proofs.inside.are_ends_inside.Goals as goal
 

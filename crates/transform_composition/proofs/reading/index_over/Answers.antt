@@ -1,7 +1,7 @@
 use Rattle.std.proofs.Common.{◌≡◌, ◌<◌, ap, sym, subst, arith, ℤ, ◌-ℤ◌, ◌≤ℤ◌, to_z, of_z, true, unsigned_abs}
 use Rattle.std.proofs.lemmas.Int.{ints}
 use Rattle.std.specs.Int.{w128}
-use Rattle.index_intervals.specs.Bounds.{Bounds}
+use Rattle.index_transform.specs.Bounds.{Bounds}
 use Rattle.index_transform.specs.Values.{reaches_dim}
 use Rattle.transform_composition.proofs.ReadLemmas.{reached_above}
 use Rattle.transform_composition.proofs.reading.index_over.Goals as goal

@@ -1,7 +1,7 @@
 use Rattle.std.proofs.Common.{◌∙◌, ◌++◌, ◌∷◌, [], List, ℕ, ℤ, pos, ap, sym, subst, rules, map, length, get_or, FitsSigned, w64, append_assoc}
 use Rattle.std.proofs.lemmas.Int.{to_z-of_z}
 use Rattle.std.proofs.lemmas.List.{length-map}
-use Rattle.index_intervals.specs.Bounds.{Bounds}
+use Rattle.index_transform.specs.Bounds.{Bounds}
 use Rattle.index_transform.specs.Walks.{CellsLeft}
 use Rattle.transform_composition.specs.Reading.{entry_over}
 use Rattle.index_transform.proofs.Laws.{AreCells, AreCells-cells_of}

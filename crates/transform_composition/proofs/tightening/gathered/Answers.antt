@@ -1,6 +1,6 @@
 use Rattle.std.proofs.Common.{◌∙◌, ◌+◌, ap, sym, arith, drop, Option}
-use Rattle.index_intervals.specs.declared.edge.Ends.{Ends}
-use Rattle.index_intervals.specs.Edges.{preimage}
+use Rattle.index_transform.specs.declared.Ends.{Ends}
+use Rattle.index_transform.specs.Edges.{preimage}
 use Rattle.transform_composition.specs.Tightening.{gathered_from, preimages}
 use Rattle.transform_composition.proofs.EdgeLemmas.{gathered_from-next}
 use Rattle.transform_composition.proofs.tightening.gathered.Goals as goal

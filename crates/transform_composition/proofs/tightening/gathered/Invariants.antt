@@ -1,5 +1,5 @@
 use Rattle.std.proofs.Common.{◌≡◌, drop, None}
-use Rattle.index_intervals.specs.Edges.{preimage}
+use Rattle.index_transform.specs.Edges.{preimage}
 use Rattle.transform_composition.specs.Tightening.{gathered_from, preimages}
 use Rattle.transform_composition.proofs.tightening.gathered.Given as goal
 

@@ -1,9 +1,9 @@
 use Rattle.std.proofs.Common.{◌≡◌, ◌<◌, length, get_or, ◌∙◌, ap, sym, arith, Option, None, to_z, of_z, w64, FitsSigned, rules}
 use Rattle.std.proofs.lemmas.Int.{ints}
 use Rattle.std.proofs.lemmas.Bool.Decides.{nat_tests}
-use Rattle.index_intervals.specs.Bounds.{Bounds}
-use Rattle.index_intervals.specs.declared.edge.Ends.{Ends}
-use Rattle.index_intervals.specs.Edges.{preimage}
+use Rattle.index_transform.specs.Bounds.{Bounds}
+use Rattle.index_transform.specs.declared.Ends.{Ends}
+use Rattle.index_transform.specs.Edges.{preimage}
 use Rattle.index_transform.specs.declared.map.OutMap.{OutMap}
 use Rattle.transform_composition.specs.Tightening.{gathered_from, preimages, overflows_at, overflows_by}
 use Rattle.index_transform.proofs.Laws.{get_or-inside}

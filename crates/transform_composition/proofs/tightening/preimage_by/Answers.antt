@@ -1,8 +1,8 @@
 use Rattle.std.proofs.Common.{◌≡◌, ◌∙◌, ap, sym, refl, arith, [], ◌∷◌, ◌==◌, true, to_z, of_z, w64, FitsSigned, rules}
 use Rattle.std.proofs.lemmas.Int.{ints}
 use Rattle.std.proofs.lemmas.Bool.Decides.{nat_tests}
-use Rattle.index_intervals.specs.declared.edge.Ends.{Ends}
-use Rattle.index_intervals.specs.Edges.{preimage}
+use Rattle.index_transform.specs.declared.Ends.{Ends}
+use Rattle.index_transform.specs.Edges.{preimage}
 use Rattle.index_transform.specs.declared.map.OutMap.{OutMap}
 use Rattle.index_transform.specs.declared.map.OutMap.TheVariants.{Strided}
 use Rattle.transform_composition.specs.Tightening.{preimages_at}

@@ -1,7 +1,7 @@
 use Rattle.std.proofs.Common.{sym, subst}
 use Rattle.std.specs.Option.{ForSome}
-use Rattle.index_intervals.specs.Bounds.{IsIndex}
-use Rattle.index_intervals.specs.declared.edge.Edge.{Edge}
+use Rattle.index_transform.specs.Bounds.{IsIndex}
+use Rattle.index_transform.specs.declared.Edge.{Edge}
 use Rattle.transform_composition.proofs.TightLemmas.{tight_lower-index, tight_upper-index}
 use Rattle.transform_composition.proofs.tightening.tight_dims.Goals as goal
 

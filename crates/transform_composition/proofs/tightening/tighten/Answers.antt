@@ -1,6 +1,6 @@
 use Rattle.std.proofs.Common.{◌≡◌, ◌∙◌, List, ap, sym, subst, length, true}
 use Rattle.std.specs.List.{list_all}
-use Rattle.index_intervals.specs.Bounds.{Bounds}
+use Rattle.index_transform.specs.Bounds.{Bounds}
 use Rattle.index_transform.specs.declared.domain.Domain.{Domain}
 use Rattle.transform_composition.specs.Tightening.{is_ordered}
 use Rattle.transform_composition.proofs.JoinLemmas.{tightened-at}

@@ -1,6 +1,6 @@
 use Rattle.std.proofs.Common.{◌≡◌, ◌∙◌, ap, sym, subst, length, List, true}
 use Rattle.std.specs.List.{list_all}
-use Rattle.index_intervals.specs.Bounds.{Bounds}
+use Rattle.index_transform.specs.Bounds.{Bounds}
 use Rattle.index_transform.specs.Maps.{is_map}
 use Rattle.transform_composition.proofs.FitLemmas.{maps-tight, length-tight_dims}
 use Rattle.transform_composition.proofs.tightening.tightened.Goals as goal

@@ -1,6 +1,6 @@
 use Rattle.std.proofs.Common.{◌≡◌, get_or, refl, sym, ap, subst, ◌∙◌}
 use Rattle.std.proofs.lemmas.Result.{IfOk-weaker}
-use Rattle.cells.specs.Places.{cell_count, c_place}
+use Rattle.chunk_elements.specs.Places.{cell_count, c_place}
 use Rattle.zarr3_chunks.specs.Chunk.{SpellsChunk}
 use Rattle.chunk_elements.proofs.Laws.{SpellsChunk-from_c}
 use Rattle.zarr3_chunks.proofs.chunk.read_words.Goals as goal

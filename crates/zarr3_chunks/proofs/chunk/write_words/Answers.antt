@@ -1,7 +1,7 @@
 use Rattle.std.proofs.Common.{◌≡◌, ◌<◌, ℕ, length, get_or, refl, sym, ap, subst, ◌∙◌}
 use Rattle.std.proofs.lemmas.Result.{IfOk-weaker}
-use Rattle.cells.specs.Numbers.{IsWord}
-use Rattle.cells.specs.Places.{cell_count, c_place}
+use Rattle.chunk_elements.specs.Numbers.{IsWord}
+use Rattle.chunk_elements.specs.Places.{cell_count, c_place}
 use Rattle.zarr3_chunks.specs.Chunk.{SpellsChunk}
 use Rattle.chunk_elements.proofs.Laws.{All-from_each, SpellsChunk-from_c}
 use Rattle.zarr3_chunks.proofs.chunk.write_words.Goals as goal

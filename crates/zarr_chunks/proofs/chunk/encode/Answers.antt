@@ -2,7 +2,7 @@ use Rattle.std.proofs.Common.{◌≡◌, List, ℕ, sym, ap, subst, ◌∙◌}
 use Rattle.std.proofs.lemmas.Result.{IfOk-weaker}
 use Rattle.zarr_chunks.specs.Chunk.{layout_of}
 use Rattle.zarr_chunks.specs.Metadata.{Metadata}
-use Rattle.cells.specs.Items.{SpellsItems}
+use Rattle.chunk_elements.specs.Items.{SpellsItems}
 use Rattle.chunk_elements.proofs.Laws.{SpellsChunk-from_items}
 use Rattle.zarr_chunks.proofs.chunk.encode.Goals as goal
 

@@ -1,6 +1,6 @@
 use Rattle.std.proofs.Common.{◌≡◌, List, ℕ, sym, ap, subst, ◌∙◌}
-use Rattle.cells.specs.Items.{SpellsItems}
-use Rattle.cells.specs.declared.dtype.Dtype.{Dtype}
+use Rattle.chunk_elements.specs.Items.{SpellsItems}
+use Rattle.chunk_elements.specs.declared.Dtype.{Dtype}
 use Rattle.zarr_chunks.specs.Chunk.{layout_of}
 use Rattle.zarr_chunks.specs.Metadata.{Metadata}
 use Rattle.chunk_elements.proofs.Laws.{SpellsChunk-from_items}

@@ -1,6 +1,6 @@
 use Rattle.std.proofs.Common.{◌≡◌, ℕ, List, length, get_or, sym, ap, subst, ◌∙◌}
 use Rattle.std.proofs.lemmas.Result.{IfOk-weaker}
-use Rattle.cells.specs.Places.{cell_count, c_place}
+use Rattle.chunk_elements.specs.Places.{cell_count, c_place}
 use Rattle.chunk_elements.specs.Blocks.{AreStored}
 use Rattle.zarr_chunks.specs.Chunk.{SpellsChunk}
 use Rattle.chunk_elements.proofs.Laws.{chunk_cells, SpellsChunk-from_c, SpellsChunk-from_f}

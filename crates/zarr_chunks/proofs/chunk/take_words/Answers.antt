@@ -1,7 +1,7 @@
 use Rattle.std.proofs.Common.{◌≡◌, length, sym, ap, subst, ◌∙◌, arith}
 use Rattle.std.specs.Prelude.{All}
-use Rattle.cells.specs.Numbers.{IsWord}
-use Rattle.cells.specs.Places.{cell_count}
+use Rattle.chunk_elements.specs.Numbers.{IsWord}
+use Rattle.chunk_elements.specs.Places.{cell_count}
 use Rattle.chunk_elements.proofs.Laws.{All-from_chunk}
 use Rattle.zarr_chunks.specs.Chunk.{layout_of}
 use Rattle.zarr_chunks.proofs.chunk.take_words.Goals as goal

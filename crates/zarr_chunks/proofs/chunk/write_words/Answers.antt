@@ -1,7 +1,7 @@
 use Rattle.std.proofs.Common.{◌≡◌, ◌<◌, ℕ, List, length, get_or, sym, ap, subst, ◌∙◌}
 use Rattle.std.proofs.lemmas.Result.{IfOk-weaker}
-use Rattle.cells.specs.Numbers.{IsWord}
-use Rattle.cells.specs.Places.{cell_count, c_place}
+use Rattle.chunk_elements.specs.Numbers.{IsWord}
+use Rattle.chunk_elements.specs.Places.{cell_count, c_place}
 use Rattle.chunk_elements.specs.Blocks.{StoresWords}
 use Rattle.zarr_chunks.specs.Chunk.{SpellsChunk}
 use Rattle.chunk_elements.proofs.Laws.{All-from_each, SpellsChunk-from_c, SpellsChunk-from_f}

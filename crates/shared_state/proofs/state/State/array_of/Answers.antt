@@ -1,7 +1,7 @@
 use Rattle.std.proofs.Common.{sym, ap, subst, ◌∙◌}
 use Rattle.std.specs.Prelude.{IfSome}
-use Rattle.history.specs.Places.{IsTable}
-use Rattle.history.proofs.Laws.{some_inj}
+use Rattle.state_laws.specs.Places.{IsTable}
+use Rattle.state_laws.proofs.Laws.{some_inj}
 use Rattle.state_laws.specs.Keyed.{IsKeyIn, local_at}
 use Rattle.state_laws.specs.Log.{StateOf}
 use Rattle.state_laws.proofs.Laws.{local_some, local_none}

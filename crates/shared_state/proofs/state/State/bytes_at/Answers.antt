@@ -1,5 +1,5 @@
 use Rattle.std.proofs.Common.{◌≡◌, Some}
-use Rattle.history.specs.ReadRows.{mount_of}
+use Rattle.state_laws.specs.ReadRows.{mount_of}
 use Rattle.state_laws.proofs.Laws.{agrees_got, takes_chunk}
 use Rattle.shared_state.proofs.state.State.bytes_at.Goals as goal
 

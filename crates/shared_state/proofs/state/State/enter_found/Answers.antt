@@ -4,9 +4,9 @@ use Rattle.kv_face.specs.Store.{Contents}
 use Rattle.std.specs.Prelude.{count_by}
 use Rattle.state_laws.specs.Homes.{info_at}
 use Rattle.state_laws.specs.Opening.{leaf_at}
-use Rattle.history.specs.Legal.{is_opening}
-use Rattle.history.specs.declared.array.ArrayInfo.{ArrayInfo}
-use Rattle.history.specs.Places.{IsFree}
+use Rattle.state_laws.specs.Legal.{is_opening}
+use Rattle.state_laws.specs.declared.ArrayInfo.{ArrayInfo}
+use Rattle.state_laws.specs.Places.{IsFree}
 use Rattle.state_laws.specs.declared.place.Place.{Place}
 use Rattle.state_laws.specs.Agreement.{Agrees}
 use Rattle.state_laws.specs.Log.{StateOf}

@@ -1,6 +1,6 @@
 use Rattle.std.proofs.Common.{◌≡◌, ◌+◌, length, Some, sym, ap, subst, ◌∙◌, rules}
 use Rattle.chunk_cache.specs.Snapshot.{SnapshotCells}
-use Rattle.history.specs.OpenRows.{next_array, given_info}
+use Rattle.state_laws.specs.OpenRows.{next_array, given_info}
 use Rattle.state_laws.specs.Agreement.{Agrees}
 use Rattle.state_laws.specs.Log.{StateOf, log_of}
 use Rattle.state_laws.specs.Placed.{entered}

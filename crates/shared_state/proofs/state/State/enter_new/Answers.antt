@@ -1,7 +1,7 @@
 use Rattle.std.proofs.Common.{◌++◌, ◌∷◌, [], refl, sym, ap, subst, ◌∙◌}
-use Rattle.history.specs.Own.{opened_event}
-use Rattle.history.specs.Places.{IsTable}
-use Rattle.history.proofs.Laws.{table_opened}
+use Rattle.state_laws.specs.Own.{opened_event}
+use Rattle.state_laws.specs.Places.{IsTable}
+use Rattle.state_laws.proofs.Laws.{table_opened}
 use Rattle.state_laws.specs.Recorded.{RecordsOf}
 use Rattle.shared_state.proofs.state.State.enter_new.Goals as goal
 

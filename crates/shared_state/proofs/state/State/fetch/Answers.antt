@@ -1,8 +1,8 @@
 use Rattle.std.proofs.Common.{◌≡◌, ◌<◌, None, Some, Ok, Err, refl, sym, ap, subst, ◌∙◌}
 use Rattle.std.specs.Prelude.{OnErr, string_bytes}
 use Rattle.std.proofs.lemmas.Result.{IfOk-weaker}
-use Rattle.history.specs.Chunks.{Chunk, chunk_key}
-use Rattle.history.proofs.Laws.{none_is_none}
+use Rattle.state_laws.specs.Chunks.{Chunk, chunk_key}
+use Rattle.state_laws.proofs.Laws.{none_is_none}
 use Rattle.state_laws.specs.Agreement.{IsState}
 use Rattle.state_laws.specs.Seen.{IsRead}
 use Rattle.state_laws.specs.Fetches.{IsAnswered, IsDamagedThere, IsNamed, kept_of}

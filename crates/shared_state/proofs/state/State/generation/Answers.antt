@@ -1,7 +1,7 @@
 use Rattle.std.proofs.Common.{refl, sym, ap, subst, ◌∙◌}
 use Rattle.std.specs.Prelude.{IsSome}
-use Rattle.history.specs.Arrays.{known_after}
-use Rattle.history.proofs.Laws.{generation_by_table}
+use Rattle.state_laws.specs.Arrays.{known_after}
+use Rattle.state_laws.proofs.Laws.{generation_by_table}
 use Rattle.state_laws.specs.Keyed.{IsKeyIn, IsNobodys}
 use Rattle.state_laws.proofs.Laws.{key_known}
 use Rattle.shared_state.proofs.state.State.generation.Goals as goal

@@ -1,6 +1,6 @@
 use Rattle.std.proofs.Common.{◌≡◌, sym, ap, ◌∙◌}
 use Rattle.std.specs.Prelude.{count_by, nat_lt}
-use Rattle.history.specs.Legal.{is_opening}
+use Rattle.state_laws.specs.Legal.{is_opening}
 use Rattle.state_laws.specs.Log.{StateOf}
 use Rattle.state_laws.proofs.Laws.{known_test, test_known}
 use Rattle.shared_state.proofs.state.State.has_array.Goals as goal

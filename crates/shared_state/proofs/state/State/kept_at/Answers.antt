@@ -1,8 +1,8 @@
 use Rattle.std.proofs.Common.{◌≡◌, true, false, cond, sym, ap, subst, ◌∙◌}
 use Rattle.std.proofs.lemmas.Result.{IfOk-weaker}
 use Rattle.chunk_cache.specs.Cache.{kept, after_hit}
-use Rattle.history.specs.Arrays.{is_local}
-use Rattle.history.specs.Chunks.{Chunk}
+use Rattle.state_laws.specs.Arrays.{is_local}
+use Rattle.state_laws.specs.Chunks.{Chunk}
 use Rattle.state_laws.specs.Agreement.{Agrees}
 use Rattle.state_laws.specs.Log.{Log, StateOf, log_of, cells_held}
 use Rattle.state_laws.specs.Fetches.{looked_at}

@@ -1,8 +1,8 @@
 use Rattle.std.proofs.Common.{◌≡◌, None, Some, Ok, false, sym, ap, subst, ◌∙◌}
 use Rattle.std.specs.Prelude.{OnOk}
 use Rattle.chunk_cache.specs.Cache.{kept}
-use Rattle.history.specs.Arrays.{Known, known_after, is_local}
-use Rattle.history.specs.Chunks.{Chunk}
+use Rattle.state_laws.specs.Arrays.{Known, known_after, is_local}
+use Rattle.state_laws.specs.Chunks.{Chunk}
 use Rattle.state_laws.specs.Agreement.{IsState}
 use Rattle.state_laws.specs.Log.{StateOf}
 use Rattle.state_laws.specs.Looks.{HasBounds, LeavesRead}

@@ -1,10 +1,10 @@
 use Rattle.std.proofs.Common.{◌≡◌, ◌++◌, Some, None, string_bytes, sym, ap, ◌∙◌}
 use Rattle.std.specs.Option.{option_map}
 use Rattle.state_laws.specs.FormNames.{metadata_name}
-use Rattle.history.specs.declared.array.ArrayInfo.{ArrayInfo}
-use Rattle.history.specs.Arrays.{Known, known_after, form_of, is_local}
-use Rattle.history.specs.Chunks.{home_text}
-use Rattle.history.proofs.Laws.{some_inj}
+use Rattle.state_laws.specs.declared.ArrayInfo.{ArrayInfo}
+use Rattle.state_laws.specs.Arrays.{Known, known_after, form_of, is_local}
+use Rattle.state_laws.specs.Chunks.{home_text}
+use Rattle.state_laws.proofs.Laws.{some_inj}
 use Rattle.state_laws.specs.Log.{StateOf}
 use Rattle.shared_state.proofs.Keys.{named_if_stored}
 use Rattle.shared_state.proofs.state.State.metadata_key.Goals as goal

@@ -1,6 +1,6 @@
 use Rattle.std.proofs.Common.{◌≡◌, [], sym, subst}
-use Rattle.history.specs.Places.{IsTable}
-use Rattle.history.proofs.Laws.{table_none}
+use Rattle.state_laws.specs.Places.{IsTable}
+use Rattle.state_laws.proofs.Laws.{table_none}
 use Rattle.state_laws.specs.Agreement.{Agrees}
 use Rattle.state_laws.specs.Log.{log_of}
 use Rattle.state_laws.proofs.Laws.{agrees_begun, log_begun}

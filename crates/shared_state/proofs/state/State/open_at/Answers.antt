@@ -1,11 +1,11 @@
 use Rattle.std.proofs.Common.{◌≡◌, length, Some, None, Ok, refl, sym, ap, subst, ◌∙◌}
 use Rattle.std.specs.Prelude.{IsSome}
 use Rattle.state_laws.specs.Opening.{leaf_at}
-use Rattle.history.specs.Arrays.{Known, ref_of}
-use Rattle.history.specs.Leaves.{nothing}
-use Rattle.history.specs.Outcomes.{outcome_at}
-use Rattle.history.specs.Places.{IsTable, IsFree, array_at, taken}
-use Rattle.history.proofs.Laws.{some_inj, taken_by_table, not_taken_by_table}
+use Rattle.state_laws.specs.Arrays.{Known, ref_of}
+use Rattle.state_laws.specs.Leaves.{nothing}
+use Rattle.state_laws.specs.Outcomes.{outcome_at}
+use Rattle.state_laws.specs.Places.{IsTable, IsFree, array_at, taken}
+use Rattle.state_laws.proofs.Laws.{some_inj, taken_by_table, not_taken_by_table}
 use Rattle.stack_driver.specs.References.{IsReference}
 use Rattle.state_laws.specs.declared.place.Place.{Place}
 use Rattle.state_laws.specs.Log.{StateOf}

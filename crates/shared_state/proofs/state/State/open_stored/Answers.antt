@@ -3,11 +3,11 @@ use Rattle.std.specs.FinMap as finmap
 use Rattle.std.proofs.lemmas.Result.{on_ok_weaker, on_err_weaker}
 use Rattle.kv_face.specs.Store.{Contents}
 use Rattle.state_laws.specs.Opening.{leaf_at, Tells}
-use Rattle.history.specs.Places.{IsFree}
+use Rattle.state_laws.specs.Places.{IsFree}
 use Rattle.state_laws.specs.declared.place.Place.{Place}
 use Rattle.state_laws.specs.Log.{Log, StateOf}
 use Rattle.state_laws.specs.Openings.{IsOutcomeOf, IsRefusalOf}
-use Rattle.history.specs.History.{History}
+use Rattle.state_laws.specs.History.{History}
 use Rattle.state_laws.specs.declared.OpeningRefusal.TheVariants as refusal
 use Rattle.state_laws.proofs.Laws.{outcome_of}
 use Rattle.shared_state.proofs.Beside.{beside_found, beside_made, has_event}

@@ -1,7 +1,7 @@
 use Rattle.std.proofs.Common.{◌≡◌, sym, ap, subst, ◌∙◌}
 use Rattle.std.specs.Arc.{arc_value}
 use Rattle.cells.specs.Dense.{DenseCells}
-use Rattle.history.specs.Chunks.{Chunk}
+use Rattle.state_laws.specs.Chunks.{Chunk}
 use Rattle.state_laws.specs.Fetches.{IsAnswered}
 use Rattle.state_laws.proofs.Laws.{answered_may}
 use Rattle.shared_state.proofs.state.State.put.Goals as goal

@@ -1,8 +1,8 @@
 use Rattle.std.proofs.Common.{◌≡◌, true, false, cond, rules, eq-eqb, sym, ap, subst, ◌∙◌}
 use Rattle.std.specs.Prelude.{◌==◌, string_bytes}
 use Rattle.chunk_cache.specs.Cache.{after_keep}
-use Rattle.history.specs.Arrays.{is_local}
-use Rattle.history.specs.Chunks.{Chunk}
+use Rattle.state_laws.specs.Arrays.{is_local}
+use Rattle.state_laws.specs.Chunks.{Chunk}
 use Rattle.state_laws.specs.Agreement.{Agrees}
 use Rattle.state_laws.specs.Log.{Log, StateOf, log_of}
 use Rattle.state_laws.specs.Fetches.{settled, generation_in}

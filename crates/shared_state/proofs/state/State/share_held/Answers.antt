@@ -1,6 +1,6 @@
 use Rattle.std.proofs.Common.{sym, ap, ◌∙◌}
 use Rattle.std.specs.Option.{option_copied}
-use Rattle.history.proofs.Laws.{none_is_none}
+use Rattle.state_laws.proofs.Laws.{none_is_none}
 use Rattle.state_laws.specs.Log.{StateOf, cells_held}
 use Rattle.shared_state.proofs.state.State.share_held.Goals as goal
 

@@ -2,8 +2,8 @@ use Rattle.std.proofs.Common.{◌≡◌, None, Some, Ok, Err, false, refl, sym, 
 use Rattle.std.specs.Prelude.{OnErr}
 use Rattle.std.proofs.lemmas.Result.{IfOk-weaker}
 use Rattle.chunk_cache.specs.Cache.{kept}
-use Rattle.history.specs.Arrays.{Known, known_after, is_local}
-use Rattle.history.specs.Chunks.{Chunk}
+use Rattle.state_laws.specs.Arrays.{Known, known_after, is_local}
+use Rattle.state_laws.specs.Chunks.{Chunk}
 use Rattle.state_laws.specs.Log.{Log}
 use Rattle.state_laws.specs.Looks.{IsLook}
 use Rattle.state_laws.specs.Fetches.{HasFailed}

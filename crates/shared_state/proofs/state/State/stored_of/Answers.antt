@@ -2,10 +2,10 @@ use Rattle.std.proofs.Common.{◌≡◌, true, false, refl, sym, ap, subst, ◌�
 use Rattle.std.specs.Prelude.{IsSome}
 use Rattle.std.specs.Option.{option_map}
 use Rattle.state_laws.specs.Names.{IsChunkName}
-use Rattle.history.specs.declared.array.ArrayInfo.{ArrayInfo}
-use Rattle.history.specs.Arrays.{Known, known_after}
-use Rattle.history.specs.Places.{IsTable, location}
-use Rattle.history.proofs.Laws.{some_inj}
+use Rattle.state_laws.specs.declared.ArrayInfo.{ArrayInfo}
+use Rattle.state_laws.specs.Arrays.{Known, known_after}
+use Rattle.state_laws.specs.Places.{IsTable, location}
+use Rattle.state_laws.proofs.Laws.{some_inj}
 use Rattle.state_laws.specs.Log.{StateOf}
 use Rattle.state_laws.proofs.Laws.{of_table, places_apart, stored_some, nothing_above, not_named}
 use Rattle.shared_state.proofs.state.State.stored_of.Goals as goal

@@ -1,5 +1,5 @@
 use Rattle.std.proofs.Common.{sym, ap, subst}
-use Rattle.history.specs.Places.{IsTable}
+use Rattle.state_laws.specs.Places.{IsTable}
 use Rattle.state_laws.specs.Recorded.{RecordsOf}
 use Rattle.shared_state.proofs.state.State.write_new.Goals as goal
 

@@ -1,5 +1,5 @@
 use Rattle.std.proofs.Common.{◌≡◌, sym, ap, subst, ◌∙◌, arith}
-use Rattle.array_homes.specs.Homes.{info_at}
+use Rattle.transcript_cut.specs.Homes.{info_at}
 use Rattle.history.specs.Legal.{IsLegalOpening}
 use Rattle.history.specs.OpenRows.{next_array}
 use Rattle.history.specs.Outcomes.{new_info}
