@@ -22,7 +22,7 @@ use Rattle.transaction_cells.specs.Sites.{sites_of, pairs_at}
 use Rattle.transaction_cells.specs.declared.view_cells.Piece.{Piece}
 use Rattle.transaction_cells.specs.declared.view_cells.ViewCells.{ViewCells}
 use Rattle.transaction_cells.proofs.NeedLaws.{piece_pairs}
-use Rattle.version_laws.specs.Shown.{AreAskedOf}
+use Rattle.version_store.specs.Shown.{AreAskedOf}
 use Rattle.version_store.specs.Asked.{TellsShown, content_with}
 use Rattle.version_store.specs.Asked as told
 use Rattle.version_store.specs.declared.store.VersionStore.{VersionStore}

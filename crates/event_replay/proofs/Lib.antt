@@ -16,3 +16,4 @@ pub mod FollowLaws
 pub mod WindowLaws
 pub mod LinkLaws
 pub mod SweepLaws
+pub mod Laws

@@ -8,7 +8,7 @@ use Rattle.history.specs.Arrays.{Known, known_after}
 use Rattle.history.specs.Chunks.{Chunk}
 use Rattle.history.specs.History.{History}
 use Rattle.history.proofs.Laws.{some_inj}
-use Rattle.version_laws.specs.Shown.{AreAskedOf}
+use Rattle.version_store.specs.Shown.{AreAskedOf}
 use Rattle.version_store.specs.Asked.{AreShownAt, AreNeverShown}
 use Rattle.version_store.specs.Ids.{IsChunkIn}
 use Rattle.version_store.specs.Stores.{IsStoreOf}

@@ -16,7 +16,7 @@ use Rattle.stack_driver.specs.Targets.{outwards}
 use Rattle.transaction_cells.specs.Sites.{Site, pairs_at}
 use Rattle.transaction_cells.specs.StagedWords.{word_of_pair}
 use Rattle.transaction_cells.specs.Staging.{StagedChunk, staged_of, word_in}
-use Rattle.version_laws.specs.Shown.{AreShownThen}
+use Rattle.version_store.specs.Shown.{AreShownThen}
 use Rattle.version_store.specs.Ids.{id_of}
 use Rattle.event_replay.specs.Demands.{AreCovered, AreOthersIn, AreOwnIn, bare, cell_of}
 use Rattle.event_replay.specs.Placed.{asked_cell}

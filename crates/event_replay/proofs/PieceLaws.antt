@@ -25,7 +25,7 @@ use Rattle.transaction_cells.specs.declared.view_cells.Piece.{Piece}
 use Rattle.transaction_cells.specs.declared.view_cells.ViewCells.{ViewCells}
 use Rattle.transaction_cells.proofs.NeedLaws.{piece_pairs}
 use Rattle.transaction_cells.proofs.Laws.{known_sites}
-use Rattle.version_laws.specs.Shown.{AreAskedOf, AreShownThen, IsAskedOf}
+use Rattle.version_store.specs.Shown.{AreAskedOf, AreShownThen, IsAskedOf}
 use Rattle.version_store.specs.Ids.{IsChunkIn}
 use Rattle.event_replay.specs.declared.demand.AskedPiece.{AskedPiece}
 use Rattle.event_replay.specs.Demands.{IsReadIn, IsPieceIn, AreCovered, AreOwnIn, AreOthersIn, bare, cell_of}

@@ -21,8 +21,8 @@ use Rattle.transaction_cells.specs.Casting.{casts_at}
 use Rattle.transaction_cells.specs.Lanes.{LaneSeen}
 use Rattle.transaction_cells.specs.Sites.{Site, pairs_at}
 use Rattle.transaction_cells.proofs.Laws.{inside_in_chunk}
-use Rattle.version_laws.specs.Kept.{place_in, IsCellOf}
-use Rattle.version_laws.specs.Shown.{AreAskedOf}
+use Rattle.version_store.specs.Kept.{place_in, IsCellOf}
+use Rattle.version_store.specs.Shown.{AreAskedOf}
 use Rattle.version_store.specs.Asked as told
 use Rattle.version_store.specs.Ids.{id_of}
 use Rattle.event_replay.specs.Demands.{cell_of}

@@ -20,7 +20,7 @@ use Rattle.transaction_cells.specs.Operations.{HasSites, KeepsArrays}
 use Rattle.transaction_cells.specs.Sites.{Site, sites_of}
 use Rattle.transaction_cells.proofs.Laws.{IsSiteIn, known_sites}
 use Rattle.transaction_cells.proofs.PlaceLaws.{place-lt}
-use Rattle.version_laws.specs.Kept.{place_in, IsCellOf}
+use Rattle.version_store.specs.Kept.{place_in, IsCellOf}
 use Rattle.version_store.specs.Ids.{id_of}
 use Rattle.event_replay.specs.Replays.{MayFollow}
 

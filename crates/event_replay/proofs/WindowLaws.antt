@@ -10,8 +10,8 @@ use Rattle.history.specs.History.{History}
 use Rattle.history.specs.Legal.{is_present_in}
 use Rattle.history.specs.Targets.{Cell}
 use Rattle.history.proofs.Laws.{chunk_array, some_inj}
-use Rattle.version_laws.specs.Kept.{IsCellOf}
-use Rattle.version_laws.specs.Shown.{AreAskedOf}
+use Rattle.version_store.specs.Kept.{IsCellOf}
+use Rattle.version_store.specs.Shown.{AreAskedOf}
 use Rattle.event_replay.specs.Demands.{AreMetFrom, IsMetFrom, IsPieceIn, cell_of}
 use Rattle.event_replay.specs.Sweeps.{IsFront, IsMetIn}
 use Rattle.event_replay.specs.declared.demand.AskedPiece.{AskedPiece}

@@ -28,7 +28,7 @@ use Rattle.transaction_cells.specs.Sites.{Site, sites_of}
 use Rattle.transaction_cells.specs.Staging.{StagedChunk, word_in}
 use Rattle.transaction_cells.specs.declared.view_cells.Piece.{Piece}
 use Rattle.transaction_cells.specs.declared.view_cells.ViewCells.{ViewCells}
-use Rattle.version_laws.specs.Shown.{AreAskedOf, AreShownThen, IsShownFrom}
+use Rattle.version_store.specs.Shown.{AreAskedOf, AreShownThen, IsShownFrom}
 use Rattle.version_store.specs.Ids.{IsChunkIn}
 use Rattle.event_replay.specs.declared.demand.AskedPiece.{AskedPiece}
 use Rattle.event_replay.specs.declared.demand.Demand.{Demand}

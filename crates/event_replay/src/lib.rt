@@ -24,5 +24,6 @@ pub use history::{Event, Kind, Op};
 pub use meeting::is_met;
 pub use replaying::replay;
 pub use sweeping::{sweep, sweep_into};
+pub use transaction_cells::{Piece, ViewCells, locate};
 pub use version_store::VersionStore;
 pub use waiting::Waiting;

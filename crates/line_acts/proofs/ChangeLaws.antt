@@ -5,9 +5,9 @@ use Rattle.line_meanings.specs.declared.Body.{Body}
 use Rattle.line_meanings.specs.declared.Body.TheVariants as body
 use Rattle.dim_changes.specs.declared.cause.Cause.{Cause}
 use Rattle.dim_changes.specs.declared.cause.Cause.TheVariants as cause
-use Rattle.dim_expressions.specs.Applying.{applied}
-use Rattle.dim_expressions.specs.declared.error.ApplyError.{ApplyError}
-use Rattle.dim_expressions.specs.declared.error.ApplyError.TheVariants as apply
+use Rattle.line_meanings.specs.Applying.{applied}
+use Rattle.line_meanings.specs.declared.ApplyError.{ApplyError}
+use Rattle.line_meanings.specs.declared.ApplyError.TheVariants as apply
 use Rattle.history.specs.Acts.{Asked, changed, with_changes, binds, act_of}
 use Rattle.history.specs.Answers as old
 use Rattle.history.specs.Answers.{Text}

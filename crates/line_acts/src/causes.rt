@@ -1,6 +1,6 @@
 // The answers to what refuses a line, by the causes of the crates below.
 ghost use Rattle.std.specs.Prelude.{◌≡◌, ◌≢◌, Result, Err};
-ghost use Rattle.dim_expressions.specs.declared.error.ApplyError.TheVariants as apply;
+ghost use Rattle.line_meanings.specs.declared.ApplyError.TheVariants as apply;
 ghost use Rattle.history.specs.Acts.{Asked, with_changes, with_join};
 ghost use Rattle.index_transform.specs.Transforms.{DomainAndMaps};
 ghost use Rattle.layer_join.specs.declared.error.JoinError.{JoinError as JoinErrorOf};
@@ -11,9 +11,8 @@ ghost use Rattle.line_acts.specs.Refused.{IsAnswerTo};
 ghost use Rattle.stack_driver.specs.declared.view.View.{View};
 ghost use Rattle.transform_composition.specs.declared.error.ComposeError.TheVariants as compose;
 
-use dim_expressions::ApplyError;
 use layer_join::JoinError;
-use line_meanings::Body;
+use line_meanings::{ApplyError, Body};
 use transform_composition::ComposeError;
 
 /// The answer where a view isn't seen through a transform.

@@ -16,9 +16,8 @@ ghost use Rattle.step_forms.specs.Given.{IsGiven};
 
 use crate::causes::{applied_body, composed_body};
 use crate::names::{Names, named};
-use dim_expressions::apply;
 use index_transform::Transform;
-use line_meanings::Body;
+use line_meanings::{Body, apply};
 use stack_driver::{View, set_transform, transform_of, with_transform};
 use std::alloc::Global;
 use step_forms::Step;

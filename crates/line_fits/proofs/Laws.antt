@@ -15,3 +15,4 @@ pub use Rattle.event_replay.proofs.FollowLaws.{can_locate_view}
 pub use Rattle.event_replay.proofs.Fronts.{front_at, front_outline, grows, known_later, stated_next}
 pub use Rattle.event_replay.proofs.OpLaws.{leaf_count}
 pub use Rattle.event_replay.proofs.Sites.{IsSiteOf, all_present, id_is}
+pub use Rattle.event_replay.proofs.SweepLaws.{count_next}

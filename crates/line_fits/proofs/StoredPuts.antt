@@ -17,18 +17,18 @@ use Rattle.history.specs.Writes.{Put, put_at, puts_of_op, puts_of}
 use Rattle.stack_driver.specs.Targets.{Cell, inwards}
 use Rattle.stack_driver.specs.Views.{targets_of}
 use Rattle.stack_driver.specs.declared.view.View.{View}
-use Rattle.transaction_cells.specs.Operations.{HasSites}
-use Rattle.transaction_cells.specs.Pieces.{AreCells, IsPiece, ids_of}
-use Rattle.transaction_cells.specs.Sites.{Site, sites_of}
-use Rattle.transaction_cells.specs.declared.view_cells.Piece.{Piece}
-use Rattle.transaction_cells.specs.declared.view_cells.ViewCells.{ViewCells}
-use Rattle.transaction_cells.proofs.WrittenLaws.{site_with}
+use Rattle.event_replay.specs.Operations.{HasSites}
+use Rattle.event_replay.specs.CellPieces.{AreCells, IsPiece, ids_of}
+use Rattle.event_replay.specs.Sites.{Site, sites_of}
+use Rattle.event_replay.specs.declared.Piece.{Piece}
+use Rattle.event_replay.specs.declared.ViewCells.{ViewCells}
+use Rattle.event_replay.proofs.Laws.{site_with}
 use Rattle.transcript_cut.specs.Transcript.{mount}
 use Rattle.event_replay.specs.Sweeps.{IsFront, IsViewIn}
 use Rattle.event_replay.proofs.FollowLaws.{leaves_whole}
 use Rattle.event_replay.proofs.Fronts.{known_later, known_low, low_known}
 use Rattle.event_replay.proofs.Sites.{IsSiteOf, all_present}
-use Rattle.transaction_cells.proofs.Laws.{known_sites}
+use Rattle.event_replay.proofs.Laws.{known_sites}
 use Rattle.line_fits.specs.StoredPuts.{AreStored, IsStoredAt, HasStoredPiece, PutsStored}
 
 -- an array that is there and stored

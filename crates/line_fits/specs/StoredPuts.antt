@@ -4,7 +4,7 @@ use Rattle.history.specs.Arrays.{Known, known_after}
 use Rattle.history.specs.History.{History}
 use Rattle.history.specs.ReadRows.{mount_of, IsOnMount}
 use Rattle.history.specs.Writes.{Put}
-use Rattle.transaction_cells.specs.declared.view_cells.Piece.{Piece}
+use Rattle.event_replay.specs.declared.Piece.{Piece}
 use Rattle.transcript_cut.specs.Transcript.{mount}
 
 -- for each array of the history, whether it lies on the mount

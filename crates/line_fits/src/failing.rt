@@ -11,17 +11,17 @@ ghost use Rattle.history.specs.Writes.{puts_of, puts_of_op};
 ghost use Rattle.history.specs.declared.event.Op.TheVariants.{Write};
 ghost use Rattle.line_fits.specs.StoredPuts.{AreStored, HasStoredPiece, IsStoredAt, PutsStored};
 ghost use Rattle.stack_driver.specs.Views.{targets_of};
-ghost use Rattle.transaction_cells.specs.Operations.{HasSites};
-ghost use Rattle.transaction_cells.specs.Pieces.{AreCells};
-ghost use Rattle.transaction_cells.specs.Sites.{sites_of};
-ghost use Rattle.transaction_cells.specs.declared.view_cells.Piece.{Piece as PieceOf};
+ghost use Rattle.event_replay.specs.Operations.{HasSites};
+ghost use Rattle.event_replay.specs.CellPieces.{AreCells};
+ghost use Rattle.event_replay.specs.Sites.{sites_of};
+ghost use Rattle.event_replay.specs.declared.Piece.{Piece as PieceOf};
 ghost use Rattle.transcript_cut.specs.Transcript.{mount};
 
+use event_replay::{Piece, ViewCells, locate};
 use history::Op;
 use stack_driver::View;
 use stack_targets::TargetsError;
 use std::alloc::{AllocError, Global};
-use transaction_cells::{Piece, ViewCells, locate};
 
 /// Whether a store call may fail of a write outside of a transaction: a cell of its view lies in one of the first so many arrays, which
 /// lies on the mount. `stored` says of each array whether it does. The time is that of the view's cells.

@@ -10,7 +10,9 @@ mod told;
 mod windows;
 
 pub use answers::is_told;
-pub use event_replay::{AskedPiece, Demand, Waiting, demand_of};
+pub use event_replay::{
+    AskedPiece, Demand, Event, VersionStore, Waiting, demand_of, sweep, sweep_into,
+};
 pub use failing::{commit_may_fail, write_may_fail};
 pub use told::{failed_behind, is_answered, is_committed, is_written};
 pub use transcript_cut::{Answer, Body, EventNumbers};

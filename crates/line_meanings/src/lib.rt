@@ -4,7 +4,7 @@
 //! `act_of` and the rows of a session's step speak.
 #![tactic(auto)]
 
-pub use dim_expressions::ApplyError;
+pub use dim_expressions::{ApplyError, apply};
 pub use line_answers::{
     Answer, Body, bad_metadata, damaged, has_few_lists, refusal, transform_has_few_lists,
 };

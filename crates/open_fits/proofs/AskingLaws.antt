@@ -16,9 +16,9 @@ use Rattle.history.specs.History.{History}
 use Rattle.history.specs.Legal.{IsLegal}
 use Rattle.history.specs.Places.{IsTable}
 use Rattle.history.proofs.Laws.{legal_take, known-longer, opened_itself, as_opened, table_none}
-use Rattle.stated_acts.specs.Still.{IsStill, AreStill}
+use Rattle.read_fits.specs.Still.{IsStill, AreStill}
 use Rattle.history.proofs.Tests.{equal_or_not}
-use Rattle.stated_acts.specs.Outcomes.{AreKeptOf}
+use Rattle.read_fits.specs.Outcomes.{AreKeptOf}
 use Rattle.open_fits.specs.Asking.{moment_of_question}
 use Rattle.open_fits.specs.Opens.{IsRefusedFrom, IsRefusedAt}
 use Rattle.open_fits.proofs.Outcomes.{take_front}

@@ -2,24 +2,24 @@
 use Rattle.std.proofs.Common.{◌≡◌, ◌↔◌, ℕ, List, Bool, Ok, Err, refl, sym, ap, subst}
 use Rattle.std.specs.Prelude.{IsTrue}
 use Rattle.serde_json.specs.Data.{Data}
-use Rattle.line_fits.specs.Text.{answer_text}
-use Rattle.line_fits.specs.declared.Answer.{Answer}
-use Rattle.line_fits.specs.declared.Body as answers
-use Rattle.line_fits.specs.Answers.{answer_data}
-use Rattle.line_fits.specs.AnswerLines.{IsAnswerText}
+use Rattle.read_fits.specs.Text.{answer_text}
+use Rattle.read_fits.specs.declared.Answer.{Answer}
+use Rattle.read_fits.specs.declared.Body as answers
+use Rattle.read_fits.specs.Answers.{answer_data}
+use Rattle.read_fits.specs.AnswerLines.{IsAnswerText}
 use Rattle.history.specs.Answers as body
 use Rattle.history.specs.Answers.{Body, Text}
-use Rattle.line_fits.specs.Bodies.{body_of}
-use Rattle.line_fits.specs.LineCauses.{build_cause}
-use Rattle.stated_acts.specs.Built.{built}
-use Rattle.stated_acts.specs.declared.BuildCause.{BuildCause}
-use Rattle.stated_acts.specs.declared.BuildCause.TheVariants.{Transform, Layers}
-use Rattle.stated_acts.specs.declared.BuildError.TheVariants.{Refused}
-use Rattle.stated_acts.specs.declared.Tree.{Tree}
+use Rattle.read_fits.specs.Bodies.{body_of}
+use Rattle.read_fits.specs.LineCauses.{build_cause}
+use Rattle.read_fits.specs.Built.{built}
+use Rattle.read_fits.specs.declared.BuildCause.{BuildCause}
+use Rattle.read_fits.specs.declared.BuildCause.TheVariants.{Transform, Layers}
+use Rattle.read_fits.specs.declared.BuildError.TheVariants.{Refused}
+use Rattle.read_fits.specs.declared.Tree.{Tree}
 use Rattle.stack_driver.specs.References.{Reference}
 use Rattle.stack_driver.specs.declared.view.View.{View}
 use Rattle.history.specs.Viewing.{opened_body}
-use Rattle.line_fits.specs.Openings.{by_built, build_cause_of}
+use Rattle.read_fits.specs.Openings.{by_built, build_cause_of}
 use Rattle.open_fits.specs.Built.{IsToldSo, built_body, IsBuiltAs}
 use Rattle.open_fits.specs.declared.questions.OpenTold.{OpenTold}
 

@@ -7,18 +7,18 @@ use Rattle.serde_json.specs.Data.{Data}
 use Rattle.history.specs.Acts.{opens}
 use Rattle.history.specs.Commit.{Transaction}
 use Rattle.history.specs.History.{History}
-use Rattle.stated_acts.specs.Conditions.{IsTree}
-use Rattle.stated_acts.specs.declared.OpenPlan.{OpenPlan}
+use Rattle.read_fits.specs.Conditions.{IsTree}
+use Rattle.read_fits.specs.declared.OpenPlan.{OpenPlan}
 use Rattle.stack_driver.specs.References.{Reference}
-use Rattle.stated_acts.specs.Outline.{outline}
-use Rattle.line_fits.specs.Openings.{leaf_of, leaves_from, leaves_of, build_of}
-use Rattle.stated_acts.specs.Asked.{wanted_leaf}
-use Rattle.stated_acts.specs.Lines.{bare}
-use Rattle.stated_acts.specs.declared.Openings.{Openings}
-use Rattle.stated_acts.specs.OpenedViews.{AreGiven, paired}
-use Rattle.stated_acts.proofs.Laws.{pairs_of}
+use Rattle.read_fits.specs.Outline.{outline}
+use Rattle.read_fits.specs.Openings.{leaf_of, leaves_from, leaves_of, build_of}
+use Rattle.read_fits.specs.Asked.{wanted_leaf}
+use Rattle.read_fits.specs.Lines.{bare}
+use Rattle.read_fits.specs.declared.Openings.{Openings}
+use Rattle.read_fits.specs.OpenedViews.{AreGiven, paired}
+use Rattle.read_fits.proofs.Laws.{pairs_of}
 use Rattle.open_fits.specs.Built.{IsBuiltAs, IsTakenEnd, IsEndOf, IsInWindow}
-use Rattle.line_fits.specs.Fits.{IsAnsweredBy}
+use Rattle.read_fits.specs.Fits.{IsAnsweredBy}
 use Rattle.open_fits.specs.Moments.{moment_by, told_at}
 use Rattle.open_fits.specs.Opens.{leaves_at, window_told, IsOpenLine, IsSmall, IsRefusedAt, IsQuestion, IsJudged, MayBeAsked, AsksOf, IsFitAt}
 use Rattle.open_fits.specs.Settling.{AreArraysFor}

@@ -8,20 +8,20 @@ use Rattle.history.specs.Answers.{Text}
 use Rattle.history.specs.History.{History}
 use Rattle.history.specs.Leaves.{Leaf}
 use Rattle.history.specs.Lines.{SpecLeaf, given, stored}
-use Rattle.stated_acts.specs.declared.SpecLeaf as spec
-use Rattle.stated_acts.specs.declared.SpecLeaf.TheVariants.{Zarr, N5, Zarr3, Given as GivenOf}
-use Rattle.stated_acts.specs.declared.Tree.{Tree}
-use Rattle.line_fits.specs.Opening.{IsSettledLeaf, AreSettled, IsUntaken, IsStopped}
-use Rattle.line_fits.specs.Openings.{leaf_of, leaves_from, node_of}
-use Rattle.line_fits.specs.Takings.{Taking, taking, ref_of_leaf, all_refs}
-use Rattle.line_fits.specs.Windows.{Window}
-use Rattle.stated_acts.specs.Asked.{wanted_leaf}
-use Rattle.stated_acts.specs.Leaves.{IsSoundLeaf}
-use Rattle.stated_acts.specs.Lines.{bare}
-use Rattle.stated_acts.specs.Transcript.{mount}
-use Rattle.stated_acts.specs.declared.Wanted.{Wanted}
-use Rattle.stated_acts.specs.declared.Wanted.TheVariants.{Stored, Given}
-use Rattle.stated_acts.specs.OpenedViews.{IsGivenAt, AreGiven, paired}
+use Rattle.read_fits.specs.declared.SpecLeaf as spec
+use Rattle.read_fits.specs.declared.SpecLeaf.TheVariants.{Zarr, N5, Zarr3, Given as GivenOf}
+use Rattle.read_fits.specs.declared.Tree.{Tree}
+use Rattle.read_fits.specs.Opening.{IsSettledLeaf, AreSettled, IsUntaken, IsStopped}
+use Rattle.read_fits.specs.Openings.{leaf_of, leaves_from, node_of}
+use Rattle.read_fits.specs.Takings.{Taking, taking, ref_of_leaf, all_refs}
+use Rattle.read_fits.specs.Windows.{Window}
+use Rattle.read_fits.specs.Asked.{wanted_leaf}
+use Rattle.read_fits.specs.Leaves.{IsSoundLeaf}
+use Rattle.read_fits.specs.Lines.{bare}
+use Rattle.read_fits.specs.Transcript.{mount}
+use Rattle.read_fits.specs.declared.Wanted.{Wanted}
+use Rattle.read_fits.specs.declared.Wanted.TheVariants.{Stored, Given}
+use Rattle.read_fits.specs.OpenedViews.{IsGivenAt, AreGiven, paired}
 use Rattle.open_fits.specs.Opens.{leaf_at, leaves_at, IsSmall, IsFront}
 
 -- a leaf of another node

@@ -7,8 +7,8 @@ use Rattle.std.proofs.lemmas.Bool.Decides.{nat_tests}
 use Rattle.std.proofs.lemmas.List.{length-map}
 use Rattle.serde_json.specs.Data.{Data}
 use Rattle.json_forms.specs.Bytes.{data_of}
-use Rattle.line_fits.specs.Answers.{answer_data}
-use Rattle.line_fits.specs.AnswerLines.{IsAnswerText}
+use Rattle.read_fits.specs.Answers.{answer_data}
+use Rattle.read_fits.specs.AnswerLines.{IsAnswerText}
 use Rattle.stack_driver.specs.References.{Reference}
 use Rattle.stack_driver.specs.declared.view.View.{View}
 use Rattle.chunk_forms.specs.Wants.{mismatch_of}
@@ -26,24 +26,24 @@ use Rattle.history.specs.Places.{array_at, taken}
 use Rattle.history.specs.SingleOpen.{outcome_alone}
 use Rattle.history.proofs.Known.{some_inj}
 use Rattle.history.proofs.Tests.{equal_or_not}
-use Rattle.stated_acts.specs.Built.{built}
-use Rattle.stated_acts.specs.declared.OpenPlan.{OpenPlan}
-use Rattle.stated_acts.specs.Outline.{outline, outlined_event}
-use Rattle.stated_acts.proofs.Laws.{array_at-outline, length-outline, pairs_of}
-use Rattle.line_fits.specs.Fitting.{IsActAnswer, open_answer, printed_at}
-use Rattle.line_fits.specs.ToldNumbers.{opened_in, failed_in, single}
-use Rattle.line_fits.specs.Opening.{IsStopped, AreAllOpened, IsOpenAnswer, opened, unbuilt, refused, failed}
-use Rattle.line_fits.specs.Openings.{leaf_of, leaves_from, leaves_of, by_built, build_of, node_of}
-use Rattle.line_fits.specs.Takings.{Taking, taking, takings, was_opened}
-use Rattle.line_fits.specs.Windows.{Window}
-use Rattle.stated_acts.specs.Asked.{leaf_asked, wanted_leaf}
-use Rattle.stated_acts.specs.Lines.{bare}
-use Rattle.stated_acts.specs.declared.Wanted.{Wanted}
-use Rattle.stated_acts.specs.declared.Wanted.TheVariants.{Stored, Given}
-use Rattle.stated_acts.specs.declared.Openings.{Openings}
-use Rattle.stated_acts.specs.OpenedViews.{paired}
+use Rattle.read_fits.specs.Built.{built}
+use Rattle.read_fits.specs.declared.OpenPlan.{OpenPlan}
+use Rattle.read_fits.specs.Outline.{outline, outlined_event}
+use Rattle.read_fits.proofs.Laws.{array_at-outline, length-outline, pairs_of}
+use Rattle.read_fits.specs.Fitting.{IsActAnswer, open_answer, printed_at}
+use Rattle.read_fits.specs.ToldNumbers.{opened_in, failed_in, single}
+use Rattle.read_fits.specs.Opening.{IsStopped, AreAllOpened, IsOpenAnswer, opened, unbuilt, refused, failed}
+use Rattle.read_fits.specs.Openings.{leaf_of, leaves_from, leaves_of, by_built, build_of, node_of}
+use Rattle.read_fits.specs.Takings.{Taking, taking, takings, was_opened}
+use Rattle.read_fits.specs.Windows.{Window}
+use Rattle.read_fits.specs.Asked.{leaf_asked, wanted_leaf}
+use Rattle.read_fits.specs.Lines.{bare}
+use Rattle.read_fits.specs.declared.Wanted.{Wanted}
+use Rattle.read_fits.specs.declared.Wanted.TheVariants.{Stored, Given}
+use Rattle.read_fits.specs.declared.Openings.{Openings}
+use Rattle.read_fits.specs.OpenedViews.{paired}
 use Rattle.open_fits.specs.Built.{IsPrintedAs, built_body, IsBuiltAs, IsTakenEnd, IsEndOf, IsInWindow}
-use Rattle.line_fits.specs.Fits.{IsAnsweredBy}
+use Rattle.read_fits.specs.Fits.{IsAnsweredBy}
 use Rattle.open_fits.specs.Moments.{moment_by, told_at}
 use Rattle.open_fits.specs.Opens.{leaf_at, leaves_at, window_told, IsOpenLine, IsFront, IsStopAt, IsRefusedFrom, IsRefusedAt}
 use Rattle.open_fits.specs.declared.moments.Moment.{Moment}

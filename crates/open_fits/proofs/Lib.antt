@@ -10,3 +10,4 @@ mod AskingLaws
 mod FitLaws
 mod Ends
 mod Opened
+pub mod Laws

@@ -1,6 +1,6 @@
 -- The array of a leaf of an open line, by what calls tell of it.
 use Rattle.std.proofs.Common.{◌≡◌, ℕ, inl, inr, List, [], Option, Some, None, refl, sym, ap, subst, ◌∙◌, arith}
-use Rattle.stated_acts.specs.Homes.{reference_of}
+use Rattle.read_fits.specs.Homes.{reference_of}
 use Rattle.cells.specs.Dense.{DenseCells}
 use Rattle.stack_driver.specs.References.{Reference, IsReference}
 use Rattle.locations.specs.Paths.{Located}
@@ -12,16 +12,16 @@ use Rattle.history.specs.Lines.{given, stored}
 use Rattle.history.specs.OpenRows.{next_array, given_info}
 use Rattle.history.specs.Outcomes.{Outcome, there, opening_outcome}
 use Rattle.history.proofs.Known.{some_inj}
-use Rattle.stated_acts.proofs.Laws.{reference_given}
-use Rattle.line_fits.proofs.Laws.{there_at}
-use Rattle.line_fits.specs.Takings.{before, taking}
-use Rattle.stated_acts.specs.Asked.{leaf_asked}
-use Rattle.stated_acts.specs.Outcomes.{AreKeptOf, IsToldAs}
-use Rattle.stated_acts.specs.declared.Asked.{Asked}
-use Rattle.stated_acts.specs.declared.Wanted.TheVariants.{Stored, Given}
-use Rattle.stated_acts.specs.declared.LeafOutcome.{LeafOutcome}
-use Rattle.stated_acts.specs.declared.LeafOutcome.TheVariants.{Taken, There, Exists, Mismatch, NotFound, BadWant, Made}
-use Rattle.stated_acts.specs.OpenedViews.{IsGivenAt}
+use Rattle.read_fits.proofs.Laws.{reference_given}
+use Rattle.read_fits.proofs.Laws.{there_at}
+use Rattle.read_fits.specs.Takings.{before, taking}
+use Rattle.read_fits.specs.Asked.{leaf_asked}
+use Rattle.read_fits.specs.Outcomes.{AreKeptOf, IsToldAs}
+use Rattle.read_fits.specs.declared.Asked.{Asked}
+use Rattle.read_fits.specs.declared.Wanted.TheVariants.{Stored, Given}
+use Rattle.read_fits.specs.declared.LeafOutcome.{LeafOutcome}
+use Rattle.read_fits.specs.declared.LeafOutcome.TheVariants.{Taken, There, Exists, Mismatch, NotFound, BadWant, Made}
+use Rattle.read_fits.specs.OpenedViews.{IsGivenAt}
 use Rattle.open_fits.specs.Opens.{IsSmall}
 use Rattle.open_fits.specs.Settling.{IsSettledAs, IsFoundAs, IsArrayFor, MayBeNamed, MayBeNamedBy, IsNamedBy, IsNamedIfMade, IsNamedIfEarly, IsNamedOutcome, IsNamedByOutcome}
 use Rattle.open_fits.proofs.Outcomes.{as_outcome}

@@ -9,10 +9,10 @@ use Rattle.history.specs.History.{History}
 use Rattle.history.specs.Leaves.{Leaf}
 use Rattle.history.specs.OpenRows.{IsRefusal}
 use Rattle.history.specs.Outcomes.{Outcome, path_taken, bad_metadata, exists, mismatch, there, found, not_found, bad_want, made, IsOutcome}
-use Rattle.line_fits.specs.Answers.{answer_data}
-use Rattle.line_fits.specs.Fitting.{printed_at}
-use Rattle.line_fits.specs.Openings.{node_of}
-use Rattle.stated_acts.specs.Asked.{leaf_asked}
+use Rattle.read_fits.specs.Answers.{answer_data}
+use Rattle.read_fits.specs.Fitting.{printed_at}
+use Rattle.read_fits.specs.Openings.{node_of}
+use Rattle.read_fits.specs.Asked.{leaf_asked}
 use Rattle.open_fits.specs.Opened.{OpenedIsUnrefused}
 use Rattle.open_fits.specs.Opens.{IsStopAt}
 use Rattle.open_fits.proofs.Judging.{never_bad, one_reading}

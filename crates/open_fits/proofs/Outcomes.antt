@@ -26,12 +26,12 @@ use Rattle.history.proofs.Laws.{each_history, legal_step, legal_take, legal_more
 use Rattle.history.proofs.Ordering.{IsAmong, kept, none_kept, least_none}
 use Rattle.history.proofs.Tabled.{listed_there, there_listed}
 use Rattle.history.proofs.Tests.{true_or_false}
-use Rattle.stated_acts.specs.Outline.{outline, outlined, outlined_event}
-use Rattle.stated_acts.proofs.Laws.{places_apart}
-use Rattle.stated_acts.proofs.Laws.{array_at-outline, known-outline, outline-more, outline_opening}
-use Rattle.stated_acts.specs.Still.{IsStill, AreStill}
-use Rattle.line_fits.proofs.Laws.{there_at}
-use Rattle.line_fits.proofs.Laws.{IsUnresized, AreUnresized, unresized_back, stays, stays_step, stays_more, stays_until}
+use Rattle.read_fits.specs.Outline.{outline, outlined, outlined_event}
+use Rattle.read_fits.proofs.Laws.{places_apart}
+use Rattle.read_fits.proofs.Laws.{array_at-outline, known-outline, outline-more, outline_opening}
+use Rattle.read_fits.specs.Still.{IsStill, AreStill}
+use Rattle.read_fits.proofs.Laws.{there_at}
+use Rattle.read_fits.proofs.Laws.{IsUnresized, AreUnresized, unresized_back, stays, stays_step, stays_more, stays_until}
 
 -- the same in the words of the crates below
 one_unresized : (kind : Kind) → IsStill kind → IsUnresized kind

@@ -3,10 +3,10 @@ use Rattle.std.proofs.Common.{◌≡◌, ◌↔◌, ℕ, ◌+◌, List, [], take
 use Rattle.std.specs.Prelude.{IsTrue, unwrap_or}
 use Rattle.std.specs.List.{slice_get}
 use Rattle.serde_json.specs.Data.{Data}
-use Rattle.line_fits.specs.declared.Body as printed
-use Rattle.line_fits.specs.declared.Body.TheVariants.{PathTaken, Exists, NotFound, Mismatch, BadSpec}
-use Rattle.line_fits.specs.Answers.{answer_data}
-use Rattle.line_fits.specs.AnswerLines.{IsAnswerText}
+use Rattle.read_fits.specs.declared.Body as printed
+use Rattle.read_fits.specs.declared.Body.TheVariants.{PathTaken, Exists, NotFound, Mismatch, BadSpec}
+use Rattle.read_fits.specs.Answers.{answer_data}
+use Rattle.read_fits.specs.AnswerLines.{IsAnswerText}
 use Rattle.history.specs.Answers as body
 use Rattle.history.specs.Answers.{Body, Text}
 use Rattle.history.specs.Arrays.{Known}
@@ -16,15 +16,15 @@ use Rattle.history.specs.Lines.{member_of_node}
 use Rattle.history.specs.OpenRows.{IsRefusal}
 use Rattle.history.specs.Outcomes.{Outcome, path_taken, exists, mismatch, there, not_found, bad_want, made}
 use Rattle.history.specs.SingleOpen.{outcome_alone}
-use Rattle.line_fits.specs.Bodies.{body_of}
-use Rattle.stated_acts.specs.Asked.{leaf_asked}
-use Rattle.stated_acts.specs.Outcomes.{IsToldAs}
-use Rattle.stated_acts.specs.declared.Asked.{Asked}
-use Rattle.stated_acts.specs.declared.Wanted.TheVariants.{Stored, Given}
-use Rattle.stated_acts.specs.declared.LeafOutcome.{LeafOutcome}
-use Rattle.stated_acts.specs.declared.LeafOutcome.TheVariants as told_outcome
-use Rattle.line_fits.specs.Fitting.{printed_at}
-use Rattle.line_fits.specs.Openings.{node_of}
+use Rattle.read_fits.specs.Bodies.{body_of}
+use Rattle.read_fits.specs.Asked.{leaf_asked}
+use Rattle.read_fits.specs.Outcomes.{IsToldAs}
+use Rattle.read_fits.specs.declared.Asked.{Asked}
+use Rattle.read_fits.specs.declared.Wanted.TheVariants.{Stored, Given}
+use Rattle.read_fits.specs.declared.LeafOutcome.{LeafOutcome}
+use Rattle.read_fits.specs.declared.LeafOutcome.TheVariants as told_outcome
+use Rattle.read_fits.specs.Fitting.{printed_at}
+use Rattle.read_fits.specs.Openings.{node_of}
 use Rattle.open_fits.specs.Built.{IsPrintedAs, IsToldSo}
 use Rattle.open_fits.specs.Opens.{IsStopAt, IsRefusedFor, IsRefusedFrom}
 use Rattle.open_fits.specs.Refusals.{IsRefusalBody, is_free_told}

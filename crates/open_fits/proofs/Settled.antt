@@ -3,8 +3,8 @@ use Rattle.std.proofs.Common.{◌≡◌, ℕ, zero, suc, ◌-◌, List, [], ◌�
 use Rattle.std.specs.Prelude.{option_map, map, max}
 use Rattle.std.specs.List.{AllByRecursion, slice_get}
 use Rattle.std.specs.FinMap as finmap
-use Rattle.stated_acts.specs.Homes.{reference_of}
-use Rattle.stated_acts.proofs.Laws.{known_reference}
+use Rattle.read_fits.specs.Homes.{reference_of}
+use Rattle.read_fits.proofs.Laws.{known_reference}
 use Rattle.cells.specs.Shapes.{IsShape, IsChunkShape}
 use Rattle.chunk_forms.specs.Made.{form_made}
 use Rattle.chunk_forms.specs.declared.form.Form.{Form}
@@ -27,19 +27,19 @@ use Rattle.history.specs.Places.{location, at_step, array_at, IsFree}
 use Rattle.history.specs.SingleOpen.{outcome_alone}
 use Rattle.history.specs.Touch.{is_key}
 use Rattle.history.proofs.Laws.{each_history, array_at-more, legal_take, opened_then, opened_as, some_inj, none_is_none}
-use Rattle.stated_acts.specs.Outline.{outline}
-use Rattle.stated_acts.proofs.Laws.{location_new}
-use Rattle.stated_acts.proofs.Laws.{array_at-outline, count-outline}
-use Rattle.line_fits.proofs.Laws.{there_at}
-use Rattle.line_fits.proofs.Laws.{lies_here}
-use Rattle.line_fits.specs.Takings.{before, taking, made_info, opened_info, ref_of_leaf}
-use Rattle.line_fits.specs.Windows.{Window}
-use Rattle.stated_acts.specs.Asked.{leaf_asked}
-use Rattle.stated_acts.specs.Still.{IsStill, AreStill}
-use Rattle.stated_acts.specs.Outcomes.{IsOpenedAt}
-use Rattle.stated_acts.specs.declared.Asked.{Asked}
-use Rattle.stated_acts.proofs.Laws.{made_stored}
-use Rattle.stated_acts.specs.OpenedViews.{IsGivenAt}
+use Rattle.read_fits.specs.Outline.{outline}
+use Rattle.read_fits.proofs.Laws.{location_new}
+use Rattle.read_fits.proofs.Laws.{array_at-outline, count-outline}
+use Rattle.read_fits.proofs.Laws.{there_at}
+use Rattle.read_fits.proofs.Laws.{lies_here}
+use Rattle.read_fits.specs.Takings.{before, taking, made_info, opened_info, ref_of_leaf}
+use Rattle.read_fits.specs.Windows.{Window}
+use Rattle.read_fits.specs.Asked.{leaf_asked}
+use Rattle.read_fits.specs.Still.{IsStill, AreStill}
+use Rattle.read_fits.specs.Outcomes.{IsOpenedAt}
+use Rattle.read_fits.specs.declared.Asked.{Asked}
+use Rattle.read_fits.proofs.Laws.{made_stored}
+use Rattle.read_fits.specs.OpenedViews.{IsGivenAt}
 use Rattle.open_fits.specs.Settling.{IsSettledAs, IsFoundAs}
 use Rattle.open_fits.proofs.Outcomes.{front, as_outcome, of_outcome, outcome_by_outline, outcome_of_free, finds_later, finds_earlier, free_before, take_front}
 

@@ -4,16 +4,16 @@ use Rattle.std.specs.Prelude.{unwrap_or}
 use Rattle.std.specs.List.{slice_get}
 use Rattle.stack_driver.specs.References.{Reference}
 use Rattle.history.specs.History.{History}
-use Rattle.stated_acts.specs.declared.SpecLeaf as spec
-use Rattle.stated_acts.specs.declared.Tree.{Tree}
-use Rattle.stated_acts.specs.Outline.{outline}
-use Rattle.stated_acts.specs.OpenedViews.{paired}
-use Rattle.stated_acts.specs.Asked.{wanted_leaf}
-use Rattle.stated_acts.specs.Lines.{bare}
-use Rattle.stated_acts.specs.declared.Wanted.{Wanted}
-use Rattle.line_fits.specs.Openings.{leaf_of, node_of}
-use Rattle.line_fits.specs.Takings.{Taking, taking}
-use Rattle.line_fits.specs.Windows.{Window}
+use Rattle.read_fits.specs.declared.SpecLeaf as spec
+use Rattle.read_fits.specs.declared.Tree.{Tree}
+use Rattle.read_fits.specs.Outline.{outline}
+use Rattle.read_fits.specs.OpenedViews.{paired}
+use Rattle.read_fits.specs.Asked.{wanted_leaf}
+use Rattle.read_fits.specs.Lines.{bare}
+use Rattle.read_fits.specs.declared.Wanted.{Wanted}
+use Rattle.read_fits.specs.Openings.{leaf_of, node_of}
+use Rattle.read_fits.specs.Takings.{Taking, taking}
+use Rattle.read_fits.specs.Windows.{Window}
 use Rattle.open_fits.specs.Opens.{leaf_at, leaves_at, IsFront}
 use Rattle.open_fits.specs.Settling.{AreArraysFor, IsArrayFor}
 use Rattle.open_fits.proofs.Fronts.{pair_at, front_more, front_stop, length-paired, length-leaves_at}

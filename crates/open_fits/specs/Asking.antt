@@ -3,10 +3,10 @@ use Rattle.std.specs.Prelude.{◌≡◌, ◌↔◌, ℕ, take, Bool, IsTrue}
 use Rattle.history.specs.History.{History}
 use Rattle.history.specs.Outcomes.{Outcome}
 use Rattle.history.specs.SingleOpen.{outcome_alone}
-use Rattle.stated_acts.specs.Asked.{leaf_asked}
-use Rattle.stated_acts.specs.Outcomes.{IsToldAs}
-use Rattle.stated_acts.specs.declared.Asked.{Asked}
-use Rattle.stated_acts.specs.declared.LeafOutcome.{LeafOutcome}
+use Rattle.read_fits.specs.Asked.{leaf_asked}
+use Rattle.read_fits.specs.Outcomes.{IsToldAs}
+use Rattle.read_fits.specs.declared.Asked.{Asked}
+use Rattle.read_fits.specs.declared.LeafOutcome.{LeafOutcome}
 use Rattle.open_fits.specs.Opens.{IsRefusedFor}
 use Rattle.open_fits.specs.declared.questions.OpenQuestion.{OpenQuestion}
 

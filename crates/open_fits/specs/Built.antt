@@ -2,18 +2,18 @@
 use Rattle.std.specs.Prelude.{◌≡◌, ◌<◌, ◌≤◌, ◌↔◌, ℕ, suc, List, Bool, false, Option, Some, None, Result, Ok, Err, IsTrue}
 use Rattle.std.specs.List.{slice_get}
 use Rattle.serde_json.specs.Data.{Data}
-use Rattle.line_fits.specs.Text.{answer_text}
-use Rattle.line_fits.specs.Answers.{answer_data}
-use Rattle.line_fits.specs.AnswerLines.{IsAnswerText}
+use Rattle.read_fits.specs.Text.{answer_text}
+use Rattle.read_fits.specs.Answers.{answer_data}
+use Rattle.read_fits.specs.AnswerLines.{IsAnswerText}
 use Rattle.history.specs.Answers as body
 use Rattle.history.specs.Answers.{Body, Text, BuildCause}
 use Rattle.history.specs.Viewing.{opened_body}
 use Rattle.stack_driver.specs.References.{Reference}
 use Rattle.stack_driver.specs.declared.view.View.{View}
-use Rattle.stated_acts.specs.Built.{built}
-use Rattle.stated_acts.specs.declared.Tree.{Tree}
-use Rattle.line_fits.specs.Fitting.{printed_at}
-use Rattle.line_fits.specs.Openings.{by_built}
+use Rattle.read_fits.specs.Built.{built}
+use Rattle.read_fits.specs.declared.Tree.{Tree}
+use Rattle.read_fits.specs.Fitting.{printed_at}
+use Rattle.read_fits.specs.Openings.{by_built}
 use Rattle.open_fits.specs.declared.moments.Moment.{Moment}
 use Rattle.open_fits.specs.declared.questions.OpenTold.{OpenTold}
 

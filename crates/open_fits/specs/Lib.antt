@@ -5,3 +5,24 @@ pub mod Built
 pub mod Refusals
 pub mod Asking
 pub mod Opened
+-- names of crates below, given on to those above
+pub use Rattle.read_fits.specs.AnswerLines
+pub use Rattle.read_fits.specs.Answers
+pub use Rattle.read_fits.specs.Bodies
+pub use Rattle.read_fits.specs.Fits
+pub use Rattle.read_fits.specs.Fitting
+pub use Rattle.read_fits.specs.OneAnswer
+pub use Rattle.read_fits.specs.Opening
+pub use Rattle.read_fits.specs.Openings
+pub use Rattle.read_fits.specs.StoredPuts
+pub use Rattle.read_fits.specs.Sweeps
+pub use Rattle.read_fits.specs.Text
+pub use Rattle.read_fits.specs.ToldNumbers
+pub use Rattle.read_fits.specs.Transcript
+pub use Rattle.read_fits.specs.Walls
+pub use Rattle.read_fits.specs.Windows
+pub use Rattle.read_fits.specs.Conflicts
+pub use Rattle.read_fits.specs.Owned
+pub use Rattle.read_fits.specs.ReadFits
+pub use Rattle.read_fits.specs.Stores
+pub use Rattle.read_fits.specs.Operations

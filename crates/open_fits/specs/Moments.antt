@@ -2,7 +2,7 @@
 use Rattle.std.specs.Prelude.{ℕ, ◌-◌, true, false, Option, Some, None, option_and_then, codes}
 use Rattle.serde_json.specs.Data.{Data}
 use Rattle.serde_json.specs.Find.{get}
-use Rattle.line_fits.specs.ToldNumbers.{event_of}
+use Rattle.read_fits.specs.ToldNumbers.{event_of}
 use Rattle.open_fits.specs.declared.moments.Moment.{Moment}
 
 -- the first of two that is there

@@ -3,7 +3,7 @@ use Rattle.std.specs.Prelude.{◌≡◌, Some, codes}
 use Rattle.serde_json.specs.Data.{Data}
 use Rattle.serde_json.specs.Find.{get}
 use Rattle.history.specs.History.{History}
-use Rattle.line_fits.specs.AnswerLines.{IsAnswerText}
+use Rattle.read_fits.specs.AnswerLines.{IsAnswerText}
 use Rattle.open_fits.specs.Opens.{IsRefusedAt}
 use Rattle.open_fits.specs.declared.questions.OpenQuestion.{OpenQuestion}
 

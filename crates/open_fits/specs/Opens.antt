@@ -5,9 +5,9 @@ use Rattle.std.specs.List.{slice_get}
 use Rattle.std.specs.FinMap as finmap
 use Rattle.cells.specs.Places.{cell_count}
 use Rattle.serde_json.specs.Data.{Data}
-use Rattle.line_fits.specs.Text.{answer_text}
-use Rattle.line_fits.specs.Answers.{answer_data}
-use Rattle.line_fits.specs.AnswerLines.{IsAnswerText}
+use Rattle.read_fits.specs.Text.{answer_text}
+use Rattle.read_fits.specs.Answers.{answer_data}
+use Rattle.read_fits.specs.AnswerLines.{IsAnswerText}
 use Rattle.stack_driver.specs.References.{Reference}
 use Rattle.history.specs.Answers as body
 use Rattle.history.specs.Answers.{Body, Text}
@@ -17,24 +17,24 @@ use Rattle.history.specs.Lines.{SpecLeaf, given, stored}
 use Rattle.history.specs.OpenRows.{IsRefusal}
 use Rattle.history.specs.Outcomes.{Outcome, IsOutcome}
 use Rattle.history.specs.Places.{IsFree}
-use Rattle.stated_acts.specs.Conditions.{IsSoundPlan}
-use Rattle.stated_acts.specs.declared.OpenPlan.{OpenPlan}
-use Rattle.stated_acts.specs.declared.Tree.{Tree}
-use Rattle.line_fits.specs.Fitting.{printed_at}
-use Rattle.line_fits.specs.ToldNumbers.{single, opened_in, failed_in}
-use Rattle.line_fits.specs.Opening.{IsSettledLeaf}
-use Rattle.line_fits.specs.Openings.{node_of, leaves_of}
-use Rattle.line_fits.specs.Takings.{Taking, ref_of_leaf}
-use Rattle.line_fits.specs.Windows.{Window}
-use Rattle.stated_acts.specs.Asked.{leaf_asked}
-use Rattle.stated_acts.specs.Outcomes.{AreKeptOf}
-use Rattle.stated_acts.specs.Stating.{numbers_taken}
-use Rattle.stated_acts.specs.Transcript.{mount}
-use Rattle.stated_acts.specs.declared.Asked.{Asked}
-use Rattle.stated_acts.specs.declared.Wanted.{Wanted}
-use Rattle.stated_acts.specs.declared.Wanted.TheVariants.{Stored, Given}
-use Rattle.stated_acts.specs.declared.Openings.{Openings}
-use Rattle.stated_acts.specs.OpenedViews.{AreGiven, paired}
+use Rattle.read_fits.specs.Conditions.{IsSoundPlan}
+use Rattle.read_fits.specs.declared.OpenPlan.{OpenPlan}
+use Rattle.read_fits.specs.declared.Tree.{Tree}
+use Rattle.read_fits.specs.Fitting.{printed_at}
+use Rattle.read_fits.specs.ToldNumbers.{single, opened_in, failed_in}
+use Rattle.read_fits.specs.Opening.{IsSettledLeaf}
+use Rattle.read_fits.specs.Openings.{node_of, leaves_of}
+use Rattle.read_fits.specs.Takings.{Taking, ref_of_leaf}
+use Rattle.read_fits.specs.Windows.{Window}
+use Rattle.read_fits.specs.Asked.{leaf_asked}
+use Rattle.read_fits.specs.Outcomes.{AreKeptOf}
+use Rattle.read_fits.specs.Stating.{numbers_taken}
+use Rattle.read_fits.specs.Transcript.{mount}
+use Rattle.read_fits.specs.declared.Asked.{Asked}
+use Rattle.read_fits.specs.declared.Wanted.{Wanted}
+use Rattle.read_fits.specs.declared.Wanted.TheVariants.{Stored, Given}
+use Rattle.read_fits.specs.declared.Openings.{Openings}
+use Rattle.read_fits.specs.OpenedViews.{AreGiven, paired}
 use Rattle.open_fits.specs.Built.{IsEndOf, IsInWindow}
 use Rattle.open_fits.specs.declared.moments.Moment.{Moment}
 use Rattle.open_fits.specs.declared.opens.OpenFit.{OpenFit}

@@ -1,18 +1,18 @@
 -- What is answered to a leaf that is refused.
 use Rattle.std.specs.Prelude.{◌≡◌, ℕ, List, [], Bool, true, false, Option, Some, None, unwrap_or}
-use Rattle.line_fits.specs.declared.Body as printed_body
+use Rattle.read_fits.specs.declared.Body as printed_body
 use Rattle.history.specs.Answers.{Body, Text}
 use Rattle.history.specs.History.{History}
 use Rattle.history.specs.Leaves.{Leaf}
 use Rattle.history.specs.OpenRows.{IsRefusal}
 use Rattle.history.specs.Outcomes.{Outcome}
-use Rattle.line_fits.specs.Bodies.{body_of}
-use Rattle.line_fits.specs.Openings.{node_of}
-use Rattle.stated_acts.specs.Asked.{leaf_asked}
-use Rattle.stated_acts.specs.Outcomes.{IsToldAs}
-use Rattle.stated_acts.specs.declared.Asked.{Asked}
-use Rattle.stated_acts.specs.declared.LeafOutcome.{LeafOutcome}
-use Rattle.stated_acts.specs.declared.LeafOutcome.TheVariants.{Taken, There, Exists, Mismatch, NotFound, BadWant, Made}
+use Rattle.read_fits.specs.Bodies.{body_of}
+use Rattle.read_fits.specs.Openings.{node_of}
+use Rattle.read_fits.specs.Asked.{leaf_asked}
+use Rattle.read_fits.specs.Outcomes.{IsToldAs}
+use Rattle.read_fits.specs.declared.Asked.{Asked}
+use Rattle.read_fits.specs.declared.LeafOutcome.{LeafOutcome}
+use Rattle.read_fits.specs.declared.LeafOutcome.TheVariants.{Taken, There, Exists, Mismatch, NotFound, BadWant, Made}
 use Rattle.open_fits.specs.declared.questions.OpenQuestion.{OpenQuestion}
 
 -- the answer by which a leaf is refused, if it is

@@ -1,7 +1,7 @@
 -- Whether a leaf of an open line was opened.
 use Rattle.std.specs.Prelude.{◌≡◌, ◌<◌, ◌≤◌, ◌⊎◌, ℕ, List, true, false, Option, Some, None}
 use Rattle.std.specs.List.{slice_get}
-use Rattle.stated_acts.specs.Homes.{reference_of}
+use Rattle.read_fits.specs.Homes.{reference_of}
 use Rattle.stack_driver.specs.References.{Reference, IsReference}
 use Rattle.history.specs.declared.array.ArrayInfo.{ArrayInfo}
 use Rattle.history.specs.Answers.{Text}
@@ -9,18 +9,18 @@ use Rattle.history.specs.Arrays.{Known, ref_of}
 use Rattle.history.specs.History.{History}
 use Rattle.history.specs.Outcomes.{there}
 use Rattle.history.specs.SingleOpen.{outcome_alone}
-use Rattle.stated_acts.specs.Asked.{leaf_asked}
-use Rattle.stated_acts.specs.declared.Tree.{Tree}
-use Rattle.stated_acts.specs.Outline.{outline}
-use Rattle.stated_acts.specs.OpenedViews.{paired}
-use Rattle.stated_acts.specs.Outcomes.{IsOpenedAt}
-use Rattle.stated_acts.specs.declared.Asked.{Asked}
-use Rattle.stated_acts.specs.declared.Wanted.{Wanted}
-use Rattle.stated_acts.specs.declared.LeafOutcome.{LeafOutcome}
-use Rattle.stated_acts.specs.declared.LeafOutcome.TheVariants.{There}
-use Rattle.line_fits.specs.Opening.{IsSettledLeaf}
-use Rattle.line_fits.specs.Takings.{Taking, taking, ref_of_leaf}
-use Rattle.line_fits.specs.Windows.{Window}
+use Rattle.read_fits.specs.Asked.{leaf_asked}
+use Rattle.read_fits.specs.declared.Tree.{Tree}
+use Rattle.read_fits.specs.Outline.{outline}
+use Rattle.read_fits.specs.OpenedViews.{paired}
+use Rattle.read_fits.specs.Outcomes.{IsOpenedAt}
+use Rattle.read_fits.specs.declared.Asked.{Asked}
+use Rattle.read_fits.specs.declared.Wanted.{Wanted}
+use Rattle.read_fits.specs.declared.LeafOutcome.{LeafOutcome}
+use Rattle.read_fits.specs.declared.LeafOutcome.TheVariants.{There}
+use Rattle.read_fits.specs.Opening.{IsSettledLeaf}
+use Rattle.read_fits.specs.Takings.{Taking, taking, ref_of_leaf}
+use Rattle.read_fits.specs.Windows.{Window}
 use Rattle.open_fits.specs.Opens.{leaf_at, leaves_at, IsFront}
 
 -- the event of a number opens an array, and views may name it

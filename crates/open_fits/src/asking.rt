@@ -5,11 +5,11 @@ ghost use Rattle.std.specs.List.Sorted.{IsPermutation, IsSortedByKey};
 ghost use Rattle.std.specs.Ordering.{nat_cmp};
 ghost use Rattle.history.specs.History.{History};
 ghost use Rattle.serde_json.specs.Data.{Data};
-ghost use Rattle.line_fits.specs.AnswerLines.{IsAnswerText};
+ghost use Rattle.read_fits.specs.AnswerLines.{IsAnswerText};
 ghost use Rattle.history.specs.Answers.{store_failed};
 ghost use Rattle.history.specs.Places.{IsTable};
-ghost use Rattle.stated_acts.specs.Outline.{outline};
-ghost use Rattle.stated_acts.specs.Outcomes.{AreKeptOf, AreStill};
+ghost use Rattle.read_fits.specs.Outline.{outline};
+ghost use Rattle.read_fits.specs.Outcomes.{AreKeptOf, AreStill};
 ghost use Rattle.open_fits.specs.Built.{IsPrintedAs};
 ghost use Rattle.open_fits.specs.Opens.{IsQuestion, IsRefusedAt, IsRefusedFor, IsRefusedFrom};
 ghost use Rattle.open_fits.specs.Opened.{OpenedIsUnrefused};
@@ -20,7 +20,7 @@ use crate::questions::OpenQuestion;
 use crate::refusals::{failure_of, is_free, refusal_of};
 use history::Event;
 use locations::Locations;
-use stated_acts::{Asked, LeafOutcome, Openings, Wanted, outcome_after, place_next};
+use read_fits::{Asked, LeafOutcome, Openings, Wanted, outcome_after, place_next};
 use std::alloc::{AllocError, Global};
 
 /// An answer with a member `open` refuses no leaf: where it isn't the one over all arrays, it doesn't fit.
@@ -40,8 +40,9 @@ pub fn are_refused(
 ) -> Result<bool, AllocError>
     requires openings { AreKeptOf openings.now.events openings.now.opened openings.now.places }
     requires questions { AllByRecursion (IsQuestion openings.now.events) questions.old }
-    ensures { IfOk result (λ all. (history : History) → outline history ≡ openings.now.events
+    ensures refused { IfOk result (λ all. (history : History) → outline history ≡ openings.now.events
         → IsTrue all ↔ AllByRecursion (IsRefusedAt history) questions.old) }
+    ensures permutation { IsPermutation questions.old questions.new }
 {
     sort_questions(questions);
     are_refused_in_order(alloc, openings, questions)

@@ -2,9 +2,9 @@
 ghost use Rattle.std.specs.Prelude.{◌≡◌, ◌≢◌, IfOk, Ok, length, false};
 ghost use Rattle.history.specs.Answers.{Body as BodyOf, refused_spec};
 ghost use Rattle.history.specs.Viewing.{opened_body};
-ghost use Rattle.line_fits.specs.Bodies.{body_of};
-ghost use Rattle.line_fits.specs.Openings.{build_cause_of};
-ghost use Rattle.stated_acts.specs.Conditions.{IsTree};
+ghost use Rattle.read_fits.specs.Bodies.{body_of};
+ghost use Rattle.read_fits.specs.Openings.{build_cause_of};
+ghost use Rattle.read_fits.specs.Conditions.{IsTree};
 ghost use Rattle.stack_driver.specs.Views.{own_transform};
 ghost use Rattle.open_fits.specs.Built.{IsToldSo, IsBuiltAs};
 
@@ -12,9 +12,8 @@ use crate::questions::{OpenTold, WantedPlan};
 use cells::{List, Name};
 use history::ArrayRef;
 use index_transform::Domain;
-use line_fits::{Answer, Body, is_told};
+use read_fits::{Answer, Body, BuildCause, BuildError, Tree, build, is_told};
 use stack_driver::{View, dtype, transform_of};
-use stated_acts::{BuildCause, BuildError, Tree, build};
 use std::alloc::{AllocError, Global};
 
 /// Whether there is an array for each leaf, and the answer is that the view over them was opened, or that a node of the

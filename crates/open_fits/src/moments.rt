@@ -1,7 +1,7 @@
 // The moment of which an answer to an open line speaks.
 ghost use Rattle.std.specs.Prelude.{◌≡◌, ◌<◌, ◌+◌, ◌^◌, true, None, option_map};
 ghost use Rattle.serde_json.specs.View.{view};
-ghost use Rattle.line_fits.specs.ToldNumbers.{event_of};
+ghost use Rattle.read_fits.specs.ToldNumbers.{event_of};
 ghost use Rattle.open_fits.specs.Moments.{told_refusal, told_at, moment_by};
 
 use crate::questions::OpenTold;

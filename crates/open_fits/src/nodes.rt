@@ -3,12 +3,12 @@ ghost use Rattle.std.specs.Prelude.{◌≡◌, [], IfOk, map, unwrap_or};
 ghost use Rattle.std.specs.Option.{option_copied};
 ghost use Rattle.chunk_forms.specs.Members.{member_name};
 ghost use Rattle.history.specs.Lines.{named_at, member_of_node};
-ghost use Rattle.line_fits.specs.Openings.{node_of, first_path};
+ghost use Rattle.read_fits.specs.Openings.{node_of, first_path};
 
 use cells::Name;
 use chunk_forms::Member;
+use read_fits::joined;
 use spec_open::Tree;
-use stated_acts::joined;
 use std::alloc::{AllocError, Global};
 
 // The path of the node whose leaf has a number, if there is one.

@@ -4,9 +4,9 @@ ghost use Rattle.history.specs.Acts.{opens};
 ghost use Rattle.history.specs.Commit.{Transaction};
 ghost use Rattle.history.specs.History.{History};
 ghost use Rattle.serde_json.specs.View.{view};
-ghost use Rattle.stated_acts.specs.Outline.{outline};
-ghost use Rattle.line_fits.specs.Openings.{leaves_of, build_of};
-ghost use Rattle.line_fits.specs.Fits.{IsAnsweredBy};
+ghost use Rattle.read_fits.specs.Outline.{outline};
+ghost use Rattle.read_fits.specs.Openings.{leaves_of, build_of};
+ghost use Rattle.read_fits.specs.Fits.{IsAnsweredBy};
 ghost use Rattle.open_fits.specs.Opens.{IsOpenLine, IsJudged, MayBeAsked, AsksOf, IsFitAt, window_told};
 ghost use Rattle.open_fits.specs.Built.{IsTakenEnd, IsEndOf, IsInWindow};
 
@@ -15,8 +15,8 @@ use crate::moments::{Moment, moment_of};
 use crate::questions::{OpenQuestion, OpenTold, WantedPlan, plan_wanted};
 use crate::settling::arrays_settled;
 use history::{ArrayRef, Event};
+use read_fits::{OpenPlan, Openings};
 use serde_json::Value;
-use stated_acts::{OpenPlan, Openings};
 use std::alloc::{AllocError, Global};
 
 /// Whether the answer to an open line fits.

@@ -1,10 +1,10 @@
 // What is asked of the arrays at one moment, so that the answer to an open line fits.
 ghost use Rattle.std.specs.Prelude.{◌≡◌, IfOk, map};
-ghost use Rattle.stated_acts.specs.Asked.{wanted_leaf};
-ghost use Rattle.stated_acts.specs.Lines.{bare};
+ghost use Rattle.read_fits.specs.Asked.{wanted_leaf};
+ghost use Rattle.read_fits.specs.Lines.{bare};
 
 use cells::{List, Name};
-use stated_acts::{OpenPlan, SpecLeaf, Tree, Wanted, wanted_by};
+use read_fits::{OpenPlan, SpecLeaf, Tree, Wanted, wanted_by};
 use std::alloc::{AllocError, Global};
 
 /// An open line as it is told.

@@ -1,12 +1,12 @@
 // Whether a leaf is refused at a moment as an answer says.
 ghost use Rattle.std.specs.Prelude.{◌≡◌, ◌<◌, ◌+◌, ◌^◌, [], IfOk, Some, unwrap_or};
-ghost use Rattle.line_fits.specs.declared.Body.TheVariants as body;
+ghost use Rattle.read_fits.specs.declared.Body.TheVariants as body;
 ghost use Rattle.chunk_forms.specs.Members.{member_name};
 ghost use Rattle.history.specs.Lines.{member_of_node};
 ghost use Rattle.history.specs.Answers.{store_failed};
-ghost use Rattle.line_fits.specs.Bodies.{body_of};
-ghost use Rattle.line_fits.specs.Openings.{node_of};
-ghost use Rattle.stated_acts.specs.Asked.{location_asked};
+ghost use Rattle.read_fits.specs.Bodies.{body_of};
+ghost use Rattle.read_fits.specs.Openings.{node_of};
+ghost use Rattle.read_fits.specs.Asked.{location_asked};
 ghost use Rattle.open_fits.specs.Refusals.{IsRefusalFor, is_free_told};
 
 use crate::built::numbers_told;
@@ -14,8 +14,7 @@ use crate::nodes::member_path;
 use crate::questions::OpenQuestion;
 use cells::{List, Name};
 use chunk_forms::Member;
-use line_fits::Body;
-use stated_acts::{Asked, LeafOutcome};
+use read_fits::{Asked, Body, LeafOutcome};
 use std::alloc::{AllocError, Global};
 
 /// The answer by which a leaf of a question is refused that comes to this, if it is refused.

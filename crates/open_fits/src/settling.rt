@@ -1,17 +1,17 @@
 // The leaves of an open line that were opened, and their arrays.
 ghost use Rattle.std.specs.Prelude.{◌≡◌, ℕ, IfOk, Some, length, map};
 ghost use Rattle.std.specs.List.{AllByRecursion, slice_get};
-ghost use Rattle.stated_acts.specs.Homes.{reference_of};
+ghost use Rattle.read_fits.specs.Homes.{reference_of};
 ghost use Rattle.stack_driver.specs.References.{IsReference};
-ghost use Rattle.stated_acts.specs.OpenedViews.{IsGivenAt, AreGiven, paired};
-ghost use Rattle.stated_acts.specs.Asked.{wanted_leaf};
-ghost use Rattle.stated_acts.specs.Outcomes.{AreKeptOf};
-ghost use Rattle.stated_acts.specs.declared.Wanted.TheVariants.{Stored};
+ghost use Rattle.read_fits.specs.OpenedViews.{IsGivenAt, AreGiven, paired};
+ghost use Rattle.read_fits.specs.Asked.{wanted_leaf};
+ghost use Rattle.read_fits.specs.Outcomes.{AreKeptOf};
+ghost use Rattle.read_fits.specs.declared.Wanted.TheVariants.{Stored};
 ghost use Rattle.open_fits.specs.Opens.{IsSmall};
 ghost use Rattle.open_fits.specs.Settling.{AreArraysFor, IsArrayFor, IsFoundAs, MayBeNamed, MayBeNamedBy, IsNamed, IsNamedBy, IsNamedIfMade, IsNamedIfEarly, IsNamedOutcome, IsNamedByOutcome};
 
 use history::{ArrayInfo, ArrayRef, Event};
-use stated_acts::{Asked, LeafOutcome, Openings, Wanted, array_opened, array_ref, outcome_after};
+use read_fits::{Asked, LeafOutcome, Openings, Wanted, array_opened, array_ref, outcome_after};
 use std::alloc::{AllocError, Global};
 
 /// The arrays of the first leaves that were opened, up to the first that wasn't, where each takes a number or none, and

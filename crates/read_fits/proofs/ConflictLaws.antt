@@ -27,8 +27,8 @@ use Rattle.line_fits.specs.Sweeps.{IsOpIn}
 use Rattle.stack_driver.specs.Targets.{Target}
 use Rattle.stack_driver.specs.Views.{targets_of}
 use Rattle.stack_driver.specs.declared.error.TargetError.{TargetError}
-use Rattle.stated_acts.specs.Outline.{outline, outlined_event}
-use Rattle.stated_acts.specs.declared.Openings.{Openings}
+use Rattle.stated_arrays.specs.Outline.{outline, outlined_event}
+use Rattle.stated_arrays.specs.declared.Openings.{Openings}
 use Rattle.version_store.specs.Ids.{IsChunkIn, id_of}
 use Rattle.version_store.specs.declared.store.VersionStore.{VersionStore}
 use Rattle.transaction_cells.specs.Staging.{StagedChunk}

@@ -13,8 +13,8 @@ use Rattle.history.specs.History.{History}
 use Rattle.history.specs.Legal.{is_present_in}
 use Rattle.history.specs.Targets.{Cell}
 use Rattle.history.proofs.Laws.{chunk_array}
-use Rattle.version_laws.specs.Kept.{IsCellOf}
-use Rattle.version_laws.specs.Shown.{AreAskedOf}
+use Rattle.version_store.specs.Kept.{IsCellOf}
+use Rattle.version_store.specs.Shown.{AreAskedOf}
 
 module _ (events before : History) (opened : ℕ) (front : IsFront events before opened) where
   cell_later : (c : Chunk) (k : Known) (x : Cell) → known_after before c.array ≡ Some k → IsCellOf before c x → IsCellOf events c x

@@ -19,9 +19,9 @@ use Rattle.transaction_cells.specs.declared.view_cells.Piece.{Piece}
 use Rattle.transaction_cells.specs.declared.view_cells.ViewCells.{ViewCells}
 use Rattle.line_fits.specs.Fitting.{IsFetched}
 use Rattle.locations.specs.Paths.{Located}
-use Rattle.stated_acts.specs.Outcomes.{AreKeptOf}
-use Rattle.stated_acts.specs.Outline.{outline}
-use Rattle.stated_acts.proofs.Laws.{known-outline}
+use Rattle.stated_arrays.specs.Outcomes.{AreKeptOf}
+use Rattle.stated_arrays.specs.Outline.{outline}
+use Rattle.stated_arrays.proofs.Laws.{known-outline}
 use Rattle.stated_arrays.proofs.Laws.{known_by}
 use Rattle.line_fits.specs.Transcript.{mount}
 use Rattle.version_store.specs.Ids.{id_of}

@@ -44,8 +44,8 @@ use Rattle.stack_driver.specs.declared.Cast.{Cast}
 use Rattle.stack_driver.specs.declared.error.TargetError.{TargetError}
 use Rattle.stack_driver.specs.declared.view.View.{View}
 use Rattle.stack_driver.proofs.Laws.{length-cells_of}
-use Rattle.stated_acts.specs.Outline.{outline, outlined, outlined_event}
-use Rattle.stated_acts.proofs.Laws.{known-outline, outline-more}
+use Rattle.stated_arrays.specs.Outline.{outline, outlined, outlined_event}
+use Rattle.stated_arrays.proofs.Laws.{known-outline, outline-more}
 
 -- nothing is asked of the commits of an outline
 outline_known : (h : History) → AreCommitsKnown (outline h)

@@ -12,10 +12,10 @@ use Rattle.history.specs.CommitRows.{IsChangedOn}
 use Rattle.history.specs.Generations.{IsTouched}
 use Rattle.history.specs.History.{History}
 use Rattle.history.specs.Targets.{Cell}
-use Rattle.stated_acts.specs.Outcomes.{AreKeptOf, IsOpenedAs}
-use Rattle.stated_acts.specs.Outline.{outline}
-use Rattle.stated_acts.specs.declared.Openings.{Openings}
-use Rattle.version_laws.specs.Kept.{IsCellOf}
+use Rattle.stated_arrays.specs.Outcomes.{AreKeptOf, IsOpenedAs}
+use Rattle.stated_arrays.specs.Outline.{outline}
+use Rattle.stated_arrays.specs.declared.Openings.{Openings}
+use Rattle.version_store.specs.Kept.{IsCellOf}
 use Rattle.version_store.specs.Ids.{id_of}
 use Rattle.version_store.specs.Stores.{IsStoreOf}
 use Rattle.version_store.specs.declared.store.VersionStore.{VersionStore}

@@ -3,7 +3,7 @@ use Rattle.std.specs.Prelude.{◌≡◌, ◌<◌, ℕ, get_or, List, length, tru
 use Rattle.history.specs.Arrays.{Known, known_after}
 use Rattle.history.specs.History.{History}
 use Rattle.history.specs.ReadRows.{IsOnMount}
-use Rattle.stated_acts.specs.Outcomes.{IsOpenedAs}
+use Rattle.stated_arrays.specs.Outcomes.{IsOpenedAs}
 use Rattle.transaction_cells.specs.Needs.{needs}
 use Rattle.transaction_cells.specs.Staging.{StagedChunk}
 use Rattle.transaction_cells.specs.declared.view_cells.Piece.{Piece}

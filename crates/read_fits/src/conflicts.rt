@@ -31,9 +31,9 @@ use crate::own::{Ids, Own};
 use array_homes::chunk_key;
 use cells::Name;
 use history::{Event, Mode};
-use line_fits::is_told;
+use line_fits::{Answer, Body, is_told};
 use serde_json::Value;
-use stated_acts::{Answer, Body, Openings};
+use stated_arrays::Openings;
 use std::alloc::{AllocError, Global};
 use version_store::VersionStore;
 

@@ -22,11 +22,11 @@ use crate::own::Own;
 use crate::spot::Spot;
 use crate::values::{has_room, values_of};
 use cells::{List, Words, copy_sizes};
-use line_fits::{Demand, Waiting, demand_of, is_told};
+use line_fits::{Answer, Body, Demand, Waiting, demand_of, is_told};
 use serde_json::Value;
 use stack_driver::{View, transform_of};
 use stack_targets::TargetsError;
-use stated_acts::{Answer, Body, words_told};
+use stated_arrays::words_told;
 use std::alloc::{AllocError, Global};
 use transaction_cells::{Staging, ViewCells, locate};
 

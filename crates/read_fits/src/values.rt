@@ -6,8 +6,8 @@ ghost use Rattle.read_fits.specs.Rooms.{empty_lists};
 
 use cells::{Index, Sizes, Words};
 use index_transform::size_of;
+use line_fits::Body;
 use stack_driver::{View, dtype, transform_of};
-use stated_acts::Body;
 use std::alloc::{AllocError, Global};
 
 /// The answer to a read with these words. The time is that of the view's dimensions.

@@ -1,7 +1,6 @@
 mod ActLaws
 mod CellLaws
 mod StandingLaws
-mod WordLaws
 mod OpenedLaws
 mod ReferenceLaws
 mod PrintingLaws

@@ -1,5 +1,5 @@
 -- The arrays of an open line's leaves, and the view over them.
-use Rattle.std.proofs.Common.{◌≡◌, ◌∙◌, ◌-◌, ◌+◌, ℕ, zero, suc, List, [], ◌∷◌, ◌++◌, Bool, true, false, cond, Option, Some, None, length, map, take, drop, refl, sym, ap, subst, arith}
+use Rattle.std.proofs.Common.{◌≡◌, ◌∙◌, ◌-◌, ◌+◌, ℕ, zero, suc, List, [], ◌∷◌, ◌++◌, Option, Some, None, length, map, take, drop, refl, sym, ap, subst, arith}
 use Rattle.std.specs.Prelude.{option_map, option_and_then}
 use Rattle.std.specs.List.{AllByRecursion, slice_get, take-map}
 use Rattle.history.specs.declared.array.ArrayInfo.{ArrayInfo}
@@ -17,23 +17,9 @@ use Rattle.stated_arrays.specs.declared.Tree.{Tree}
 use Rattle.stack_driver.specs.References.{Reference}
 use Rattle.stated_arrays.specs.Lines.{bare}
 use Rattle.stated_arrays.specs.Outline.{outline, outlined_event}
-use Rattle.stated_arrays.specs.Takings.{before, Taking, taking, takings, was_opened, opened_info, array_of_leaf, ref_of_leaf, all_refs, built_view, opened_view}
+use Rattle.stated_arrays.specs.Takings.{before, Taking, taking, opened_info, array_of_leaf, ref_of_leaf, all_refs, built_view, opened_view}
 use Rattle.stated_arrays.proofs.Laws.{array_at-outline, count-outline}
-use Rattle.stated_acts.specs.OpenedViews.{paired, IsGivenAt, AreGiven}
-
--- the leaves with their numbers are those that take them
-pub pairs_of : (h : History) (leaves : List SpecLeaf) (numbers : List ℕ) → takings h leaves numbers ≡ paired leaves (map (λ (t : Taking). t.number) (takings h leaves numbers))
-pairs_of h [] numbers = refl
-pairs_of h (leaf ∷ leaves) [] = ap (λ ts. taking leaf None ∷ ts) (pairs_of h leaves [])
-pairs_of h (given cells ∷ leaves) (n ∷ numbers) = ap (λ ts. taking (given cells) (Some n) ∷ ts) (pairs_of h leaves numbers)
-pairs_of h (stored node leaf ∷ leaves) (n ∷ numbers) = by (was_opened h n leaf) (pairs_of h leaves (n ∷ numbers)) (pairs_of h leaves numbers)
-  where
-    by : (b : Bool) → takings h leaves (n ∷ numbers) ≡ paired leaves (map (λ (t : Taking). t.number) (takings h leaves (n ∷ numbers)))
-        → takings h leaves numbers ≡ paired leaves (map (λ (t : Taking). t.number) (takings h leaves numbers))
-        → cond b (taking (stored node leaf) None ∷ takings h leaves (n ∷ numbers)) (taking (stored node leaf) (Some n) ∷ takings h leaves numbers)
-        ≡ paired (stored node leaf ∷ leaves) (map (λ (t : Taking). t.number) (cond b (taking (stored node leaf) None ∷ takings h leaves (n ∷ numbers)) (taking (stored node leaf) (Some n) ∷ takings h leaves numbers)))
-    by true passed taken = ap (λ ts. taking (stored node leaf) None ∷ ts) passed
-    by false passed taken = ap (λ ts. taking (stored node leaf) (Some n) ∷ ts) taken
+use Rattle.stated_arrays.specs.OpenedViews.{paired, IsGivenAt, AreGiven}
 
 -- a history has the arrays of its outline
 module _ (h events : History) (is : outline h ≡ events) where

@@ -31,7 +31,7 @@ use Rattle.stated_arrays.specs.Outcomes.{AreKeptOf, IsOpenedAt, IsArrayAt}
 use Rattle.stated_arrays.specs.Takings.{before, taking, made_info, ref_of_leaf}
 use Rattle.stated_arrays.specs.Transcript.{mount}
 use Rattle.stated_arrays.proofs.Laws.{known_reference, made_stored, outline_legal}
-use Rattle.stated_acts.specs.OpenedViews.{IsGivenAt}
+use Rattle.stated_arrays.specs.OpenedViews.{IsGivenAt}
 
 take_front : (h : History) (at : ℕ) (e : Event) → slice_get h at ≡ Some e → take (suc at) h ≡ take at h ++ e ∷ []
 take_front [] at e is = let no : ⊥ = cc in absurd no

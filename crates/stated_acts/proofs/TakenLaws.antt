@@ -13,7 +13,7 @@ use Rattle.stated_arrays.specs.Outcomes.{IsOpenedAt}
 use Rattle.stated_arrays.specs.Outlined.{AreOpenedBy}
 use Rattle.stated_arrays.specs.StatedEvents.{IsEvent}
 use Rattle.stated_arrays.specs.Takings.{before, Taking, taking, takings, was_opened, opened_info}
-use Rattle.stated_acts.specs.OpenedViews.{IsGivenAt, AreGiven}
+use Rattle.stated_arrays.specs.OpenedViews.{IsGivenAt, AreGiven}
 
 item_at : (xs : History) (e : Event) (ys : History) → slice_get (xs ++ e ∷ ys) (length xs) ≡ Some e
 item_at [] e ys = refl

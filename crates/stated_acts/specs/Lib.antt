@@ -1,7 +1,5 @@
 pub mod Standings
 pub mod Acts
-pub mod ToldWords
-pub mod OpenedViews
 pub mod Printing
 -- names of crates below, given on to those above
 pub use Rattle.stated_arrays.specs.AnswerNumbers
@@ -32,3 +30,7 @@ pub use Rattle.stated_arrays.specs.Asked
 pub use Rattle.stated_arrays.specs.Lines
 pub use Rattle.stated_arrays.specs.Still
 pub use Rattle.stated_arrays.specs.StatedCommits
+pub use Rattle.stated_arrays.specs.ToldWords
+pub use Rattle.stated_arrays.specs.OpenedViews
+pub use Rattle.stated_arrays.specs.Fitting
+pub use Rattle.stated_arrays.specs.Verdicts

@@ -11,7 +11,6 @@ mod cell_faults;
 mod opened_views;
 mod printing;
 mod standing;
-mod told_words;
 
 pub use acts::{Act, act_of};
 pub use line_acts::{Answer, Body, values_body, viewed_body};
@@ -19,7 +18,7 @@ pub use opened_views::view_opened;
 pub use printing::may_print;
 pub use standing::{Ongoing, Standing};
 pub use stated_arrays::{
-    Asked, BuildCause, BuildError, LeafOutcome, OpenPlan, Openings, Said, SpecLeaf, Tree, Wanted,
-    array_opened, array_ref, build, bytes_of, joined, outcome_after, place_next, wanted_by,
+    Asked, AskedLine, BuildCause, BuildError, Cutting, LeafOutcome, OpenPlan, Openings, Said,
+    SpecLeaf, Tree, Wanted, array_opened, array_ref, build, bytes_of, cut, first_unchecked, joined,
+    number_events, outcome_after, place_next, state_openings, wanted_by, words_told,
 };
-pub use told_words::words_told;

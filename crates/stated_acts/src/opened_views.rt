@@ -12,7 +12,7 @@ ghost use Rattle.stated_arrays.specs.Conditions.{IsSoundPlan, IsTree};
 ghost use Rattle.stack_driver.specs.Conditions.{IsView};
 ghost use Rattle.stack_driver.specs.References.{IsReference};
 ghost use Rattle.stack_driver.specs.declared.view.View.{View as ViewOf};
-ghost use Rattle.stated_acts.specs.OpenedViews.{IsGivenAt, AreGiven, paired};
+ghost use Rattle.stated_arrays.specs.OpenedViews.{IsGivenAt, AreGiven, paired};
 ghost use Rattle.stated_arrays.specs.Lines.{bare};
 ghost use Rattle.stated_arrays.specs.Outcomes.{AreKeptOf, IsOpenedAt};
 ghost use Rattle.stated_arrays.specs.Outline.{outline};

@@ -21,14 +21,13 @@ ghost use Rattle.stated_arrays.specs.Standings.{first_standing, names_opened, wo
 ghost use Rattle.stated_arrays.specs.ToldNumbers.{single};
 
 use crate::acts::Act;
-use crate::told_words::words_told;
 use cells::{Name, Words};
 use history::{Mode, Op};
 use indexmap::IndexMap;
 use line_acts::{Body, Names, bind};
 use serde_json::Value;
 use stack_driver::View;
-use stated_arrays::{EventNumbers, OpenPlan};
+use stated_arrays::{EventNumbers, OpenPlan, words_told};
 use std::alloc::{AllocError, Global};
 
 /// A session between two lines: the views that its names are bound to, and the transaction that stands.

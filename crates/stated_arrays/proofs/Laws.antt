@@ -1,5 +1,7 @@
 -- What crates above rest on.
 
+-- the leaves of an open line with their numbers are those that take them
+pub use Rattle.stated_arrays.proofs.PairLaws.{pairs_of}
 -- laws of crates below, given on to those above
 pub use Rattle.transcript_cut.proofs.Laws.{sessions_within}
 pub use Rattle.transcript_cut.proofs.Laws.{array_at-outline, count-outline}
@@ -15,3 +17,5 @@ pub use Rattle.transcript_cut.proofs.Laws.{known-outline, length-outline, outlin
 pub use Rattle.transcript_cut.proofs.Laws.{location_new}
 pub use Rattle.transcript_cut.proofs.Laws.{places_apart}
 pub use Rattle.transcript_cut.proofs.Laws.{IsGoodLine, AreGoodLines, good_lines, AreSoundOps, IsSoundStanding, IsSoundAct, line_sound, act_leaves, with_read_sound, read_sound, left_sound, found_of, IsViewOf, AreViewsOf, new_known, lies_known, known_kept, built_known, view_present, bound_views, opened_names, IsBuilding, stated_commits_are_sound, stated_unresized, stated_is_one, history_is_one, part_5_follows, cut_is_one, AreUnresized, unresized_front, sound_follows}
+pub use Rattle.transcript_cut.proofs.Laws.{among}
+pub use Rattle.transcript_cut.proofs.Laws.{uncut}

@@ -10,4 +10,6 @@ pub mod Bridge
 pub mod Claims
 pub mod Told
 pub mod OutcomeLaws
+mod WordLaws
+mod PairLaws
 pub mod Laws

@@ -7,6 +7,8 @@ pub mod Served
 pub mod Stating
 pub mod Openings
 pub mod Outcomes
+pub mod ToldWords
+pub mod OpenedViews
 -- names of crates below, given on to those above
 pub use Rattle.transcript_cut.specs.Claimed
 pub use Rattle.transcript_cut.specs.Cuttings
@@ -27,3 +29,5 @@ pub use Rattle.transcript_cut.specs.Conditions
 pub use Rattle.transcript_cut.specs.Leaves
 pub use Rattle.transcript_cut.specs.Built
 pub use Rattle.transcript_cut.specs.StatedCommits
+pub use Rattle.transcript_cut.specs.Fitting
+pub use Rattle.transcript_cut.specs.Verdicts

@@ -13,11 +13,13 @@ mod openings;
 mod outcomes;
 mod serving;
 mod stating;
+mod told_words;
 
 pub use acts::bytes_of;
 pub use asked::{Asked, Wanted, wanted_by};
 pub use openings::{Openings, state_openings};
 pub use outcomes::{LeafOutcome, array_at, array_opened, outcome_after, place_next};
+pub use told_words::words_told;
 pub use transcript_cut::{
     AskedLine, BuildCause, BuildError, Command, Cutting, EventNumbers, LineError, OpenPlan, Said,
     SpecError, SpecLeaf, Tree, array_ref, build, cut, first_unchecked, joined, number_events,

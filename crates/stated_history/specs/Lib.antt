@@ -1,3 +1,27 @@
 pub mod Commits
 pub mod Walks
 pub mod StatedHistories
+-- names of crates below, given on to those above
+pub use Rattle.stated_acts.specs.Acts
+pub use Rattle.stated_acts.specs.AnswerNumbers
+pub use Rattle.stated_acts.specs.Claimed
+pub use Rattle.stated_acts.specs.Conditions
+pub use Rattle.stated_acts.specs.OpenedViews
+pub use Rattle.stated_acts.specs.Outcomes
+pub use Rattle.stated_acts.specs.Outline
+pub use Rattle.stated_acts.specs.Said
+pub use Rattle.stated_acts.specs.Script
+pub use Rattle.stated_acts.specs.Spans
+pub use Rattle.stated_acts.specs.Standings
+pub use Rattle.stated_acts.specs.StatedCommits
+pub use Rattle.stated_acts.specs.StatedEvents
+pub use Rattle.stated_acts.specs.Stating
+pub use Rattle.stated_acts.specs.Takings
+pub use Rattle.stated_acts.specs.ToldNumbers
+pub use Rattle.stated_acts.specs.ToldStandings
+pub use Rattle.stated_acts.specs.Transcript
+pub use Rattle.stated_acts.specs.Fitting
+pub use Rattle.stated_acts.specs.Unchecked
+pub use Rattle.stated_acts.specs.Verdicts
+pub use Rattle.stated_acts.specs.Cuttings
+pub use Rattle.stated_acts.specs.Openings

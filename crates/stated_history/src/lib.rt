@@ -11,4 +11,8 @@ mod walk;
 
 pub use commits::{Source, act_said, answer_said, pass_line, state_commits};
 pub use putting::{Commit, commits_complete_the_history, put_commits};
+pub use stated_acts::{
+    Act, Answer, AskedLine, Body, Cutting, Ongoing, OpenPlan, Openings, Said, cut, first_unchecked,
+    number_events, state_openings, viewed_body,
+};
 pub use walk::Walk;

@@ -4,7 +4,7 @@ use Rattle.std.proofs.lemmas.List.{take-append-drop, drop-drop, drop_all, map-ap
 use Rattle.std.specs.List.{AllByRecursion, flat_map}
 use Rattle.serde_json.specs.Data.{Data}
 use Rattle.json_forms.specs.Bytes.{data_of}
-use Rattle.history.proofs.Laws.{some_inj}
+use Rattle.transcript_laws.proofs.Laws.{some_inj}
 use Rattle.transcript_laws.specs.AnswerLines.{has_lf}
 use Rattle.transcript_laws.specs.Transcript.{ScriptLine, Told, asked_by, lines_of_scripts, IsToldOf, AreToldOf}
 use Rattle.transcript_laws.specs.Unchecked.{is_memory_answer, IsMemoryAnswer}

@@ -17,3 +17,5 @@ pub use Rattle.transcript_laws.proofs.Places.{AreUnresized, IsUnresized, lies_he
 pub use Rattle.transcript_laws.proofs.Laws.{nested_words-values_data}
 pub use Rattle.transcript_laws.proofs.Marked.{first_reads-more}
 pub use Rattle.transcript_laws.proofs.Laws.{IsGoodLine, AreGoodLines, good_lines, AreSoundOps, IsSoundStanding, IsSoundAct, line_sound, act_leaves, with_read_sound, read_sound, left_sound, found_of, IsViewOf, AreViewsOf, new_known, lies_known, known_kept, built_known, view_present, bound_views, opened_names, IsBuilding, stated_commits_are_sound, stated_unresized, stated_is_one, history_is_one, part_5_follows, cut_is_one, sound_follows}
+pub use Rattle.transcript_laws.proofs.Laws.{among}
+pub use Rattle.transcript_laws.proofs.Cuts.{uncut}

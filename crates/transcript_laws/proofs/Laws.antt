@@ -32,3 +32,4 @@ pub use Rattle.state_laws.proofs.Laws.{known_reference, known_shaped}
 pub use Rattle.state_laws.proofs.Laws.{reference_given, there_of}
 pub use Rattle.answer_data.proofs.Laws.{told_data}
 pub use Rattle.answer_data.proofs.Laws.{nested_words-values_data}
+pub use Rattle.history.proofs.Laws.{some_inj}

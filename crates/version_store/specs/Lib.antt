@@ -5,3 +5,6 @@ pub mod Opened
 pub mod Putting
 pub mod Asked
 pub mod Ordered
+-- names of crates below, given on to those above
+pub use Rattle.version_laws.specs.Kept
+pub use Rattle.version_laws.specs.Shown

@@ -9,7 +9,7 @@ use Rattle.cells.specs.Runs.{IsRunInside, pairs_of}
 use Rattle.cells.specs.declared.run.Run.{Run}
 use Rattle.chunk_versions.specs.declared.asked.AskedCell.{AskedCell}
 use Rattle.history.specs.Content.{world_after}
-use Rattle.version_laws.specs.Shown.{AreShownThen}
+use Rattle.version_store.specs.Shown.{AreShownThen}
 use Rattle.transaction_cells.specs.Lanes.{LaneSeen}
 use Rattle.transaction_cells.specs.Pieces.{IsPiece}
 use Rattle.transaction_cells.specs.Sites.{sites_of}

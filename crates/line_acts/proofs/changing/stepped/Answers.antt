@@ -1,5 +1,5 @@
 use Rattle.std.proofs.Common.{◌≡◌, Err, length, rules, subst}
-use Rattle.dim_expressions.specs.Applying.{applied}
+use Rattle.line_meanings.specs.Applying.{applied}
 use Rattle.line_meanings.proofs.Laws.{applied-outputs}
 use Rattle.line_acts.proofs.ChangeLaws.{stepped_told}
 use Rattle.stack_driver.specs.Views.{own_transform}

@@ -1,5 +1,5 @@
 use Rattle.std.proofs.Common.{◌≡◌, ◌∙◌, ◌<◌, ℕ, List, length, get_or, true, false, refl, sym, ap, subst, arith, below_more}
-use Rattle.transaction_cells.specs.declared.view_cells.Piece.{Piece}
+use Rattle.event_replay.specs.declared.Piece.{Piece}
 use Rattle.line_fits.specs.StoredPuts.{IsStoredAt}
 use Rattle.line_fits.proofs.failing.has_stored_piece.Goals as goal
 

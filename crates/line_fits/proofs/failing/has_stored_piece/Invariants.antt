@@ -1,5 +1,5 @@
 use Rattle.std.proofs.Common.{◌<◌, ℕ, get_or}
-use Rattle.transaction_cells.specs.declared.view_cells.Piece.{Piece}
+use Rattle.event_replay.specs.declared.Piece.{Piece}
 use Rattle.line_fits.specs.StoredPuts.{IsStoredAt}
 use Rattle.line_fits.proofs.failing.has_stored_piece.Given as goal
 

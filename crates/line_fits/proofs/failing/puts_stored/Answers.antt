@@ -1,6 +1,6 @@
 use Rattle.std.proofs.Common.{List, subst}
 use Rattle.std.specs.Prelude.{◌↔◌, IsTrue}
-use Rattle.transaction_cells.specs.declared.view_cells.Piece.{Piece}
+use Rattle.event_replay.specs.declared.Piece.{Piece}
 use Rattle.event_replay.proofs.FollowLaws.{can_locate_view}
 use Rattle.line_fits.specs.StoredPuts.{HasStoredPiece}
 use Rattle.line_fits.proofs.StoredPuts.{write_told}

@@ -1,7 +1,7 @@
 use Rattle.std.proofs.Common.{◌≡◌, ◌<◌, length, take, refl, sym, ap, subst, arith}
 use Rattle.std.proofs.lemmas.Option.{slice_get_read}
 use Rattle.history.specs.Places.{IsTable}
-use Rattle.stated_acts.specs.Still.{AreStill}
+use Rattle.read_fits.specs.Still.{AreStill}
 use Rattle.open_fits.specs.Opens.{IsQuestion}
 use Rattle.open_fits.proofs.AskingLaws.{all_at, in_order, moment_then, one_unrefused, all_refused, all_next, none_yet}
 use Rattle.open_fits.proofs.asking.are_refused_in_order.Goals as goal

@@ -3,7 +3,7 @@ use Rattle.std.specs.Prelude.{slice_index_or}
 use Rattle.std.specs.List.{AllByRecursion}
 use Rattle.history.specs.History.{History}
 use Rattle.history.specs.Places.{IsTable}
-use Rattle.stated_acts.specs.Outline.{outline}
+use Rattle.read_fits.specs.Outline.{outline}
 use Rattle.open_fits.specs.Opens.{IsRefusedAt}
 use Rattle.open_fits.specs.declared.questions.OpenQuestion.{OpenQuestion}
 use Rattle.open_fits.proofs.asking.are_refused_in_order.Given as goal

@@ -4,9 +4,9 @@ use Rattle.std.proofs.lemmas.Result.{IfOk-weaker}
 use Rattle.history.specs.History.{History}
 use Rattle.history.specs.Leaves.{nothing}
 use Rattle.history.specs.Outcomes.{opening_outcome}
-use Rattle.stated_acts.specs.Outline.{outline}
-use Rattle.stated_acts.specs.Asked.{leaf_asked}
-use Rattle.stated_acts.specs.Outcomes.{AreKeptOf}
+use Rattle.read_fits.specs.Outline.{outline}
+use Rattle.read_fits.specs.Asked.{leaf_asked}
+use Rattle.read_fits.specs.Outcomes.{AreKeptOf}
 use Rattle.open_fits.specs.Opens.{IsRefusedFor}
 use Rattle.open_fits.proofs.AskingLaws.{kept_early}
 use Rattle.open_fits.proofs.Outcomes.{outcome_by_outline}

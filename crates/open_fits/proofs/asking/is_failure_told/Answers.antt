@@ -2,7 +2,7 @@ use Rattle.std.proofs.Common.{◌↔◌, ◌+◌, [], Some}
 use Rattle.std.specs.Prelude.{IsTrue}
 use Rattle.std.proofs.lemmas.Result.{IfOk-weaker}
 use Rattle.serde_json.specs.Data.{Data}
-use Rattle.line_fits.specs.AnswerLines.{IsAnswerText}
+use Rattle.read_fits.specs.AnswerLines.{IsAnswerText}
 use Rattle.history.specs.Answers.{store_failed}
 use Rattle.open_fits.specs.Built.{IsPrintedAs}
 use Rattle.open_fits.proofs.asking.is_failure_told.Goals as goal

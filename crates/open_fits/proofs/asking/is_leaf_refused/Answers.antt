@@ -2,7 +2,7 @@ use Rattle.std.proofs.Common.{◌≡◌, ◌↔◌, ◌∙◌, Some, ap}
 use Rattle.std.specs.Prelude.{IsTrue}
 use Rattle.std.proofs.lemmas.Result.{IfOk-weaker}
 use Rattle.history.specs.History.{History}
-use Rattle.stated_acts.specs.Outline.{outline}
+use Rattle.read_fits.specs.Outline.{outline}
 use Rattle.open_fits.specs.Opens.{IsRefusedFrom}
 use Rattle.open_fits.proofs.RefusalLaws.{stored_there, given_there, never_told}
 use Rattle.open_fits.proofs.asking.is_leaf_refused.Goals as goal

@@ -1,8 +1,8 @@
 use Rattle.std.proofs.Common.{◌∙◌, [], subst}
 use Rattle.std.specs.Prelude.{unwrap_or}
 use Rattle.std.proofs.lemmas.Result.{IfOk-weaker}
-use Rattle.stated_acts.specs.Asked.{leaf_asked}
-use Rattle.line_fits.specs.Openings.{node_of}
+use Rattle.read_fits.specs.Asked.{leaf_asked}
+use Rattle.read_fits.specs.Openings.{node_of}
 use Rattle.open_fits.specs.Asking.{IsOutcomeTold}
 use Rattle.open_fits.specs.Opens.{IsRefusedFor}
 use Rattle.open_fits.specs.Refusals.{IsRefusalBody}

@@ -1,6 +1,6 @@
 use Rattle.std.proofs.Common.{◌≡◌, ℕ, ◌<◌, ◌≤◌}
 use Rattle.history.specs.History.{History}
-use Rattle.stated_acts.specs.Outline.{outline}
+use Rattle.read_fits.specs.Outline.{outline}
 use Rattle.open_fits.specs.Opens.{IsRefusedFrom}
 use Rattle.open_fits.proofs.asking.is_refused.Given as goal
 

@@ -1,7 +1,7 @@
 use Rattle.std.proofs.Common.{◌≡◌}
 use Rattle.std.proofs.lemmas.Result.{IfOk-weaker}
 use Rattle.history.specs.Answers.{Body}
-use Rattle.line_fits.specs.Bodies.{body_of}
+use Rattle.read_fits.specs.Bodies.{body_of}
 use Rattle.open_fits.specs.Built.{IsToldSo}
 use Rattle.open_fits.proofs.BuiltLaws.{told_by}
 use Rattle.open_fits.proofs.built.is_answer.Goals as goal

@@ -1,8 +1,8 @@
 use Rattle.std.proofs.Common.{sym, ap, ◌∙◌}
 use Rattle.std.proofs.lemmas.Result.{IfOk-weaker}
-use Rattle.line_fits.specs.declared.Body.TheVariants.{RefusedSpec}
+use Rattle.read_fits.specs.declared.Body.TheVariants.{RefusedSpec}
 use Rattle.history.specs.Answers.{refused_spec}
-use Rattle.line_fits.specs.Openings.{build_cause_of}
+use Rattle.read_fits.specs.Openings.{build_cause_of}
 use Rattle.open_fits.specs.Built.{IsToldSo}
 use Rattle.open_fits.proofs.BuiltLaws.{cause_back}
 use Rattle.open_fits.proofs.built.is_refused.Goals as goal

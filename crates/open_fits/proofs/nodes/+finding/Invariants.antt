@@ -1,5 +1,5 @@
 use Rattle.std.proofs.Common.{◌≡◌, drop, map}
-use Rattle.line_fits.specs.Openings.{first_path, node_of}
+use Rattle.read_fits.specs.Openings.{first_path, node_of}
 use Rattle.open_fits.proofs.nodes.+finding.Given as goal
 
 -- the layers so far have no such node

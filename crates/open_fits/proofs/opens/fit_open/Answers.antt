@@ -2,9 +2,9 @@ use Rattle.std.proofs.Common.{◌≡◌, ◌≢◌, ◌∙◌, List, false, leng
 use Rattle.std.specs.List.{AllByRecursion}
 use Rattle.serde_json.specs.View.{view}
 use Rattle.stack_driver.specs.References.{Reference}
-use Rattle.stated_acts.specs.OpenedViews.{AreGiven, paired}
-use Rattle.stated_acts.specs.Asked.{wanted_leaf}
-use Rattle.stated_acts.specs.declared.Wanted.{Wanted}
+use Rattle.read_fits.specs.OpenedViews.{AreGiven, paired}
+use Rattle.read_fits.specs.Asked.{wanted_leaf}
+use Rattle.read_fits.specs.declared.Wanted.{Wanted}
 use Rattle.open_fits.specs.Built.{IsBuiltAs}
 use Rattle.open_fits.specs.Opens.{IsSmall, IsFitAt}
 use Rattle.open_fits.specs.Settling.{AreArraysFor}

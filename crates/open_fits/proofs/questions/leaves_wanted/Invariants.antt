@@ -1,6 +1,6 @@
 use Rattle.std.proofs.Common.{◌≡◌, ◌++◌, map}
-use Rattle.stated_acts.specs.Asked.{wanted_leaf}
-use Rattle.stated_acts.specs.Lines.{bare}
+use Rattle.read_fits.specs.Asked.{wanted_leaf}
+use Rattle.read_fits.specs.Lines.{bare}
 use Rattle.open_fits.proofs.questions.leaves_wanted.Given as goal
 
 abbrev pub invariant-loop-leaf : goal.invariant-loop-leaf

@@ -2,9 +2,9 @@ use Rattle.std.proofs.Common.{[], subst}
 use Rattle.std.specs.Prelude.{unwrap_or}
 use Rattle.std.proofs.lemmas.Result.{IfOk-weaker}
 use Rattle.chunk_forms.specs.Members.{member_name}
-use Rattle.stated_acts.specs.Asked.{leaf_asked}
-use Rattle.stated_acts.specs.Outcomes.{IsToldAs}
-use Rattle.line_fits.specs.Openings.{node_of}
+use Rattle.read_fits.specs.Asked.{leaf_asked}
+use Rattle.read_fits.specs.Outcomes.{IsToldAs}
+use Rattle.read_fits.specs.Openings.{node_of}
 use Rattle.open_fits.specs.Refusals.{IsRefusalFor}
 use Rattle.open_fits.proofs.RefusalLaws.{refused_taken, refused_exists, refused_mismatch, refused_not_found, refused_undetermined, unrefused_there}
 use Rattle.open_fits.proofs.refusals.refusal_of.Goals as goal

@@ -1,6 +1,6 @@
 use Rattle.std.proofs.Common.{Some, sym, ap, subst, ◌∙◌}
 use Rattle.std.proofs.lemmas.Result.{IfOk-weaker}
-use Rattle.stated_acts.specs.Homes.{reference_of}
+use Rattle.read_fits.specs.Homes.{reference_of}
 use Rattle.history.specs.declared.array.ArrayInfo.{ArrayInfo}
 use Rattle.stack_driver.specs.References.{IsReference}
 use Rattle.open_fits.specs.Settling.{IsNamed}

@@ -2,8 +2,8 @@ use Rattle.std.proofs.Common.{sym, subst}
 use Rattle.std.proofs.lemmas.Result.{IfOk-weaker}
 use Rattle.history.specs.Leaves.{nothing}
 use Rattle.history.specs.Outcomes.{opening_outcome}
-use Rattle.stated_acts.specs.Asked.{leaf_asked}
-use Rattle.stated_acts.specs.Outcomes.{AreKeptOf, IsToldAs}
+use Rattle.read_fits.specs.Asked.{leaf_asked}
+use Rattle.read_fits.specs.Outcomes.{AreKeptOf, IsToldAs}
 use Rattle.open_fits.specs.Settling.{IsFoundAs, IsNamedOutcome, IsNamedByOutcome}
 use Rattle.open_fits.proofs.Named.{outcome_named, outcome_found}
 use Rattle.open_fits.proofs.settling.array_found.Goals as goal

@@ -1,7 +1,7 @@
 use Rattle.std.proofs.Common.{sym, subst}
 use Rattle.std.proofs.lemmas.Result.{IfOk-weaker}
-use Rattle.stated_acts.specs.Asked.{wanted_leaf}
-use Rattle.stated_acts.specs.OpenedViews.{IsGivenAt}
+use Rattle.read_fits.specs.Asked.{wanted_leaf}
+use Rattle.read_fits.specs.OpenedViews.{IsGivenAt}
 use Rattle.open_fits.specs.Opens.{IsSmall}
 use Rattle.open_fits.specs.Settling.{IsArrayFor, MayBeNamedBy, IsNamedBy}
 use Rattle.open_fits.proofs.Named.{named_given, for_given}

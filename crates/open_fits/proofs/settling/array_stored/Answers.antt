@@ -1,9 +1,9 @@
 use Rattle.std.proofs.Common.{[], sym, subst}
 use Rattle.std.proofs.lemmas.Result.{IfOk-weaker}
-use Rattle.stated_acts.specs.Asked.{leaf_asked}
-use Rattle.stated_acts.specs.declared.Wanted.TheVariants.{Stored}
+use Rattle.read_fits.specs.Asked.{leaf_asked}
+use Rattle.read_fits.specs.declared.Wanted.TheVariants.{Stored}
 use Rattle.history.specs.Lines.{stored}
-use Rattle.stated_acts.specs.OpenedViews.{IsGivenAt}
+use Rattle.read_fits.specs.OpenedViews.{IsGivenAt}
 use Rattle.open_fits.specs.Settling.{IsArrayFor, MayBeNamed, IsNamedIfMade}
 use Rattle.open_fits.proofs.Named.{named_made, for_made, for_found}
 use Rattle.open_fits.proofs.settling.array_stored.Goals as goal

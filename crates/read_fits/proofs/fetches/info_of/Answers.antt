@@ -1,7 +1,7 @@
 use Rattle.std.proofs.Common.{◌≡◌, ◌∙◌, ℕ, List, Some, ap, sym, subst}
 use Rattle.std.specs.List.{slice_get}
 use Rattle.history.specs.History.{History}
-use Rattle.stated_acts.specs.Outcomes.{IsOpenedAt}
+use Rattle.stated_arrays.specs.Outcomes.{IsOpenedAt}
 use Rattle.read_fits.proofs.fetches.info_of.Goals as goal
 
 pub number_at-number-requires : goal.number_at-number-requires

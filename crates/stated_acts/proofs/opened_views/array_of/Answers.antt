@@ -3,7 +3,7 @@ use Rattle.std.proofs.lemmas.Result.{IfOk-weaker}
 use Rattle.line_acts.specs.Openings.{leaf_of}
 use Rattle.stated_arrays.specs.Outcomes.{IsOpenedAt}
 use Rattle.stated_arrays.specs.Takings.{taking, ref_of_leaf}
-use Rattle.stated_acts.specs.OpenedViews.{IsGivenAt}
+use Rattle.stated_arrays.specs.OpenedViews.{IsGivenAt}
 use Rattle.stated_acts.proofs.ReferenceLaws.{reference_taken, taken_named}
 use Rattle.stated_acts.proofs.opened_views.array_of.Goals as goal
 

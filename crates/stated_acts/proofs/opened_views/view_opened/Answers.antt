@@ -9,7 +9,7 @@ use Rattle.stated_arrays.specs.Lines.{bare}
 use Rattle.stated_arrays.specs.Outline.{outline}
 use Rattle.stated_arrays.specs.Takings.{all_refs, opened_view}
 use Rattle.stated_arrays.specs.Transcript.{mount}
-use Rattle.stated_acts.specs.OpenedViews.{AreGiven, paired}
+use Rattle.stated_arrays.specs.OpenedViews.{AreGiven, paired}
 use Rattle.stated_acts.proofs.OpenedLaws.{refs, given_bare, arrays_count, opened_over}
 use Rattle.stated_acts.proofs.opened_views.view_opened.Goals as goal
 

@@ -6,8 +6,8 @@ ghost use Rattle.index_transform.specs.Cells.{cells_of, count_answer};
 ghost use Rattle.script_lines.specs.NestedWords.{nested_words};
 ghost use Rattle.serde_json.specs.View.{view as data_in};
 ghost use Rattle.stack_driver.specs.Views.{look_of};
-ghost use Rattle.stated_acts.specs.ToldWords.{lacks_list};
-ghost use Rattle.stated_arrays.specs.Standings.{words_given};
+ghost use Rattle.stated_arrays.specs.ToldWords.{lacks_list};
+ghost use Rattle.transcript_cut.specs.Standings.{words_given};
 
 use cells::{Dtype, Words};
 use index_transform::size_of;

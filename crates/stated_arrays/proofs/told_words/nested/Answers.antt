@@ -1,7 +1,7 @@
 use Rattle.std.proofs.Common.{◌∙◌, Err, ap, sym}
 use Rattle.serde_json.specs.View.{view}
-use Rattle.stated_acts.proofs.WordLaws.{words_unlisted, words_given_so, none_given_so}
-use Rattle.stated_acts.proofs.told_words.nested.Goals as goal
+use Rattle.stated_arrays.proofs.WordLaws.{words_unlisted, words_given_so, none_given_so}
+use Rattle.stated_arrays.proofs.told_words.nested.Goals as goal
 
 pub returns-then-is_number_for_all : goal.returns-then-is_number_for_all
 returns-then-is_number_for_all c =

@@ -6,7 +6,7 @@ use Rattle.history.specs.History.{History}
 use Rattle.history.specs.Lines.{SpecLeaf}
 use Rattle.history.specs.OpenRows.{next_array}
 use Rattle.stated_arrays.specs.Outcomes.{IsOpenedAt}
-use Rattle.stated_arrays.specs.Takings.{before, Taking, taking, opened_info}
+use Rattle.transcript_cut.specs.Takings.{before, Taking, taking, opened_info}
 
 -- leaves, and the number that each takes, if it takes one
 abbrev pub paired : List SpecLeaf → List (Option ℕ) → List Taking
