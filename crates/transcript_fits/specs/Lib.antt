@@ -1,0 +1,29 @@
+pub mod LineFits
+pub mod Judges
+pub mod Changing
+pub mod Openings
+pub mod Readings
+pub mod Stands
+pub mod Sessions
+pub mod Frames
+pub mod Pendings
+-- names of crates below, given on to those above
+pub use Rattle.stated_history.specs.Walks
+pub use Rattle.stated_history.specs.StatedHistories
+pub use Rattle.stated_history.specs.Verdicts
+pub use Rattle.stated_history.specs.Fitting
+pub use Rattle.open_fits.specs.Sweeps
+pub use Rattle.open_fits.specs.Stores
+pub use Rattle.stated_history.specs.AnswerNumbers
+pub use Rattle.stated_history.specs.Claimed
+pub use Rattle.stated_history.specs.Cuttings
+pub use Rattle.stated_history.specs.Outline
+pub use Rattle.stated_history.specs.Said
+pub use Rattle.stated_history.specs.Spans
+pub use Rattle.stated_history.specs.StatedCommits
+pub use Rattle.stated_history.specs.ToldNumbers
+pub use Rattle.stated_history.specs.Transcript
+pub use Rattle.stated_history.specs.Unchecked
+pub use Rattle.stated_history.specs.Openings as StatedOpenings
+pub use Rattle.history.specs.History
+pub use Rattle.history.specs.Legal

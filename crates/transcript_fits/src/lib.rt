@@ -1,0 +1,22 @@
+//! Whether a transcript is a legal history of its scripts.
+#![tactic(auto)]
+
+mod changing;
+mod fitting;
+mod frames;
+mod judge;
+mod judging;
+mod line_fit;
+mod one_answer;
+mod opening;
+mod pending;
+mod reading;
+mod stand;
+
+pub use history::{ArrayInfo, Event, Home, Kind, Op};
+pub use judging::are_answered;
+pub use open_fits::{VersionStore, sweep_into};
+pub use stated_history::{
+    AskedLine, Commit, Cutting, Openings, Said, Source, commits_complete_the_history, cut,
+    first_unchecked, number_events, put_commits, state_commits, state_openings,
+};
