@@ -79,6 +79,44 @@ stored=$top/crates/tensor_run
 tried "two workers" 0 "" --cache 4 --workers=2 "$stored/data/first.jsonl" "$stored/data/second.jsonl"
 wrote "two workers" "$stored/stdout"
 
+# Answers that are checked: those of the examples, and some that were changed.
+told() {
+    local name=$1 status=$2 line=$3 transcript=$4
+    shift 4
+    tried "check of $name" "$status" "" check "$transcript" "$@"
+    echo "$line" > "$room/line"
+    wrote "check of $name" "$room/line"
+}
+of_example() { told "$1" "$2" "$3" "$top/examples/$1.out" "$top/examples/$1.jsonl"; }
+of_example first 0 '{"events":2,"legal":true}'
+of_example resize 1 '{"line":3,"not_checked":0}'
+cat "$top/examples/left.out" "$top/examples/right.out" > "$room/both"
+told "two sessions" 0 '{"events":3,"legal":true}' "$room/both" "$left" "$right"
+told "two sessions in the other order" 1 '{"legal":false,"part":1}' "$room/both" "$right" "$left"
+"$program" --workers 4 "$left" "$right" "$first" > "$room/transcript" 2> "$room/said"
+ended=$?
+# A commit of $right that comes behind one of $left conflicts where it has read before it: which is first isn't said.
+if [ "$ended" -gt 1 ] || [ -s "$room/said" ]; then
+    echo "four workers: status $ended, and says on standard error: $(cat "$room/said")"
+    failed=1
+fi
+tried "check of four workers" 0 "" check "$room/transcript" "$left" "$right" "$first"
+sed 's/"commit":\[2\]/"commit":[3]/' "$top/examples/first.out" > "$room/changed"
+told "another number" 1 '{"legal":false,"part":2}' "$room/changed" "$first"
+sed 's/\[1,2,3\]/[1,2,4]/' "$top/examples/first.out" > "$room/changed"
+told "another value" 1 '{"legal":false,"part":4}' "$room/changed" "$first"
+sed '$d' "$top/examples/first.out" > "$room/changed"
+told "a line less" 1 '{"legal":false,"part":1}' "$room/changed" "$first"
+tried "check of nothing" 2 "$refused" check
+tried "check without a script" 2 "$refused" check "$room/changed"
+tried "check with an option" 2 "$refused" check --workers "$room/changed" "$first"
+tried "check of no file" 3 "tensor_run: a file was not read" check "$room/missing" "$first"
+tried "check with a script that is missing" 3 "tensor_run: a file was not read" check "$room/changed" "$room/missing"
+wrote "check with a script that is missing" "$room/nothing"
+cp "$first" "$room/check" && cd "$room" || exit 1
+tried "a script called check" 0 "" ./check
+cd "$top" || exit 1
+
 # Scripts that are made: one line, whatever the workers.
 echo '{"at":90,"commits":85,"events":90,"refused":0,"sum":506518000}' > "$room/made"
 tried "made scripts" 0 "" --make 7
@@ -168,6 +206,7 @@ tried "the same behind another" 3 "tensor_run: script 2 was not read" "$first" "
 
 answers=/dev/full
 tried "a full disk" 4 "tensor_run: output failed" "$first"
+tried "a full disk for a verdict" 4 "tensor_run: output failed" check "$top/examples/first.out" "$first"
 answers=
 
 truncate -s 67108864 "$room/large"
@@ -225,7 +264,7 @@ if is_here man "docs/tensor_run.1 is"; then
         failed=1
     fi
 fi
-for said in --root --workers --cache --make "words refused" "was not read" "output failed" "out of memory" "was not finished"; do
+for said in --root --workers --cache --make " check" "a file was not read" "words refused" "was not read" "output failed" "out of memory" "was not finished"; do
     tr '\n' ' ' < "$top/docs/tensor_run.1" | sed 's/\\//g' | grep -qe "$said" || { echo "docs/tensor_run.1: lacks $said"; failed=1; }
 done
 
@@ -248,7 +287,10 @@ completes "--root --workers --cache --make --" --
 completes "--workers" --root store --w
 completes "--cache --make --" --workers 2 --
 completes "store" --root s
-completes "a.jsonl store/" ""
+completes "check a.jsonl store/" ""
+completes "check" ch
+completes "a.out" check a.o
+completes "a.jsonl" check a.out a
 completes "a.jsonl" --root store a
 completes "a.jsonl" -- a
 

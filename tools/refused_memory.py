@@ -11,11 +11,15 @@ it refused. One session runs after another over one store in memory, and a last 
   these logs are what the same scripts answer that end there. So the last session shows that the store holds what the answered commits left, and
   nothing of a line that is answered `memory`, but for an `open`, which may have made its array.
 
+Then `check` is run so over what each row's scripts were answered, and over the same with another number read: it ends with the status and the line
+that it has with ample memory, or with status 5 and no line.
+
 Prints a line for each row, and each run that isn't so. The status is 1 where there was one.
 """
 
 import json
 import os
+import re
 import subprocess
 import sys
 import tempfile
@@ -84,25 +88,37 @@ class Row:
     def run(self, counts, refused=0, on=False):
         """Runs so many lines of each session; tells the status, the lines that were printed, and the number of allocations."""
         with tempfile.TemporaryDirectory(dir=self.room) as folder:
-            names = []
-            for place, (session, count) in enumerate(zip(self.sessions, counts)):
-                names.append(f"{folder}/{place}.jsonl")
-                with open(names[-1], "w") as file:
-                    file.writelines(session[:count])
-            with open(f"{folder}/count", "wb") as file:
-                file.write(bytes(8))
-            env = {**os.environ, "REFUSED": str(refused), "REFUSED_COUNT": f"{folder}/count", "LD_PRELOAD": self.shim}
-            env.pop("REFUSED_ON", None)
-            if on:
-                env["REFUSED_ON"] = "1"
-            words = [self.program, "--workers", "1", *names]
-            try:
-                ended = subprocess.run(words, stdin=subprocess.DEVNULL, capture_output=True, env=env, timeout=20)
-            except subprocess.TimeoutExpired:
-                return None, [], 0
-            with open(f"{folder}/count", "rb") as file:
-                last = int.from_bytes(file.read(), sys.byteorder)
-            return ended.returncode, ended.stdout.splitlines(keepends=True), last
+            return self.ran(folder, ["--workers", "1", *self.scripts(folder, counts)], refused, on)
+
+    def check(self, transcript, refused=0, on=False):
+        """Checks a transcript of the row's sessions; tells the same."""
+        with tempfile.TemporaryDirectory(dir=self.room) as folder:
+            with open(f"{folder}/answers", "wb") as file:
+                file.write(transcript)
+            return self.ran(folder, ["check", f"{folder}/answers", *self.scripts(folder, map(len, self.sessions))], refused, on)
+
+    def scripts(self, folder, counts):
+        names = []
+        for place, (session, count) in enumerate(zip(self.sessions, counts)):
+            names.append(f"{folder}/{place}.jsonl")
+            with open(names[-1], "w") as file:
+                file.writelines(session[:count])
+        return names
+
+    def ran(self, folder, words, refused, on):
+        with open(f"{folder}/count", "wb") as file:
+            file.write(bytes(8))
+        env = {**os.environ, "REFUSED": str(refused), "REFUSED_COUNT": f"{folder}/count", "LD_PRELOAD": self.shim}
+        env.pop("REFUSED_ON", None)
+        if on:
+            env["REFUSED_ON"] = "1"
+        try:
+            ended = subprocess.run([self.program, *words], stdin=subprocess.DEVNULL, capture_output=True, env=env, timeout=20)
+        except subprocess.TimeoutExpired:
+            return None, [], 0
+        with open(f"{folder}/count", "rb") as file:
+            last = int.from_bytes(file.read(), sys.byteorder)
+        return ended.returncode, ended.stdout.splitlines(keepends=True), last
 
     def plain(self, counts):
         """What so many lines of each session answer."""
@@ -153,6 +169,40 @@ class Row:
         return whole.startswith(text)
 
 
+def refused_each(name, pool, last, run, is_so):
+    """Runs with each of so many allocations refused, alone and with all behind it; tells how many runs aren't so."""
+    bad, statuses = 0, {}
+
+    def tried(job):
+        status, lines, _ = run(*job)
+        return job, status, lines, is_so(status, lines)
+
+    jobs = [(number, on) for number in range(1, last + 1) for on in (False, True)]
+    for (number, on), status, lines, so in pool.map(tried, jobs):
+        statuses[status] = statuses.get(status, 0) + 1
+        if not so:
+            bad += 1
+            behind = " and all behind it" if on else ""
+            print(f"{name}: allocation {number}{behind} refused: status {status}, {b''.join(lines).decode(errors='replace')!r}")
+    told = ", ".join(f"{statuses[s]} ended with {s}" for s in sorted(statuses, key=str))
+    print(f"{name}: {last} allocations, each refused alone and with all behind it: {told}")
+    return bad
+
+
+def refused_checks(name, pool, row, answers):
+    """The same of checks: of the answers, which fit, and of the same with another number read, which don't."""
+    bad = 0
+    for kind, transcript, status in ("its check", answers, 0), ("a failing check", re.sub(rb'"values":\[*\d', rb"\g<0>7", answers), 1):
+        ended, line, last = row.check(transcript)
+        if ended != status:
+            print(f"{name}, {kind}: with ample memory it ended with {ended}")
+            bad += 1
+            continue
+        right = (ended, line)
+        bad += refused_each(f"{name}, {kind}", pool, last, lambda *job: row.check(transcript, *job), lambda *told: told in (right, (5, [])))
+    return bad
+
+
 def main():
     program, shim = map(os.path.abspath, sys.argv[1:3])
     bad = 0
@@ -166,22 +216,8 @@ def main():
                 bad += 1
                 continue
             row.answered[full] = lines
-
-            def tried(job):
-                number, on = job
-                status, lines, _ = row.run(full, number, on)
-                return job, status, lines, row.is_so(status, lines)
-
-            jobs = [(number, on) for number in range(1, last + 1) for on in (False, True)]
-            statuses = {}
-            for (number, on), status, lines, so in pool.map(tried, jobs):
-                statuses[status] = statuses.get(status, 0) + 1
-                if not so:
-                    bad += 1
-                    behind = " and all behind it" if on else ""
-                    print(f"{name}: allocation {number}{behind} refused: status {status}, {b''.join(lines).decode(errors='replace')!r}")
-            told = ", ".join(f"{statuses[s]} ended with {s}" for s in sorted(statuses, key=str))
-            print(f"{name}: {last} allocations, each refused alone and with all behind it: {told}")
+            bad += refused_each(name, pool, last, lambda *job: row.run(full, *job), row.is_so)
+            bad += refused_checks(name, pool, row, b"".join(lines))
     return 1 if bad else 0
 
 

@@ -3,6 +3,12 @@
 _tensor_run() {
     local word=${COMP_WORDS[COMP_CWORD]} before=${COMP_WORDS[COMP_CWORD - 1]} at given=" "
     COMPREPLY=()
+    if [ "$COMP_CWORD" = 2 ] && [ "$before" = check ]; then
+        # the answers, under whatever name
+        mapfile -t COMPREPLY < <(compgen -f -- "$word")
+        return 0
+    fi
+    [ "${COMP_WORDS[1]}" = check ] && [ "$COMP_CWORD" -gt 2 ] && given=" -- "
     for ((at = 1; at < COMP_CWORD; at++)); do given+="${COMP_WORDS[at]%%=*} "; done
     if [[ $given != *" -- "* ]]; then
         case $before in
@@ -27,7 +33,9 @@ _tensor_run() {
             return
         fi
     fi
-    mapfile -t COMPREPLY < <(compgen -f -X '!*.jsonl' -- "$word"; compgen -d -S / -- "$word")
+    local first=
+    [ "$COMP_CWORD" = 1 ] && first=check
+    mapfile -t COMPREPLY < <(compgen -W "$first" -- "$word"; compgen -f -X '!*.jsonl' -- "$word"; compgen -d -S / -- "$word")
     [[ ${COMPREPLY[*]} == */ ]] && compopt -o nospace 2> /dev/null
     return 0
 }

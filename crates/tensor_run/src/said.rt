@@ -14,6 +14,15 @@ pub(crate) fn say(rt: &impl Eprint, status: u8, script: Option<u32>) -> u8 {
     status
 }
 
+/// The same of a check, whose files aren't counted.
+pub(crate) fn say_checked(rt: &impl Eprint, status: u8) -> u8 {
+    if status == 3 {
+        let _ = eprintln!(rt; "tensor_run: a file was not read");
+        return status;
+    }
+    say(rt, status, None)
+}
+
 /// Says which mounts were not finished, by their places.
 pub(crate) fn say_unfinished(
     rt: &impl Eprint,

@@ -20,3 +20,11 @@ pub(crate) fn text_or_none<'v>(v: &'v Value, name: &str) -> Result<&'v str, Faul
         None => Ok(""),
     }
 }
+
+// A number, another one where the case has no such member.
+pub(crate) fn number_or(v: &Value, name: &str, other: u64) -> Result<u64, Fault> {
+    match v.get(name) {
+        Some(found) => found.as_u64().ok_or(Fault::Line),
+        None => Ok(other),
+    }
+}

@@ -1,5 +1,7 @@
 use crate::args::{items, items_at, text_or_none};
+use crate::checks::checked;
 use crate::fault::Fault;
+use crate::files::of_files;
 use crate::judging::judged;
 use crate::stores::of_store;
 use crate::texts::{bytes_of, scripts_of};
@@ -33,6 +35,13 @@ fn of_value(alloc: Global, v: &Value) -> Result<String, Fault> {
 fn of_steps(alloc: Global, v: &Value) -> Result<String, Fault> {
     match v.get("store") {
         Some(steps) => of_store(alloc, items(steps)?),
+        None => of_words(alloc, v),
+    }
+}
+
+fn of_words(alloc: Global, v: &Value) -> Result<String, Fault> {
+    match v.get("files") {
+        Some(files) => of_files(alloc, v, items(files)?),
         None => of_transcript(alloc, v),
     }
 }
@@ -44,5 +53,17 @@ fn of_transcript(alloc: Global, v: &Value) -> Result<String, Fault> {
 
 fn of_scripts(alloc: Global, v: &Value, scripts: &[List<u8>]) -> Result<String, Fault> {
     let transcript = bytes_of(alloc, items_at(v, "transcript")?, text_or_none(v, "rest")?)?;
-    judged(alloc, scripts, &transcript, v.get("arrays").is_some())
+    told_of(alloc, v, scripts, &transcript)
+}
+
+fn told_of(
+    alloc: Global,
+    v: &Value,
+    scripts: &[List<u8>],
+    transcript: &[u8],
+) -> Result<String, Fault> {
+    match v.get("check") {
+        Some(_) => checked(alloc, scripts, transcript),
+        None => judged(alloc, scripts, transcript, v.get("arrays").is_some()),
+    }
 }

@@ -1,19 +1,19 @@
 // What is told of a transcript, as far as its lines, its numbers and its arrays go.
 ghost use Rattle.std.specs.Prelude.{◌<◌, ◌^◌, ℕ, List, length};
 ghost use Rattle.std.specs.List.{AllByRecursion};
-ghost use Rattle.stated_arrays.specs.Openings.{IsNumberedCut};
-ghost use Rattle.stated_arrays.specs.Cuttings.{IsWholeCut};
-ghost use Rattle.stated_arrays.specs.declared.Said.{Said as SaidOf};
+ghost use Rattle.transcript_check.specs.Openings.{IsNumberedCut};
+ghost use Rattle.transcript_check.specs.Cuttings.{IsWholeCut};
+ghost use Rattle.transcript_check.specs.declared.Said.{Said as SaidOf};
 
 use crate::fault::Fault;
 use cells::List;
-use stated_arrays::{
-    AskedLine, Cutting, Openings, Said, cut, first_unchecked, number_events, state_openings,
-};
 use std::alloc::Global;
+use transcript_check::{
+    Cutting, Openings, Said, cut, first_unchecked, number_events, state_openings,
+};
 
 // The most scripts of a case.
-const MOST: usize = 1024;
+pub(crate) const MOST: usize = 1024;
 
 /// The line because of which the transcript isn't checked, the part that fails, or the answers by the numbers of events; where arrays
 /// are asked for, those that are opened in place of the answers.
@@ -27,14 +27,13 @@ pub(crate) fn judged(
         return Err(Fault::Line);
     }
     match first_unchecked(alloc, scripts)? {
-        Some(line) => not_checked(alloc, line),
+        Some(line) => not_checked(alloc, line.session, line.number),
         None => by_cutting(alloc, scripts, transcript, arrays),
     }
 }
 
-fn not_checked(alloc: Global, line: AskedLine) -> Result<String, Fault> {
-    let session = line.session;
-    let number = line.number;
+/// The transcript isn't checked because of this line.
+pub(crate) fn not_checked(alloc: Global, session: u32, number: u64) -> Result<String, Fault> {
     Ok(format!(in alloc; "not checked, session {session} line {number}")?)
 }
 
@@ -49,12 +48,13 @@ fn by_cutting(
     match cut(alloc, scripts, transcript) {
         Ok(Cutting::Whole { said }) => by_numbers(alloc, scripts, said.items(), arrays),
         Ok(Cutting::Broken) => part(alloc, 1),
-        Ok(Cutting::CutOff { line }) => not_checked(alloc, line),
+        Ok(Cutting::CutOff { line }) => not_checked(alloc, line.session, line.number),
         Err(e) => Err(Fault::from(e)),
     }
 }
 
-fn part(alloc: Global, number: u32) -> Result<String, Fault> {
+/// This part fails.
+pub(crate) fn part(alloc: Global, number: u32) -> Result<String, Fault> {
     Ok(format!(in alloc; "part {number} fails")?)
 }
 

@@ -1,8 +1,8 @@
 use Rattle.std.proofs.Common.{◌<◌, length, sym, subst}
 use Rattle.std.specs.List.{AllByRecursion}
-use Rattle.stated_arrays.specs.Cuttings.{IsWholeCut}
-use Rattle.stated_arrays.specs.declared.Said.{Said}
-use Rattle.stated_arrays.proofs.Laws.{sessions_within}
+use Rattle.transcript_check.specs.Cuttings.{IsWholeCut}
+use Rattle.transcript_check.specs.declared.Said.{Said}
+use Rattle.transcript_check.proofs.Laws.{sessions_within}
 use Rattle.transcript_cases.proofs.judging.by_cutting.Goals as goal
 
 pub by_numbers-requires-clause-sessions : goal.by_numbers-requires-clause-sessions
