@@ -8,5 +8,6 @@ mod pieces;
 mod scripts;
 mod telling;
 
+pub use answer_text::{Answer, Body};
 pub use scripts::make_scripts;
 pub use telling::summary;

@@ -2,11 +2,9 @@
 use crate::made_events::events_of;
 use crate::made_logs::logs_of;
 use crate::made_shown::{put_line, put_script};
-use answer_text::Answer;
 use case_lines::{Fault, items, items_if, said};
 use cells::List;
-use history::Event;
-use made_scripts::{make_scripts, summary};
+use script_runner::{Answer, Event, make_scripts, summary};
 use serde_json::Value;
 use std::alloc::Global;
 use std::str;

@@ -1,7 +1,7 @@
 // Histories of a few kinds of events.
 use case_lines::{Fault, text_of};
 use cells::{List, Name, Sizes};
-use history::{Event, Kind, Mode, Op, Ops};
+use script_runner::{Event, Kind, Mode, Op, Ops};
 use serde_json::Value;
 use std::alloc::Global;
 

@@ -1,7 +1,7 @@
 // Logs of a few kinds of answers.
-use answer_text::{Answer, Body};
 use case_lines::{Fault, items, member};
 use cells::{Dtype, Index, List, Sizes, Words};
+use script_runner::{Answer, Body};
 use serde_json::Value;
 use std::alloc::Global;
 

@@ -2,7 +2,7 @@
 ghost use Rattle.std.specs.Prelude.{◌≤◌, length};
 
 use case_lines::{Fault, items, items_if, number_or, text_of};
-use script_streams::{MemoryScripts, read_scripts};
+use script_runner::{MemoryScripts, read_scripts};
 use serde_json::Value;
 use std::alloc::Global;
 use std::str;

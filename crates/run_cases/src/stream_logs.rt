@@ -1,7 +1,7 @@
 // Logs of answers without members of their own.
-use answer_text::{Answer, Body};
 use case_lines::{Fault, items, number_or, text_of};
 use cells::List;
+use script_runner::{Answer, Body};
 use serde_json::Value;
 use std::alloc::Global;
 

@@ -2,10 +2,9 @@
 use crate::reading::read_line;
 use crate::stream_logs::logs_of;
 use crate::writing::write_line;
-use answer_text::Answer;
 use case_lines::{Fault, member};
 use cells::List;
-use script_streams::{are_all_ok, has_memory};
+use script_runner::{Answer, are_all_ok, has_memory};
 use serde_json::Value;
 use std::alloc::Global;
 

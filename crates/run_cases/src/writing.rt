@@ -1,9 +1,8 @@
 // Logs that are written to memory.
 use crate::stream_logs::logs_of;
-use answer_text::Answer;
 use case_lines::{Fault, number_or};
 use cells::List;
-use script_streams::{MemorySink, write_logs};
+use script_runner::{Answer, MemorySink, write_logs};
 use serde_json::Value;
 use std::alloc::Global;
 use std::str;

@@ -1,9 +1,8 @@
 // Four sessions on four workers, each with a quarter of the rows of one array of 1,000 by 1,000 cells in chunks of 100 by 100.
 use crate::counted::Counted;
 use crate::runs::{counted, mounts, run_texts};
-use answer_text::Body;
 use kv_face::MemoryKv;
-use script_runner::{MemorySink, Mount, OpenGate, Outcome};
+use script_runner::{Body, MemorySink, Mount, OpenGate, Outcome};
 use std::alloc::{AllocError, Global};
 use std::sync::atomic::AtomicU64;
 use std::test::Fail;

@@ -13,8 +13,12 @@ use Rattle.run_words.specs.declared.settings.Input.{Input}
 use Rattle.run_words.specs.declared.settings.Input.TheVariants.{Files, Made}
 use Rattle.run_words.specs.declared.settings.Settings.{Settings}
 use Rattle.run_words.specs.declared.error.WordsError.{WordsError}
-use Rattle.script_runner.specs.Asked.{AskFor, AskToMake, AreRefused, IsUnread, IsUnreadFile}
+use Rattle.script_runner.specs.Asked.{AskFor, AskToMake, AreRefused, HasAsked, IsAnsweredBy, IsUnread, IsUnreadFile}
+use Rattle.script_runner.specs.declared.outcome.Outcome.{Outcome}
+use Rattle.script_streams.specs.Asking.{Gives}
 use Rattle.script_streams.specs.Reading.{AreShort, texts_in}
+use Rattle.script_streams.specs.declared.reading.Unread.{Unread}
+use Rattle.script_streams.specs.declared.reading.Unread.TheVariants.{Failed, TooLong, Memory}
 
 -- the texts of the words from a place on, as a slice has them
 pub texts_from : (ws : List (String Global)) (n : ℕ) → texts_of (take (length ws - n) (drop n ws)) ≡ drop n (texts_of ws)
@@ -97,3 +101,14 @@ made_each number texts are k d within =
     let at = made_short number k (d.items) low in
     let is = sym (ap (λ ts. get_or ts k (d.items)) are) ∙ get_or-map (λ v. v.items) texts k d d.items within in
     omega (arith, at, ap length is)
+
+answered_more : (outcome : Outcome) (ran other : List (List ℕ) → Type 0) (answer : Result (Vec (Vec ℕ Global) Global) Unread) → ((texts : List (List ℕ)) → ran texts → other texts) → IsAnsweredBy outcome ran answer → IsAnsweredBy outcome other answer
+answered_more outcome ran other (Ok texts) more is = (is.0, λ some. more (texts_in texts.items) (is.1 some))
+answered_more outcome ran other (Err (Failed place)) more is = is
+answered_more outcome ran other (Err (TooLong place)) more is = is
+answered_more outcome ran other (Err Memory) more is = is
+
+-- scripts that were asked for, where more holds of what was run
+pub asked_more : {X : Type 0} (gives : Gives X) (from : X) (files : List (List ℕ)) (outcome : Outcome) (ran other : List (List ℕ) → Type 0) (to : X) → ((texts : List (List ℕ)) → ran texts → other texts) → HasAsked gives from files outcome ran to
+    → HasAsked gives from files outcome other to
+asked_more gives from files outcome ran other to more is = record { answer = is.answer; asked = is.asked; answered = answered_more outcome ran other is.answer more is.answered }

@@ -1,5 +1,6 @@
 mod Asking
 mod Single
 mod Ran
+mod Verdict
 mod Written
 mod PartLaws

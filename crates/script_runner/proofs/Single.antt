@@ -3,10 +3,10 @@ use Rattle.std.proofs.Common.{◌≡◌, ◌∙◌, ℕ, suc, ◌+◌, Bool, tru
 use Rattle.std.specs.Prelude.{filter_map, ◌||◌}
 use Rattle.std.specs.List.{AllByRecursion, list_any}
 use Rattle.std.proofs.lemmas.List.{length-map}
-use Rattle.answer_text.specs.declared.answer.Answer.{Answer}
-use Rattle.history.specs.Answers as old
-use Rattle.history.specs.Lines.{Line}
-use Rattle.history.specs.Steps.{is_memory}
+use Rattle.output_laws.specs.declared.Answer.{Answer}
+use Rattle.output_laws.specs.Answers as old
+use Rattle.output_laws.specs.Lines.{Line}
+use Rattle.output_laws.specs.Steps.{is_memory}
 use Rattle.session_workers.specs.Bodies.{body_of, answer_of}
 use Rattle.session_workers.specs.Finished.{IsWhole, ends_in_want, asked_by, numbers_from}
 use Rattle.script_streams.specs.Standing as standing

@@ -1,13 +1,17 @@
 -- What a run promises.
-use Rattle.std.specs.Prelude.{◌≡◌, ◌≢◌, ◌⊎◌, ◌&&◌, ℕ, List, [], ◌∷◌, map, Bool, true, false, Option, if◌then◌else◌}
-use Rattle.answer_text.specs.declared.answer.Answer.{Answer}
-use Rattle.history.specs.declared.event.Event.{Event}
-use Rattle.history.specs.Single.{single_session}
+use Rattle.std.specs.Prelude.{◌≡◌, ◌≢◌, ◌⊎◌, ◌&&◌, ℕ, List, [], ◌∷◌, length, map, Bool, true, false, Option, if◌then◌else◌}
+use Rattle.output_laws.specs.declared.Event.{Event}
+use Rattle.output_laws.specs.Single.{single_session}
 use Rattle.kv_face.specs.Store.{Contents}
 use Rattle.kv_mounts.specs.Parts.{Part, names_of}
 use Rattle.kv_mounts.specs.Union.{faults_of}
 use Rattle.session_workers.specs.Bodies.{answer_of}
 use Rattle.made_scripts.specs.Summary.{summary_text}
+use Rattle.output_laws.specs.declared.Answer.{Answer}
+use Rattle.output_laws.specs.Transcript.{mount}
+use Rattle.output_laws.specs.Typed.{AreTyped}
+use Rattle.output_laws.specs.Unchecked.{AreChecked}
+use Rattle.output_laws.specs.Verdicts.{IsVerdict, yes}
 use Rattle.session_workers.specs.Finished.{IsRun, AreWhole, asked_by}
 use Rattle.session_workers.specs.MountRuns.{IsSerialRun}
 -- what a run's mounts are asked for: one, whose store is empty and makes all its changes together
@@ -19,7 +23,7 @@ use Rattle.script_runner.specs.declared.outcome.Outcome.{Outcome}
 use Rattle.script_runner.specs.declared.writing.Report.{Report}
 use Rattle.script_runner.specs.declared.writing.Report.TheVariants.{Answers, Summary}
 use Rattle.script_streams.specs.Putting.{Takes, IsGoing, IsBroken, IsStopped}
-use Rattle.script_streams.specs.Standing.{are_all_ok}
+use Rattle.script_streams.specs.Standing.{are_all_ok, holds_memory}
 use Rattle.script_streams.specs.Writing.{text_of_logs}
 
 -- these scripts were run over the mounts. But under status 5, each line that isn't blank has its answer, up to one that is want of memory;
@@ -29,6 +33,8 @@ pub record HasRunTexts (scripts : List (List ℕ)) (old new : List Part) (outcom
   pub run : IsRun scripts old new outcome.history outcome.logs whole outcome.unfinished
   pub full : outcome.status ≢ 5 → whole ≡ true
   pub unwritten : whole ≡ false → silent
+  -- the answers are such as their type says
+  pub typed : AreTyped outcome.logs
 
 -- these files were read and run so
 pub record HasRunFiles (contents : Option Contents) (files : List (List ℕ)) (old new : List Part) (outcome : Outcome) (silent : Type 0) : Type 0 where
@@ -71,6 +77,23 @@ pub record IsSerialOutcome (contents : Option Contents) (words : List (List ℕ)
   pub whole : outcome.status ≢ 5 → AreWhole (names_of old) scripts outcome.logs
   -- one script alone, where no call of the store failed and all answers were written, gives what the single session gives
   pub single : HasAnswers outcome.status → (mount script : List ℕ) → names_of old ≡ mount ∷ [] → scripts ≡ script ∷ [] → faults_of new ≡ faults_of old → IsSingleOutcome mount script outcome
+
+-- over one store that is called `memory`, the right verdict on what the logs print is yes, by as many events as there are, where nothing ended in want of
+-- memory and each line of the scripts is one that is checked
+abbrev pub IsAnsweredYes : List (List ℕ) → List Part → Outcome → Type 0
+IsAnsweredYes scripts old outcome = names_of old ≡ mount ∷ [] → outcome.status ≢ 5 → holds_memory outcome.logs ≡ false → AreChecked scripts
+    → IsVerdict scripts (text_of_logs outcome.logs) (yes (length outcome.history))
+
+-- WHAT A CHECKER ANSWERS. What was printed of the scripts that the words ask for is answered yes
+pub record IsYesOutcome (contents : Option Contents) (words : List (List ℕ)) (old : List Part) (outcome : Outcome) : Type 0 where
+  pub scripts : List (List ℕ)
+  pub asked : AreAskedFor contents words scripts
+  pub answered : IsAnsweredYes scripts old outcome
+
+-- these scripts were run over the mounts, and where those are one empty store, what was printed is answered yes
+pub record HasRunGiven (scripts : List (List ℕ)) (old new : List Part) (outcome : Outcome) (silent : Type 0) : Type 0 where
+  pub ran : HasRunTexts scripts old new outcome silent
+  pub fits : IsEmptyMount old → IsAnsweredYes scripts old outcome
 
 -- no session was started
 pub record IsUnstarted (outcome : Outcome) : Type 0 where

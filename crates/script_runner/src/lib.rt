@@ -13,9 +13,14 @@ mod words;
 mod writing;
 
 pub use kv_face::{KvStore, MemoryKv};
+pub use made_scripts::{Answer, Body, make_scripts, summary};
 pub use mounts::new_mounts;
 pub use outcome::Outcome;
-pub use script_streams::{FileScripts, MemoryScripts, MemorySink, Scripts, Sink, StdoutSink};
+pub use output_laws::{Event, Kind, Mode, Op, Ops};
+pub use script_streams::{
+    FileScripts, MemoryScripts, MemorySink, Scripts, Sink, StdoutSink, are_all_ok, has_memory,
+    read_scripts, write_logs,
+};
 pub use session_workers::{BoxedStore, Gate, Mount, OpenGate};
 pub use store::Store;
 pub use top::run;

@@ -1,8 +1,7 @@
 ghost use Rattle.std.specs.Prelude.{◌≡◌, []};
 
-use answer_text::Answer;
 use cells::List;
-use history::Event;
+use output_laws::{Answer, Event};
 use std::alloc::Global;
 
 /// How a run ended.

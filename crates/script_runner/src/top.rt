@@ -4,12 +4,13 @@ ghost use Rattle.kv_face.specs.Streams.{WhereTold, Rises, IsPartOf};
 ghost use Rattle.kv_mounts.specs.Parts.{AreMounts};
 ghost use Rattle.made_scripts.specs.Scripts.{made};
 ghost use Rattle.made_scripts.specs.Summary.{summary_text};
+ghost use Rattle.output_laws.specs.Typed.{AreTyped};
 ghost use Rattle.session_workers.specs.MountRuns.{IsEmptyMount};
 ghost use Rattle.run_words.specs.Options.{Text, texts_of};
 ghost use Rattle.run_words.specs.Words.{IsSettings};
 ghost use Rattle.run_words.specs.declared.settings.Settings.{Settings};
 ghost use Rattle.script_runner.specs.Asked.{AskFor, AskToMake, AreRefused, HasAsked, IsUnread, IsUnreadFile};
-ghost use Rattle.script_runner.specs.Promises.{HasRun, HasRunFiles, HasRunTexts, IsSerialOutcome, IsUnstarted, HasAnswers, IsPut, status_of, text_by, text_of};
+ghost use Rattle.script_runner.specs.Promises.{HasRun, HasRunFiles, HasRunGiven, HasRunTexts, IsSerialOutcome, IsYesOutcome, IsUnstarted, HasAnswers, IsPut, status_of, text_by, text_of};
 ghost use Rattle.script_streams.specs.Reading.{texts_in};
 ghost use Rattle.script_streams.specs.Standing.{holds_memory};
 ghost use Rattle.script_streams.specs.Writing.{text_of_logs};
@@ -19,6 +20,7 @@ use crate::writing::{Report, status_of};
 use cells::List;
 use kv_face::KvStore;
 use made_scripts::make_scripts;
+use output_laws::look_at_logs;
 use run_words::{Input, Settings, read_words};
 use script_streams::{Reader, Unread, Writer, read_scripts};
 use session_workers::{Finished, Gate, Mount, run_over};
@@ -49,6 +51,9 @@ pub fn run<S: Reader, O: Writer, K: KvStore + Send, R: Threads + Wait + Sync, G:
     // Serial transactions: over one empty store that makes all changes of a commit together.
     ensures serial { result.logs ≢ [] → IsEmptyMount mounts.old.items
         → IsSerialOutcome (S.contents scripts.old) (texts_of words.now) mounts.old.items mounts.new.items result }
+    // Over such a store, what is printed is a transcript that a checker has to answer yes.
+    ensures fits { result.logs ≢ [] → IsEmptyMount mounts.old.items
+        → IsYesOutcome (S.contents scripts.old) (texts_of words.now) mounts.old.items result }
     // Over any mounts, where sessions were started, whatever the status.
     ensures started { result.logs ≢ [] → HasRun (S.contents scripts.old)
         (texts_of words.now) mounts.old.items mounts.new.items result (sink.new ≡ sink.old) }
@@ -62,10 +67,11 @@ pub fn run<S: Reader, O: Writer, K: KvStore + Send, R: Threads + Wait + Sync, G:
     // Nor is one where the words ask for scripts that are made.
     ensures made { (number : ℕ) → AskToMake (texts_of words.now) number → (scripts.new ≡ scripts.old)
         × (result.status ≢ 3) }
-    // The files that the words name are asked for in their order, each once and none behind the first that isn't given; what was given is run.
+    // The files that the words name are asked for in their order, each once and none behind the first that isn't given; what was given is run,
+    // and over one empty store what is printed is answered yes for it.
     ensures asked { (files : List Text) → AskFor (texts_of words.now) files
         → HasAsked S.gives scripts.old files result (λ texts.
-        HasRunTexts texts mounts.old.items mounts.new.items result (sink.new ≡ sink.old)) scripts.new }
+        HasRunGiven texts mounts.old.items mounts.new.items result (sink.new ≡ sink.old)) scripts.new }
     // Status 3 comes only where the scripts failed or, as far as they are told, the script passes a limit.
     ensures unread { result.status ≡ 3 → IsUnread (S.contents scripts.old) (texts_of words.now) (S.faults scripts.old)
         (S.faults scripts.new) result.script }
@@ -290,6 +296,7 @@ fn told<O: Writer, K: KvStore, R: Threads + Sync>(
     ensures history { result.history ≡ finished.history.items }
     ensures logs { result.logs ≡ finished.logs.items }
     ensures unfinished { result.unfinished ≡ finished.unfinished.items }
+    ensures typed { AreTyped result.logs }
     ensures known { (result.status ≤ 5) × (result.status ≢ 2) × (result.status ≢ 3) }
     ensures place { result.script ≡ None }
     ensures full { result.status ≢ 5 → finished.whole ≡ true }
@@ -312,6 +319,7 @@ fn told<O: Writer, K: KvStore, R: Threads + Sync>(
         unfinished,
     } = finished;
     *mounts = back;
+    look_at_logs(logs.as_slice());
     let status = status_of(
         alloc,
         rt,

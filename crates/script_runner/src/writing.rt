@@ -6,10 +6,9 @@ ghost use Rattle.script_runner.specs.Promises.{HasAnswers, IsPut, is_empty, text
 ghost use Rattle.script_streams.specs.Putting.{IsPutting};
 ghost use Rattle.script_streams.specs.Standing.{are_all_ok, holds_memory};
 
-use answer_text::Answer;
 use cells::List;
-use history::Event;
 use made_scripts::summary;
+use output_laws::{Answer, Event};
 use script_streams::{Unwritten, Writer, are_all_ok, has_memory, write_logs_beside};
 use std::alloc::Global;
 use std::thread::Threads;

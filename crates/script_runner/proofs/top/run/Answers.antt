@@ -2,15 +2,22 @@ use Rattle.std.proofs.Common.{◌≡◌, ◌++◌, Some, sym, ap, subst}
 use Rattle.kv_face.specs.Streams.{WhereTold, IsPartOf}
 use Rattle.run_words.specs.Options.{texts_of}
 use Rattle.script_runner.specs.Asked.{HasAsked}
-use Rattle.script_runner.specs.Promises.{HasRunTexts, IsPut, text_by}
-use Rattle.script_runner.proofs.Asking.{ask_for, ask_to_make, error_asks, files_asked, made_asked, of_input, same_files, unread_asked}
+use Rattle.script_runner.specs.Promises.{HasRunGiven, HasRunTexts, IsPut, text_by}
+use Rattle.script_runner.proofs.Asking.{ask_for, ask_to_make, asked_more, error_asks, files_asked, made_asked, of_input, same_files, unread_asked}
 use Rattle.script_runner.proofs.Ran.{run_asked, run_made, serial_run}
+use Rattle.script_runner.proofs.Verdict.{run_given, yes_outcome}
 use Rattle.script_runner.proofs.top.run.Goals as goal
 
 pub returns-in-Ok-Files-clause-serial : goal.returns-in-Ok-Files-clause-serial
 returns-in-Ok-Files-clause-serial g c = λ some empty.
     let asked = ask_for c.args.words.now c.in-Ok-Files.field-0 c.in-Ok-Files.first c.in-Ok-Files.ensures.settings c.in-Ok-Files.t14-in-Files-1-is in
     serial_run _ (texts_of c.args.words.now) c.args.mounts.now.items c.read_and_run.new.mounts.items c.read_and_run.result (c.read_and_run.new.sink ≡ c.args.sink.now) empty (λ has. (c.read_and_run.ensures.status has).1)
+    (run_asked _ (texts_of c.args.words.now) _ c.args.mounts.now.items c.read_and_run.new.mounts.items c.read_and_run.result (c.read_and_run.new.sink ≡ c.args.sink.now) asked (c.read_and_run.ensures.started some))
+
+pub returns-in-Ok-Files-clause-fits : goal.returns-in-Ok-Files-clause-fits
+returns-in-Ok-Files-clause-fits g c = λ some empty.
+    let asked = ask_for c.args.words.now c.in-Ok-Files.field-0 c.in-Ok-Files.first c.in-Ok-Files.ensures.settings c.in-Ok-Files.t14-in-Files-1-is in
+    yes_outcome _ (texts_of c.args.words.now) c.args.mounts.now.items c.read_and_run.new.mounts.items c.read_and_run.result (c.read_and_run.new.sink ≡ c.args.sink.now) empty
     (run_asked _ (texts_of c.args.words.now) _ c.args.mounts.now.items c.read_and_run.new.mounts.items c.read_and_run.result (c.read_and_run.new.sink ≡ c.args.sink.now) asked (c.read_and_run.ensures.started some))
 
 pub returns-in-Ok-Files-clause-started : goal.returns-in-Ok-Files-clause-started
@@ -26,8 +33,13 @@ returns-in-Ok-Files-clause-made g c = λ number asked. absurd (files_asked (text
 
 pub returns-in-Ok-Files-clause-asked : goal.returns-in-Ok-Files-clause-asked
 returns-in-Ok-Files-clause-asked g c = λ files asked.
-    subst (λ fs. HasAsked g.S.Reader.gives c.args.scripts.now fs c.read_and_run.result (λ texts. HasRunTexts texts c.args.mounts.now.items c.read_and_run.new.mounts.items c.read_and_run.result (c.read_and_run.new.sink ≡ c.args.sink.now)) c.read_and_run.new.scripts)
-    (sym (same_files c.args.words.now c.read_words.result c.in-Ok-Files.field-0 c.in-Ok-Files.first files c.read_words.ensures.only c.in-Ok-Files.is c.in-Ok-Files.t14-in-Files-1-is asked)) c.read_and_run.ensures.asked
+    let old = c.args.mounts.now.items in
+    let new = c.read_and_run.new.mounts.items in
+    let outcome = c.read_and_run.result in
+    let same = same_files c.args.words.now c.read_words.result c.in-Ok-Files.field-0 c.in-Ok-Files.first files c.read_words.ensures.only c.in-Ok-Files.is c.in-Ok-Files.t14-in-Files-1-is asked in
+    subst (λ fs. HasAsked g.S.Reader.gives c.args.scripts.now fs outcome (λ texts. HasRunGiven texts old new outcome (c.read_and_run.new.sink ≡ c.args.sink.now)) c.read_and_run.new.scripts) (sym same)
+    (asked_more g.S.Reader.gives c.args.scripts.now _ outcome (λ texts. HasRunTexts texts old new outcome (c.read_and_run.new.sink ≡ c.args.sink.now)) (λ texts. HasRunGiven texts old new outcome (c.read_and_run.new.sink ≡ c.args.sink.now)) c.read_and_run.new.scripts
+    (λ texts one. run_given texts old new outcome (c.read_and_run.new.sink ≡ c.args.sink.now) one) c.read_and_run.ensures.asked)
 
 pub returns-in-Ok-Files-clause-put : goal.returns-in-Ok-Files-clause-put
 returns-in-Ok-Files-clause-put g c = λ settings is some.
@@ -53,6 +65,12 @@ pub returns-in-Ok-Made-clause-serial : goal.returns-in-Ok-Made-clause-serial
 returns-in-Ok-Made-clause-serial g c = λ some empty.
     let asked = ask_to_make (texts_of c.args.words.now) c.in-Ok-Made.field-0 c.in-Ok-Made.number c.in-Ok-Made.ensures.settings c.in-Ok-Made.t14-in-Made-1-is in
     serial_run _ (texts_of c.args.words.now) c.args.mounts.now.items c.make_and_run.new.mounts.items c.make_and_run.result (c.make_and_run.new.sink ≡ c.args.sink.now) empty (λ has. (c.make_and_run.ensures.status has).1)
+    (run_made _ (texts_of c.args.words.now) c.in-Ok-Made.number c.args.mounts.now.items c.make_and_run.new.mounts.items c.make_and_run.result (c.make_and_run.new.sink ≡ c.args.sink.now) asked (c.make_and_run.ensures.started some))
+
+pub returns-in-Ok-Made-clause-fits : goal.returns-in-Ok-Made-clause-fits
+returns-in-Ok-Made-clause-fits g c = λ some empty.
+    let asked = ask_to_make (texts_of c.args.words.now) c.in-Ok-Made.field-0 c.in-Ok-Made.number c.in-Ok-Made.ensures.settings c.in-Ok-Made.t14-in-Made-1-is in
+    yes_outcome _ (texts_of c.args.words.now) c.args.mounts.now.items c.make_and_run.new.mounts.items c.make_and_run.result (c.make_and_run.new.sink ≡ c.args.sink.now) empty
     (run_made _ (texts_of c.args.words.now) c.in-Ok-Made.number c.args.mounts.now.items c.make_and_run.new.mounts.items c.make_and_run.result (c.make_and_run.new.sink ≡ c.args.sink.now) asked (c.make_and_run.ensures.started some))
 
 pub returns-in-Ok-Made-clause-started : goal.returns-in-Ok-Made-clause-started

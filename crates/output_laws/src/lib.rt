@@ -1,0 +1,28 @@
+//! That what a run prints reads back, and that a checker of transcripts has to answer yes to it.
+//!
+//! Others rest on a call and a law. `look_at_logs` does nothing, and says of logs what their type says: their texts are UTF-8 and their
+//! numbers take 64 bits. By the law, what such logs print is answered yes by as many events as there are, where they are those of sessions that
+//! ran all lines of checked scripts.
+#![tactic(auto)]
+
+ghost use Rattle.output_laws.specs.Flat.{OutputsAreFlat};
+ghost use Rattle.output_laws.specs.Printed.{PrintedOutputsAreYes};
+
+mod bodies;
+mod causes;
+mod logs;
+mod looks;
+
+/// The values of an output are along at most 32 dimensions.
+pub fn outputs_are_flat()
+    ensures { OutputsAreFlat }
+{}
+
+/// What an output prints is answered yes, by as many events as there are, where its answers are those of a program.
+pub fn printed_outputs_are_yes()
+    ensures { PrintedOutputsAreYes }
+{}
+
+pub use history::{Event, Kind, Mode, Op, Ops};
+pub use logs::look_at_logs;
+pub use transcript_laws::Answer;
