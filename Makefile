@@ -17,6 +17,7 @@ bench: bin/tensor_run bin/bench
 	bench/lines.sh bin/bench
 	bench/read.sh bin/tensor_run
 	bench/commits.sh bin/bench
+	bench/check.sh bin/tensor_run
 	bench/beside.sh bin/tensor_run
 
 # make ends with 2 where the script's run ends with another status than 0; `./run SCRIPT` ends with that status
