@@ -1,10 +1,11 @@
 // A run by the words of the command line.
-ghost use Rattle.std.specs.Prelude.{◌≡◌, ◌≢◌, [], Option, map, string_bytes, false};
+ghost use Rattle.std.specs.Prelude.{◌≡◌, ◌≢◌, ◌↔◌, [], Option, drop, map, string_bytes, false};
 ghost use Rattle.kv_face.specs.Store.{Contents};
 ghost use Rattle.kv_mounts.specs.Parts.{AreMounts};
 ghost use Rattle.script_runner.specs.Parts.{parts_of};
 ghost use Rattle.script_runner.specs.Words.{mount_words, names_folder};
-ghost use Rattle.script_runner.specs.Promises.{IsSerialOutcome};
+ghost use Rattle.script_runner.specs.Asked.{AreRefused};
+ghost use Rattle.script_runner.specs.Promises.{HasRun, IsSerialOutcome};
 
 use crate::said::{say, say_unfinished};
 use script_runner::{FileScripts, Mount, OpenGate, Outcome, StdoutSink, Store, mounts_by, run};
@@ -55,6 +56,11 @@ fn ran<R: Threads + Wait + Sync>(
     ensures serial { names_folder (map string_bytes words.now) ≡ false → result.logs ≢ []
         → (contents : Option Contents) × IsSerialOutcome contents (map string_bytes words.now)
         (parts_of false) mounts.new.items result }
+    // With a folder or without, the words behind those that are about the mounts are run over the mounts that those ask for.
+    ensures refused { result.status ≡ 2 ↔ AreRefused (drop (mount_words (map string_bytes words.now)) (map string_bytes words.now)) }
+    ensures started { result.logs ≢ [] → (contents : Option Contents)
+        × HasRun contents (drop (mount_words (map string_bytes words.now)) (map string_bytes words.now))
+        (parts_of (names_folder (map string_bytes words.now))) mounts.new.items result (Unit {0}) }
 {
     let mut scripts = FileScripts::new(host);
     let mut sink = StdoutSink::new(host);
