@@ -16,7 +16,7 @@ use Rattle.history.specs.Shown.{after_read}
 use Rattle.history.specs.Viewing.{shape_of, view_fault, cell_fault}
 use Rattle.history.proofs.Asking.{IsAskedBy, named_by, all_named_by, join_by, changes_by, without_by, values_by, leaf_by, cond_by, factors_by}
 use Rattle.transcript_laws.specs.Transcript.{Told}
-use Rattle.transcript_laws.specs.Numbers.{done_in, failed_in}
+use Rattle.transcript_laws.specs.Numbers.{done_in, failed_in, damaged_in}
 use Rattle.transcript_laws.specs.Standings.{Standing, first_standing, standing, standing_step, standing_asked, standing_by, read_told, left_told}
 use Rattle.transcript_laws.specs.Stances.{stance, stance_by, stance_of, stance_left, stance_begun}
 
@@ -52,10 +52,11 @@ module _ (history : History) (s : Standing) (line : ℕ) (answer : Data) where
   asked_kept (Ok act) fits = fits
   asked_kept (Err refusal) fits = refl
 
-  commit_left : (t : Transaction) (done failed : List ℕ) → stance_of (left_told t done failed) ≡ stance_left done failed (Some (record { line = t.line; mode = t.mode }))
-  commit_left t done [] = refl
-  commit_left t [] (n ∷ failed) = refl
-  commit_left t (m ∷ done) (n ∷ failed) = refl
+  commit_left : (t : Transaction) (done failed : List ℕ) (damaged : Bool) → stance_of (left_told t done failed damaged) ≡ stance_left done failed damaged (Some (record { line = t.line; mode = t.mode }))
+  commit_left t [] [] true = refl
+  commit_left t [] [] false = refl
+  commit_left t [] (n ∷ failed) damaged = refl
+  commit_left t (m ∷ done) failed damaged = refl
 
   begun : (mode : _) (t : Option Transaction) → t ≡ s.transaction → stance_of (standing_asked history s line (outside t (Ok (begins mode))) answer).transaction ≡ stance_begun line mode (stance_of t)
   begun mode None is = refl
@@ -78,9 +79,9 @@ module _ (history : History) (s : Standing) (line : ℕ) (answer : Data) where
   step_stance (beginning mode) = begun mode s.transaction refl
   step_stance committing = committed s.transaction refl
     where
-      committed : (t : Option Transaction) → t ≡ s.transaction → stance_of (standing_asked history s line (act_of s.names t committing) answer).transaction ≡ stance_left (done_in answer) (failed_in answer) (stance_of t)
+      committed : (t : Option Transaction) → t ≡ s.transaction → stance_of (standing_asked history s line (act_of s.names t committing) answer).transaction ≡ stance_left (done_in answer) (failed_in answer) (damaged_in answer) (stance_of t)
       committed None is = ap stance_of (sym is)
-      committed (Some u) is = commit_left u (done_in answer) (failed_in answer)
+      committed (Some u) is = commit_left u (done_in answer) (failed_in answer) (damaged_in answer)
   step_stance aborting = aborted s.transaction refl
     where
       aborted : (t : Option Transaction) → t ≡ s.transaction → stance_of (standing_asked history s line (act_of s.names t aborting) answer).transaction ≡ None

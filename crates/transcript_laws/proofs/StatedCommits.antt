@@ -39,7 +39,7 @@ use Rattle.history.proofs.StepsStaged.{IsWholeView, IsActWhole, act_of-whole}
 use Rattle.history.proofs.Transactions.{all_with}
 use Rattle.state_laws.specs.Outline.{outline, outlined_event}
 use Rattle.transcript_laws.specs.Transcript.{mount, ScriptLine, lines_of_scripts, Told, AreToldOf}
-use Rattle.transcript_laws.specs.Numbers.{opened_in, done_in, failed_in, told_of}
+use Rattle.transcript_laws.specs.Numbers.{opened_in, done_in, failed_in, damaged_in, told_of}
 use Rattle.transcript_laws.specs.Claimed.{opening_of, stated_by, stated_asked, faults_at, AreStated}
 use Rattle.transcript_laws.specs.StatedCommits.{IsSoundOp, IsSoundKind, StatedCommitsAreSound}
 use Rattle.transcript_laws.specs.Standings.{Standing, first_standing, act_at, read_told, left_told, standing_by, standing_asked, standing_step}
@@ -218,10 +218,11 @@ module _ (history : History) where
   read_sound t view None one all = all
   read_sound t view (Some values) one all = with_read_sound t view _ (one _) all
 
-  pub left_sound : (t : Transaction) (done failed : List ℕ) → AllByRecursion (IsSoundOp history) t.ops → AreSoundOps (left_told t done failed)
-  left_sound t done [] all = tt
-  left_sound t [] (n ∷ failed) all = all
-  left_sound t (m ∷ done) (n ∷ failed) all = tt
+  pub left_sound : (t : Transaction) (done failed : List ℕ) (damaged : Bool) → AllByRecursion (IsSoundOp history) t.ops → AreSoundOps (left_told t done failed damaged)
+  left_sound t [] [] true all = all
+  left_sound t [] [] false all = tt
+  left_sound t [] (n ∷ failed) damaged all = all
+  left_sound t (m ∷ done) failed damaged all = tt
 
   module _ (legal : IsLegal finmap.empty (outline history)) where
     -- the session behind an act
@@ -238,7 +239,7 @@ module _ (history : History) where
     act_leaves s owner line (stages t view words) answer are sound so = record { bound = so.bound; staged = all_with (IsSoundOp history) t.ops (Write view words ∷ []) sound.0 (sound.1, tt) }
     act_leaves s owner line (writes view words) answer are sound so = so
     act_leaves s owner line (begins mode) answer are sound so = record { bound = so.bound; staged = tt }
-    act_leaves s owner line (commits t) answer are sound so = record { bound = so.bound; staged = left_sound t (done_in answer) (failed_in answer) sound }
+    act_leaves s owner line (commits t) answer are sound so = record { bound = so.bound; staged = left_sound t (done_in answer) (failed_in answer) (damaged_in answer) sound }
     act_leaves s owner line aborts answer are sound so = record { bound = so.bound; staged = tt }
     act_leaves s owner line (resizes array shape) answer are sound so = so
     act_leaves s owner line (resolves name view array) answer are sound so = so

@@ -47,7 +47,7 @@ use Rattle.serial_runs.proofs.Refused.{leaf_refusal}
 use Rattle.transcript_laws.specs.Transcript.{mount}
 use Rattle.transcript_laws.specs.Claimed.{at_number, opening_of, commits_at, faults_at, stated_by, stated_asked}
 use Rattle.transcript_laws.specs.Fitting.{printed_at}
-use Rattle.transcript_laws.specs.Numbers.{opened_in, done_in, failed_in}
+use Rattle.transcript_laws.specs.Numbers.{opened_in, done_in, failed_in, damaged_in}
 use Rattle.transcript_laws.specs.Standings.{Standing, names_opened, words_given, left_told, standing_by, standing_asked}
 use Rattle.transcript_laws.specs.Takings.{takings, opened_view, built_view}
 use Rattle.transcript_laws.specs.Outputs.{HasWords}
@@ -83,10 +83,11 @@ left_on on (known_leaf at k older within outcome more) = left_on on.1 more
 left_on on (new_leaf at meta older within new more) = left_on on.1 more
 left_on on (given_leaf at older within more) = left_on on.1 more
 
-left_bare : (t : Transaction) (done failed : List ℕ) → left_told (bare t) done failed ≡ bare_of (left_told t done failed)
-left_bare t done [] = refl
-left_bare t [] (n ∷ failed) = refl
-left_bare t (m ∷ done) (n ∷ failed) = refl
+left_bare : (t : Transaction) (done failed : List ℕ) (damaged : Bool) → left_told (bare t) done failed damaged ≡ bare_of (left_told t done failed damaged)
+left_bare t [] [] true = refl
+left_bare t [] [] false = refl
+left_bare t [] (n ∷ failed) damaged = refl
+left_bare t (m ∷ done) failed damaged = refl
 
 bare_kept : (b : Bool) (t : Transaction) (view : View) (words : List ℕ) (marks : Marks) → cond b (record (bare t) { ops = t.ops ++ Read view words ∷ []; marks = [] }) (bare t) ≡ bare (cond b (record t { ops = t.ops ++ Read view words ∷ []; marks = marks }) t)
 bare_kept true t view words marks = refl
@@ -136,24 +137,24 @@ module _ (owner : ℕ) (history : History) (legal : IsLegal finmap.empty history
   one : (n : ℕ) (t : Transaction) → commit_events fixed (take n now) owner t ≡ done owner t (kept_ops t) None ∷ []
   one n t = one_event fixed (take n now) owner t (commit_together mount (take n now) t.ops (on_then n))
 
-  -- what a commit's answer tells: its events, and the transaction that stands then
-  record TellsCommit (t : Transaction) (left : Option Transaction) (answer : Body) (os : List Numbered) : Type 0 where
+  -- what a commit's answer, printed with its line's number, tells: its events, and the transaction that stands then
+  record TellsCommit (line : ℕ) (t : Transaction) (left : Option Transaction) (answer : Body) (os : List Numbered) : Type 0 where
     events : commits_at owner t (serial.numbers_in answer) ++ faults_at owner (serial.failed_in answer) ≡ os
-    left_is : left_told t (serial.numbers_in answer) (serial.failed_in answer) ≡ left
+    left_is : left_told t (serial.numbers_in answer) (serial.failed_in answer) (damaged_in (answer_data (printed_at line answer))) ≡ left
 
-  commit_tells : (t : Transaction) (left : Option Transaction) (answer : Body) (os : List Numbered) → is_memory answer ≡ false → IsCommit fixed owner now t left answer os → TellsCommit t left answer os
-  commit_tells t left answer os goes_on (conflicts conflict) = record { events = refl; left_is = refl }
-  commit_tells t left answer os goes_on (is_shrunk free shrunk) = record { events = refl; left_is = refl }
-  commit_tells t left answer os goes_on (is_split free present split) = record { events = refl; left_is = refl }
-  commit_tells t left answer os goes_on (is_damaged may damage) = absurd (no_bytes _ damage.spoiled.damaged.bytes damage.spoiled.damaged.held)
-  commit_tells t left answer os goes_on (is_done n may undamaged) =
-      subst (λ es. TellsCommit t None (body.committed (own.numbers_of (numbered (n + 1) es))) (numbered (n + 1) es)) (sym (one n t)) (record { events = refl; left_is = refl })
-  commit_tells t left answer os goes_on (is_failed n count other part changed) =
+  commit_tells : (line : ℕ) (t : Transaction) (left : Option Transaction) (answer : Body) (os : List Numbered) → is_memory answer ≡ false → IsCommit fixed owner now t left answer os → TellsCommit line t left answer os
+  commit_tells line t left answer os goes_on (conflicts conflict) = record { events = refl; left_is = refl }
+  commit_tells line t left answer os goes_on (is_shrunk free shrunk) = record { events = refl; left_is = refl }
+  commit_tells line t left answer os goes_on (is_split free present split) = record { events = refl; left_is = refl }
+  commit_tells line t left answer os goes_on (is_damaged may damage) = absurd (no_bytes _ damage.spoiled.damaged.bytes damage.spoiled.damaged.held)
+  commit_tells line t left answer os goes_on (is_done n may undamaged) =
+      subst (λ es. TellsCommit line t None (body.committed (own.numbers_of (numbered (n + 1) es))) (numbered (n + 1) es)) (sym (one n t)) (record { events = refl; left_is = refl })
+  commit_tells line t left answer os goes_on (is_failed n count other part changed) =
       let none = part.together (commit_together mount (take n now) t.ops (on_then n)) in
       let place : other ≡ mount = same_mount (take n now) changed.put.0.array other (on_then n) changed.on_mount in
-      subst (λ k. TellsCommit t (left_by k t) (body.store_failed (n + k + 1) (own.numbers_of (own_part fixed owner now n t k)) None) (own_part fixed owner now n t k ++ record { number = n + k + 1; event = fault owner other } ∷ [])) (sym none)
+      subst (λ k. TellsCommit line t (left_by k t) (body.store_failed (n + k + 1) (own.numbers_of (own_part fixed owner now n t k)) None) (own_part fixed owner now n t k ++ record { number = n + k + 1; event = fault owner other } ∷ [])) (sym none)
       (record { events = ap (λ name. at_number (n + 0 + 1) (fault owner name) ∷ []) (sym place); left_is = refl })
-  commit_tells t left answer os goes_on (is_wanting n count part) = absurd (cc)
+  commit_tells line t left answer os goes_on (is_wanting n count part) = absurd (cc)
 
   module _ (s : SessionState) (line : ℕ) where
     -- what a row's answer states, and how the session stands behind it
@@ -245,7 +246,7 @@ module _ (owner : ℕ) (history : History) (legal : IsLegal finmap.empty history
     row_states act names left answer os checked fits lie counted words goes_on write_staged = record { stated = refl; stands = refl }
     row_states act names left answer os checked fits lie counted words goes_on (write_done {view = view} {words = given_words} {left = rest} {answer = inner} commit) =
         let b = body_numbers line answer counted in
-        let is = commit_tells (write_alone line view given_words) rest inner os (written_memory (length given_words) inner goes_on) commit in
+        let is = commit_tells line (write_alone line view given_words) rest inner os (written_memory (length given_words) inner goes_on) commit in
         record {
           stated = commit_stated (write_alone line view given_words) answer os (serial.numbers_in inner) (serial.failed_in inner) (b.done ∙ written_numbers (length given_words) inner) (b.failed ∙ written_failed (length given_words) inner) is.events;
           stands = ap (λ t. record (standing_of s) { transaction = bare_of t }) fits;
@@ -253,12 +254,13 @@ module _ (owner : ℕ) (history : History) (legal : IsLegal finmap.empty history
     row_states act names left answer os checked fits lie counted words goes_on begin_done = record { stated = refl; stands = refl }
     row_states act names left answer os checked fits lie counted words goes_on (commit_done {t = t} commit) =
         let b = body_numbers line answer counted in
-        let is = commit_tells t left answer os goes_on commit in
+        let is = commit_tells line t left answer os goes_on commit in
+        let damaged = damaged_in (answer_data (printed_at line answer)) in
         record {
           stated = commit_stated t answer os (serial.numbers_in answer) (serial.failed_in answer) b.done b.failed is.events;
           stands =
-              ap₂ (λ ns fs. record (standing_of s) { transaction = left_told (bare t) ns fs }) b.done b.failed
-              ∙ ap (λ u. record (standing_of s) { transaction = u }) (left_bare t (serial.numbers_in answer) (serial.failed_in answer) ∙ ap bare_of is.left_is);
+              ap₂ (λ ns fs. record (standing_of s) { transaction = left_told (bare t) ns fs damaged }) b.done b.failed
+              ∙ ap (λ u. record (standing_of s) { transaction = u }) (left_bare t (serial.numbers_in answer) (serial.failed_in answer) damaged ∙ ap bare_of is.left_is);
         }
     row_states act names left answer os checked fits lie counted words goes_on abort_done = record { stated = refl; stands = refl }
     row_states act names left answer os checked fits lie counted words goes_on (resize_done n may undamaged) = absurd checked

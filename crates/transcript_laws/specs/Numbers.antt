@@ -1,5 +1,5 @@
 -- The numbers of events that answers print.
-use Rattle.std.specs.Prelude.{◌<◌, ℕ, ℤ, pos, negsuc, ◌+◌, List, [], ◌∷◌, ◌++◌, length, filter, filter_map, ◌==◌, Option, Some, None, option_map, option_and_then, codes, Contains}
+use Rattle.std.specs.Prelude.{◌<◌, ℕ, ℤ, pos, negsuc, ◌+◌, List, [], ◌∷◌, ◌++◌, length, filter, filter_map, ◌==◌, Bool, Option, Some, None, is_some, option_map, option_and_then, codes, Contains}
 use Rattle.std.specs.List.{flat_map}
 use Rattle.serde_json.specs.Data.{Data}
 use Rattle.serde_json.specs.Find.{get}
@@ -43,6 +43,10 @@ done_in answer = numbers_at (codes "commit") (Some answer)
 abbrev pub failed_in : Data → List ℕ
 failed_in answer = single
     (option_and_then event_of (option_and_then (get (codes "event")) (get (codes "store_failed") answer)))
+
+-- whether an answer says that a chunk is damaged
+abbrev pub damaged_in : Data → Bool
+damaged_in answer = is_some (get (codes "damaged") answer)
 
 -- all numbers of events that an answer prints
 abbrev pub numbers_in : Data → List ℕ

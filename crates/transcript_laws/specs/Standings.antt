@@ -1,5 +1,5 @@
 -- How a session stands behind its lines: which names are bound, and which transaction stands.
-use Rattle.std.specs.Prelude.{ℕ, List, [], ◌∷◌, Option, Some, None, Ok, Err, codes}
+use Rattle.std.specs.Prelude.{ℕ, List, [], ◌∷◌, Bool, Option, Some, None, Ok, Err, codes, if◌then◌else◌}
 use Rattle.std.specs.List.{fold}
 use Rattle.serde_json.specs.Data.{Data}
 use Rattle.serde_json.specs.Find.{get}
@@ -15,7 +15,7 @@ use Rattle.history.specs.Steps.{with_write}
 use Rattle.history.specs.Viewing.{shape_of}
 use Rattle.script_lines.specs.NestedWords.{Given, nested_words}
 use Rattle.transcript_laws.specs.Transcript.{Told}
-use Rattle.transcript_laws.specs.Numbers.{opened_in, done_in, failed_in}
+use Rattle.transcript_laws.specs.Numbers.{opened_in, done_in, failed_in, damaged_in}
 use Rattle.transcript_laws.specs.Takings.{takings, opened_view}
 
 -- a session between two lines, as its lines and the answers to them show it; its transaction has no marks
@@ -46,15 +46,15 @@ read_told t view None = t
 read_told t view (Some values) =
     with_read t view (words_given (nested_words (look_of view).dtype (shape_of view) values)) []
 
--- the transaction behind its commit: it stands on where a store call failed and nothing was done
-abbrev pub left_told : Transaction → List ℕ → List ℕ → Option Transaction
-left_told t done_before [] = None
-left_told t [] (n ∷ failed) = Some t
-left_told t (m ∷ done_before) (n ∷ failed) = None
+-- the transaction behind its commit: it stands on where nothing was done, and a store call failed or a chunk is damaged
+abbrev pub left_told : Transaction → List ℕ → List ℕ → Bool → Option Transaction
+left_told t [] [] damaged = if damaged then Some t else None
+left_told t [] (n ∷ failed) damaged = Some t
+left_told t (m ∷ done_before) failed damaged = None
 
 -- the same after its answer
 abbrev pub left_by : Transaction → Data → Option Transaction
-left_by t answer = left_told t (done_in answer) (failed_in answer)
+left_by t answer = left_told t (done_in answer) (failed_in answer) (damaged_in answer)
 
 -- how a session stands behind an act with an answer
 abbrev pub standing_by : History → Standing → ℕ → Act → Data → Standing
