@@ -3,7 +3,7 @@ ghost use Rattle.std.specs.Prelude.{◌≡◌, ◌++◌, IfOk, OnOk, option_map,
 ghost use Rattle.serde_json.specs.View.{view};
 ghost use Rattle.serde_json.specs.Find.{get};
 ghost use Rattle.json_forms.specs.Lists.{list_items};
-ghost use Rattle.transcript_laws.specs.Numbers.{event_of, listed, single, opened_in, done_in, failed_in};
+ghost use Rattle.transcript_laws.specs.Numbers.{event_of, listed, single, opened_in, done_in, failed_in, damaged_in};
 ghost use Rattle.transcript_cut.specs.Numbers.{PrintsNumbers};
 
 use cells::List;
@@ -11,13 +11,14 @@ use json_forms::list_items;
 use serde_json::Value;
 use std::alloc::{AllocError, Global};
 
-/// The numbers of events that an answer prints: of new arrays, of commits, and of a failed store call. A number below 0 is told as 0, which
-/// is that of no event.
+/// The numbers of events that an answer prints: of new arrays, of commits, and of a failed store call; and whether it says that a chunk is
+/// damaged. A number below 0 is told as 0, which is that of no event.
 #[derive(Debug, Drop)]
 pub struct EventNumbers {
     pub opened: List<u64>,
     pub done: List<u64>,
     pub failed: Option<u64>,
+    pub damaged: bool,
 }
 
 // The numbers that an answer prints.
@@ -25,12 +26,14 @@ pub fn numbers_in(alloc: Global, answer: &Value) -> Result<EventNumbers, AllocEr
     ensures { IfOk result (PrintsNumbers (view answer.now)) }
 {
     let failed = failed_in(answer);
+    let damaged = damaged_in(answer);
     let opened = opened_in(alloc, answer)?;
     match done_in(alloc, answer) {
         Ok(done) => Ok(EventNumbers {
             opened,
             done,
             failed,
+            damaged,
         }),
         Err(e) => Err(e),
     }
@@ -43,6 +46,13 @@ fn failed_in(answer: &Value) -> Option<u64>
     let failure = answer.get("store_failed")?;
     let event = failure.get("event")?;
     event_of(event)
+}
+
+// Whether the answer says that a chunk is damaged.
+fn damaged_in(answer: &Value) -> bool
+    ensures { result ≡ damaged_in (view answer.now) }
+{
+    answer.get("damaged").is_some()
 }
 
 // The numbers of new arrays.
