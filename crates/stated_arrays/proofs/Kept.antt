@@ -1,14 +1,14 @@
 -- What is kept of each line, and whether a transaction of its session stands behind it.
 use Rattle.std.proofs.Common.{◌≡◌, ◌≢◌, ◌<◌, ℕ, zero, suc, List, [], ◌∷◌, ◌++◌, Bool, true, false, cond, Option, Some, None, length, set, get_or, get_or-set_same, get_or-set_other, refl, sym, ap, subst, ◌∙◌, arith, append_assoc, append-nil, eqb-true, eq-eqb}
 use Rattle.std.proofs.lemmas.Grind.{fold-append}
-use Rattle.std.specs.Prelude.{◌==◌, ◌&&◌, is_some, unwrap_or}
+use Rattle.std.specs.Prelude.{◌==◌, ◌&&◌, ◌||◌, is_some, unwrap_or}
 use Rattle.std.specs.List.{AllByRecursion}
 use Rattle.serde_json.specs.Data.{Data}
 use Rattle.history.specs.Lines.{Line, SpecLeaf}
 use Rattle.transcript_cut.specs.declared.SpecLeaf as spec
 use Rattle.transcript_cut.specs.declared.Tree.{Tree}
 use Rattle.transcript_cut.specs.Openings.{leaves_from, node_of}
-use Rattle.transcript_cut.specs.ToldNumbers.{single, done_in, told_of}
+use Rattle.transcript_cut.specs.ToldNumbers.{single, done_in, failed_in, told_of}
 use Rattle.transcript_cut.specs.Stances.{Stance, stance, stance_by, stance_begun, stance_left}
 use Rattle.transcript_cut.specs.Leaves.{IsSoundLeaf}
 use Rattle.transcript_cut.specs.Transcript.{mount, asked_by, Told}
@@ -52,13 +52,13 @@ never_zero n = by (suc n == 0) refl
     by true is = let same = eqb-true (suc n) 0 is in let no : ⊥ = omega (arith, same) in absurd no
     by false is = is
 
--- a commit leaves a transaction that stands where a call failed and nothing was done
-commit_stands : (s : Option Stance) (done : List ℕ) (failed : Option ℕ) → (is_some s && ((length done == 0) && is_some failed)) ≡ is_some (stance_left done (single failed) s)
-commit_stands None done failed = refl
-commit_stands (Some s) [] None = refl
-commit_stands (Some s) [] (Some n) = refl
-commit_stands (Some s) (m ∷ done) None = ap (λ b. b && false) (never_zero (length done))
-commit_stands (Some s) (m ∷ done) (Some n) = ap (λ b. b && true) (never_zero (length done))
+-- a commit leaves a transaction that stands where nothing was done, and a call failed or a chunk is damaged
+commit_stands : (s : Option Stance) (done : List ℕ) (failed : Option ℕ) (damaged : Bool) → (is_some s && ((length done == 0) && (is_some failed || damaged))) ≡ is_some (stance_left done (single failed) damaged s)
+commit_stands None done failed damaged = refl
+commit_stands (Some s) [] None true = refl
+commit_stands (Some s) [] None false = refl
+commit_stands (Some s) [] (Some n) damaged = refl
+commit_stands (Some s) (m ∷ done) failed damaged = ap (λ b. b && (is_some failed || damaged)) (never_zero (length done))
 
 begin_stands : (number : ℕ) (mode : _) (s : Option Stance) → true ≡ is_some (stance_begun number mode s)
 begin_stands number mode None = refl
@@ -69,7 +69,8 @@ pub act_stands : (line : Line) (act : Act) (s : Option Stance) (number : ℕ) (a
 act_stands line (Open leaves) s number answer numbers is prints = sym (ap (λ l. is_some (stance_by number answer l s)) is.3)
 act_stands line Begin s number answer numbers is prints = begin_stands number is.0 s ∙ sym (ap (λ l. is_some (stance_by number answer l s)) is.1)
 act_stands line Commit s number answer numbers is prints =
-    commit_stands s numbers.done numbers.failed ∙ ap (λ d. is_some (stance_left d (single numbers.failed) s)) (sym prints.done) ∙ ap (λ f. is_some (stance_left (done_in answer) f s)) (sym prints.failed)
+    commit_stands s numbers.done numbers.failed numbers.damaged ∙ ap (λ d. is_some (stance_left d (single numbers.failed) numbers.damaged s)) (sym prints.done)
+    ∙ ap (λ f. is_some (stance_left (done_in answer) f numbers.damaged s)) (sym prints.failed) ∙ ap (λ b. is_some (stance_left (done_in answer) (failed_in answer) b s)) (sym prints.damaged)
     ∙ sym (ap (λ l. is_some (stance_by number answer l s)) is)
 act_stands line Abort s number answer numbers is prints = sym (ap (λ l. is_some (stance_by number answer l s)) is)
 act_stands line Other s number answer numbers is prints = sym (ap is_some (is.keeps number answer s))

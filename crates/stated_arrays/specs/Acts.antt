@@ -1,5 +1,5 @@
 -- What lines ask for, as far as arrays and transactions go.
-use Rattle.std.specs.Prelude.{◌≡◌, ℕ, List, [], ◌∷◌, Bool, true, false, ◌&&◌, Option, is_some, length, ◌==◌, if◌then◌else◌}
+use Rattle.std.specs.Prelude.{◌≡◌, ℕ, List, [], ◌∷◌, Bool, true, false, ◌&&◌, ◌||◌, Option, is_some, length, ◌==◌, if◌then◌else◌}
 use Rattle.std.specs.List.{AllByRecursion}
 use Rattle.serde_json.specs.Data.{Data}
 use Rattle.history.specs.Answers.{Text}
@@ -34,9 +34,9 @@ abbrev pub IsSoundAct : Act → Type 0
 IsSoundAct (Open leaves) = AllByRecursion (IsSoundLeaf (mount ∷ [])) leaves
 IsSoundAct _ = Unit {0}
 
--- a store call failed, and nothing was done
+-- nothing was done, and a store call failed or a chunk is damaged
 abbrev pub fails : EventNumbers → Bool
-fails numbers = length numbers.done == 0 && is_some numbers.failed
+fails numbers = length numbers.done == 0 && (is_some numbers.failed || numbers.damaged)
 
 -- whether a transaction stands behind an act, where one stands before it or not
 abbrev pub stands_by : Act → EventNumbers → Bool → Bool

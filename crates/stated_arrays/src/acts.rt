@@ -100,7 +100,7 @@ fn opening(plan: OpenPlan) -> Act
     Act::Open { leaves }
 }
 
-/// Whether a transaction stands behind a line whose answer prints these numbers, where one stands before it or not.
+/// Whether a transaction stands behind a line whose answer prints this, where one stands before it or not.
 pub fn stands_behind(stands: bool, act: &Act, numbers: &EventNumbers) -> bool
     ensures { result ≡ stands_by act.now numbers.now stands }
 {
@@ -112,9 +112,9 @@ pub fn stands_behind(stands: bool, act: &Act, numbers: &EventNumbers) -> bool
     }
 }
 
-// Whether a store call failed, and nothing was done.
+// Whether nothing was done, and a store call failed or a chunk is damaged.
 fn fails(numbers: &EventNumbers) -> bool
     ensures { result ≡ fails numbers.now }
 {
-    numbers.done.items().is_empty() && numbers.failed.is_some()
+    numbers.done.items().is_empty() && (numbers.failed.is_some() || numbers.damaged)
 }
