@@ -23,7 +23,7 @@ use Rattle.stack_driver.specs.Conditions.{IsView}
 use Rattle.stack_driver.specs.declared.view.View.{View}
 use Rattle.stated_arrays.specs.AnswerNumbers.{PrintsNumbers}
 use Rattle.stated_arrays.specs.Standings.{Standing, first_standing, names_opened, read_told, left_told, standing_asked}
-use Rattle.stated_arrays.specs.ToldNumbers.{single, done_in}
+use Rattle.stated_arrays.specs.ToldNumbers.{single, done_in, failed_in}
 use Rattle.stated_arrays.specs.declared.EventNumbers.{EventNumbers}
 use Rattle.stated_acts.specs.Acts.{IsActBy}
 use Rattle.stated_acts.specs.Standings.{transaction_in, standing_of, IsSoundStanding, written_in, left_in, IsOpenedBy}
@@ -72,14 +72,15 @@ module _ (s later : Standing) (line : ℕ) (answer : Data) where
   steps_begins act opened mode is names transaction =
       subst (λ a. StepsTo a opened) (sym is) (λ h asked by built. subst (StandsBehind h) (sym by.1) (λ i. record { names = names i; transaction = transaction i }))
 
-  pub steps_commits : (act : Act) (opened : Option View) (numbers : EventNumbers) → act ≡ Commits → later.names ≡ s.names → later.transaction ≡ left_in s.transaction numbers.done (single numbers.failed) → PrintsNumbers answer numbers → StepsTo act opened
+  pub steps_commits : (act : Act) (opened : Option View) (numbers : EventNumbers) → act ≡ Commits → later.names ≡ s.names → later.transaction ≡ left_in s.transaction numbers.done (single numbers.failed) numbers.damaged → PrintsNumbers answer numbers → StepsTo act opened
   steps_commits act opened numbers is names transaction prints =
       subst (λ a. StepsTo a opened) (sym is)
       (λ h asked by built. subst (StandsBehind h) (sym by.2)
       (λ i. record {
         names = names i;
-        transaction = (transaction ∙ ap (λ t. left_in t numbers.done (single numbers.failed)) by.1
-            ∙ ap (λ d. left_told by.0 d (single numbers.failed)) (sym prints.done) ∙ ap (left_told by.0 (done_in answer)) (sym prints.failed)) i;
+        transaction = (transaction ∙ ap (λ t. left_in t numbers.done (single numbers.failed) numbers.damaged) by.1
+            ∙ ap (λ d. left_told by.0 d (single numbers.failed) numbers.damaged) (sym prints.done) ∙ ap (λ f. left_told by.0 (done_in answer) f numbers.damaged) (sym prints.failed)
+            ∙ ap (left_told by.0 (done_in answer) (failed_in answer)) (sym prints.damaged)) i;
       }))
 
   pub steps_aborts : (act : Act) (opened : Option View) → act ≡ Aborts → later.names ≡ s.names → later.transaction ≡ None → StepsTo act opened
@@ -151,14 +152,15 @@ written_kept t later view words is same = subst IsKept (sym same) (by t is)
 pub begins_kept : (later : Option Transaction) (line : ℕ) (mode : Mode) → later ≡ Some (new_transaction line mode) → IsKept later
 begins_kept later line mode same = subst IsKept (sym same) (kept_one _ (begun_kept line mode))
 
-pub left_kept : (t later : Option Transaction) (done failed : List ℕ) → IsKept t → later ≡ left_in t done failed → IsKept later
-left_kept t later done failed is same = subst IsKept (sym same) (by t done failed is)
+pub left_kept : (t later : Option Transaction) (done failed : List ℕ) (damaged : Bool) → IsKept t → later ≡ left_in t done failed damaged → IsKept later
+left_kept t later done failed damaged is same = subst IsKept (sym same) (by t done failed damaged is)
   where
-    by : (t : Option Transaction) (done failed : List ℕ) → IsKept t → IsKept (left_in t done failed)
-    by None done failed is = kept_none
-    by (Some u) done [] is = kept_none
-    by (Some u) [] (n ∷ failed) is = is
-    by (Some u) (m ∷ done) (n ∷ failed) is = kept_none
+    by : (t : Option Transaction) (done failed : List ℕ) (damaged : Bool) → IsKept t → IsKept (left_in t done failed damaged)
+    by None done failed damaged is = kept_none
+    by (Some u) [] [] true is = is
+    by (Some u) [] [] false is = kept_none
+    by (Some u) [] (n ∷ failed) damaged is = is
+    by (Some u) (m ∷ done) failed damaged is = kept_none
 
 pub ended_kept : (later : Option Transaction) → later ≡ None → IsKept later
 ended_kept later same = subst IsKept (sym same) kept_none

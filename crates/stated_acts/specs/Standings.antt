@@ -1,5 +1,5 @@
 -- How a session stands, as it is kept.
-use Rattle.std.specs.Prelude.{◌≡◌, ℕ, List, [], Option, Some, None}
+use Rattle.std.specs.Prelude.{◌≡◌, ℕ, List, [], Bool, Option, Some, None}
 use Rattle.serde_json.specs.Data.{Data}
 use Rattle.indexmap.specs.IndexMap.{get_by_text}
 use Rattle.history.specs.Commit.{Transaction, kept_ops}
@@ -40,10 +40,10 @@ abbrev pub written_in : Option Transaction → View → List ℕ → Option Tran
 written_in None view words = None
 written_in (Some t) view words = Some (with_write t view words)
 
--- the transaction behind a commit of which these were done and these failed, if one stands
-abbrev pub left_in : Option Transaction → List ℕ → List ℕ → Option Transaction
-left_in None done failed = None
-left_in (Some t) done failed = left_told t done failed
+-- the transaction behind a commit, if one stands: these were done, these failed, and a chunk is damaged or not
+abbrev pub left_in : Option Transaction → List ℕ → List ℕ → Bool → Option Transaction
+left_in None done failed damaged = None
+left_in (Some t) done failed damaged = left_told t done failed damaged
 
 -- the transaction that a commit ended, by what stood before it and what stands behind it
 abbrev pub ended_by : Option Transaction → Option Transaction → Option Transaction

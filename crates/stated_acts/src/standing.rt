@@ -281,16 +281,17 @@ impl Standing {
         });
     }
 
-    // Ends the transaction behind its commit, and hands it out; it stands on where a store call failed and nothing was
-    // done.
+    // Ends the transaction behind its commit, and hands it out; it stands on where nothing was done, and a store call
+    // failed or a chunk is damaged.
     fn end(&mut self, numbers: &EventNumbers) -> Option<Ongoing>
         ensures transaction { transaction_in self.new.transaction
-            ≡ left_in (transaction_in self.old.transaction) numbers.now.done (single numbers.now.failed) }
+            ≡ left_in (transaction_in self.old.transaction) numbers.now.done (single numbers.now.failed)
+            numbers.now.damaged }
         ensures ended { transaction_in result
             ≡ ended_by (transaction_in self.old.transaction) (transaction_in self.new.transaction) }
         ensures names { self.new.names ≡ self.old.names }
     {
-        if numbers.done.items().is_empty() && numbers.failed.is_some() {
+        if numbers.done.items().is_empty() && (numbers.failed.is_some() || numbers.damaged) {
             None
         } else {
             self.transaction.take()

@@ -1,5 +1,5 @@
 -- What a line's commit is, by the session before it and behind it.
-use Rattle.std.proofs.Common.{◌≡◌, ◌∙◌, ◌<◌, ℕ, List, [], ◌∷◌, length, Option, Some, None, Ok, refl, sym, ap, subst, arith}
+use Rattle.std.proofs.Common.{◌≡◌, ◌∙◌, ◌<◌, ℕ, List, [], ◌∷◌, length, Bool, Option, Some, None, Ok, refl, sym, ap, subst, arith}
 use Rattle.serde_json.specs.Data.{Data}
 use Rattle.history.specs.declared.event.Kind.{Kind}
 use Rattle.history.specs.Acts.{Asked, write_act}
@@ -9,7 +9,7 @@ use Rattle.history.specs.Steps.{write_alone}
 use Rattle.history.proofs.Laws.{none_is_none, some_inj}
 use Rattle.stack_driver.specs.declared.view.View.{View}
 use Rattle.stated_acts.specs.ToldStandings.{Standing, left_told, standing_asked}
-use Rattle.stated_acts.specs.ToldNumbers.{done_in, failed_in}
+use Rattle.stated_acts.specs.ToldNumbers.{done_in, failed_in, damaged_in}
 use Rattle.stated_acts.specs.declared.Act.{Act}
 use Rattle.stated_acts.specs.declared.Act.TheVariants.{Refused, Opens, Binds, Reads, Writes, Begins, Commits, Aborts}
 use Rattle.stated_acts.specs.declared.Ongoing.{Ongoing}
@@ -48,10 +48,9 @@ event_ended line asked act before t e ended is event =
     let same : by.0 ≡ transaction_of t = some_inj by.0 (transaction_of t) (sym by.1 ∙ ended.stood) in
     ap Some (event ∙ ap commit_of (sym same)) ∙ ap (commit_by line) (sym by.2)
 
-left_none : (t : Transaction) (ds ns : List ℕ) → 0 < length ds → left_told t ds ns ≡ None
-left_none t [] ns some = absurd (omega (arith, some))
-left_none t (d ∷ ds) [] some = refl
-left_none t (d ∷ ds) (n ∷ ns) some = refl
+left_none : (t : Transaction) (ds ns : List ℕ) (damaged : Bool) → 0 < length ds → left_told t ds ns damaged ≡ None
+left_none t [] ns damaged some = absurd (omega (arith, some))
+left_none t (d ∷ ds) ns damaged some = refl
 
 -- where a number of a commit is printed and none was ended, the act is none of a commit
 pub no_event : (history : History) (s next : Standing) (line : ℕ) (asked : Asked) (act : Act) (answer : Data) → IsNoWrite act → IsActBy s.transaction asked act → next ≡ standing_asked history s line asked answer → 0 < length (done_in answer) → IsEnded act s.transaction next.transaction None
@@ -63,7 +62,7 @@ no_event history s next line asked (Reads view) answer other is stands some ende
 no_event history s next line asked (Writes view words) answer other is stands some ended = absurd other
 no_event history s next line asked (Begins mode) answer other is stands some ended = sym (ap (commit_by line) is.1)
 no_event history s next line asked Commits answer other is stands some ended =
-    let behind : next.transaction ≡ None = ap (λ (n : Standing). n.transaction) (stands ∙ ap (λ a. standing_asked history s line a answer) is.2) ∙ left_none is.0 (done_in answer) (failed_in answer) some in
+    let behind : next.transaction ≡ None = ap (λ (n : Standing). n.transaction) (stands ∙ ap (λ a. standing_asked history s line a answer) is.2) ∙ left_none is.0 (done_in answer) (failed_in answer) (damaged_in answer) some in
     let stood : None ≡ Some is.0 = ended ∙ ap (ended_by s.transaction) behind ∙ is.1 in
     absurd (none_is_none is.0 stood)
 no_event history s next line asked Aborts answer other is stands some ended = sym (ap (commit_by line) is)

@@ -127,7 +127,7 @@ pub returns-in-Commits-clause-sound : goal.returns-in-Commits-clause-sound
 returns-in-Commits-clause-sound c =
     sound_of c.end.new.self
     (views_same (get_by_text c.args.self.now.names) (get_by_text c.end.new.self.names) c.requires.stands.views (ap get_by_text c.end.ensures.names))
-    (left_kept (transaction_in c.args.self.now.transaction) (transaction_in c.end.new.self.transaction) c.args.numbers.now.done (single c.args.numbers.now.failed) (kept_of c.args.self.now c.requires.stands) c.end.ensures.transaction)
+    (left_kept (transaction_in c.args.self.now.transaction) (transaction_in c.end.new.self.transaction) c.args.numbers.now.done (single c.args.numbers.now.failed) c.args.numbers.now.damaged (kept_of c.args.self.now c.requires.stands) c.end.ensures.transaction)
 
 pub returns-in-Aborts-clause-stands : goal.returns-in-Aborts-clause-stands
 returns-in-Aborts-clause-stands c =
