@@ -126,7 +126,7 @@ module _ (h : History) (old new : Stand) (line : ToldLine) (place : ℕ) (upto :
     behind_other asked (Begins mode) is other = absurd other
     behind_other asked Commits is other =
         subst Behind (sym is.2)
-        (record { own = λ number u here. own_same u (is.1 ∙ ap Some (left_same is.0 u _ _ here)); begun = begun; upto = upto; walk = walk })
+        (record { own = λ number u here. own_same u (is.1 ∙ ap Some (left_same is.0 u _ _ _ here)); begun = begun; upto = upto; walk = walk })
     behind_other asked Aborts is other = subst Behind (sym is) (record { own = λ number u here. absurd (none_is_none u here); begun = begun; upto = upto; walk = walk })
 
 -- what an act may read or write

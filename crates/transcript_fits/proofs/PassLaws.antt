@@ -1,5 +1,5 @@
 -- A session behind one of its lines.
-use Rattle.std.proofs.Common.{◌≡◌, ◌∙◌, ◌<◌, ◌+◌, ℕ, List, [], ◌∷◌, ◌++◌, true, false, cond, Option, Some, take, length, sym, ap, subst, add-one, eq-eqb}
+use Rattle.std.proofs.Common.{◌≡◌, ◌∙◌, ◌<◌, ◌+◌, ℕ, List, [], ◌∷◌, ◌++◌, Bool, true, false, cond, Option, Some, take, length, sym, ap, subst, add-one, eq-eqb}
 use Rattle.std.specs.Prelude.{◌==◌}
 use Rattle.std.specs.List.{slice_get}
 use Rattle.std.proofs.lemmas.List.Elements.{filter-append}
@@ -48,10 +48,11 @@ module _ (j : Judge) (is : IsJudge j) (place : ℕ) (low : place < length j.sour
       ∙ ap (λ s. standing_step o s t) (sym before) ∙ step_same o (history_of j) whole (standing_of old.standing) t
 
 -- a transaction that is left behind a commit is the one that stood
-pub left_same : (t u : Transaction) (done failed : List ℕ) → left_told t done failed ≡ Some u → t ≡ u
-left_same t u done [] is = absurd (none_is_none u is)
-left_same t u [] (n ∷ failed) is = some_inj t u is
-left_same t u (m ∷ done) (n ∷ failed) is = absurd (none_is_none u is)
+pub left_same : (t u : Transaction) (done failed : List ℕ) (damaged : Bool) → left_told t done failed damaged ≡ Some u → t ≡ u
+left_same t u [] [] true is = some_inj t u is
+left_same t u [] [] false is = absurd (none_is_none u is)
+left_same t u [] (n ∷ failed) damaged is = some_inj t u is
+left_same t u (m ∷ done) failed damaged is = absurd (none_is_none u is)
 
 -- the operations of a transaction behind a read
 pub with_read_ops : (t u : Transaction) (view : View) (words : List ℕ) → t.mode.repeatable_read ≡ true → with_read (Some t) view words [] ≡ Some u → u.ops ≡ t.ops ++ Read view words ∷ []

@@ -37,7 +37,7 @@ use Rattle.open_fits.specs.Answers.{answer_data}
 use Rattle.open_fits.specs.Fits.{IsAnsweredBy}
 use Rattle.open_fits.specs.Fitting as fitting
 use Rattle.open_fits.specs.Fitting.{IsActAnswer, printed_at}
-use Rattle.open_fits.specs.ToldNumbers.{opened_in, done_in, failed_in}
+use Rattle.open_fits.specs.ToldNumbers.{opened_in, done_in, failed_in, damaged_in}
 use Rattle.stated_history.specs.Outline.{outline}
 use Rattle.stated_history.specs.StatedEvents.{IsEvent}
 use Rattle.stated_history.specs.Takings.{Taking, taking, takings, before, opened_info, ref_of_leaf, all_refs, built_view, opened_view, was_opened}
@@ -262,7 +262,7 @@ module _ (h : History) (legal : IsLegal finmap.empty h) (still : AreUnresized h)
       act_steps s (stages t view words) sound so well = record { bound = so.bound; staged = all_with (IsSoundOp (take w.upto h)) t.ops (Write view words ∷ []) sound.0 (sound.1, tt) }
       act_steps s (writes view words) sound so well = so
       act_steps s (begins mode) sound so well = record { bound = so.bound; staged = tt }
-      act_steps s (commits t) sound so well = record { bound = so.bound; staged = left_sound (take w.upto h) t (done_in d) (failed_in d) sound }
+      act_steps s (commits t) sound so well = record { bound = so.bound; staged = left_sound (take w.upto h) t (done_in d) (failed_in d) (damaged_in d) sound }
       act_steps s aborts sound so well = record { bound = so.bound; staged = tt }
       act_steps s (resizes array shape) sound so well = so
       act_steps s (resolves name view array) sound so well = so
