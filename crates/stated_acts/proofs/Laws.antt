@@ -2,6 +2,8 @@
 
 -- views stay views, and operations those of an event, behind each act
 pub use Rattle.stated_acts.proofs.StandingLaws.{sound_of, kept_of}
+-- what is copied of an act is the act
+pub use Rattle.stated_acts.proofs.CopyLaws.{kept_is}
 -- the number that each leaf of an open line takes is that of its array, where each number that the line prints is that of an opening
 pub use Rattle.stated_acts.proofs.TakenLaws.{outlined_given}
 -- laws of crates below, given on to those above

@@ -1,4 +1,5 @@
 mod ActLaws
+mod CopyLaws
 mod CellLaws
 mod StandingLaws
 mod OpenedLaws

@@ -61,3 +61,9 @@ IsSoundAct (Writes view words) = HasCells view (length words)
 IsSoundAct (Begins mode) = Unit {0}
 IsSoundAct Commits = Unit {0}
 IsSoundAct Aborts = Unit {0}
+
+-- an act as it is copied: there is no copy of what an open line asks for, nor of a refusal
+abbrev pub kept_act : Act → Option Act
+kept_act (Refused body) = None
+kept_act (Opens name plan) = None
+kept_act act = Some act

@@ -8,6 +8,7 @@
 
 mod acts;
 mod cell_faults;
+mod copies;
 mod opened_views;
 mod printing;
 mod standing;

@@ -1,5 +1,6 @@
 pub mod Commits
 pub mod Walks
+pub mod Kept
 pub mod StatedHistories
 -- names of crates below, given on to those above
 pub use Rattle.stated_acts.specs.Acts

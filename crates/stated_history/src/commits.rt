@@ -1,5 +1,5 @@
 // The commits that the lines of a transcript state.
-ghost use Rattle.std.specs.Prelude.{◌≡◌, ◌<◌, ◌∷◌, [], false, List as ListOf, Some, None, Ok, Err, IfOk, OnOk, length};
+ghost use Rattle.std.specs.Prelude.{◌≡◌, ◌<◌, ◌∷◌, [], false, Some, None, Ok, Err, IfOk, OnOk, length};
 ghost use Rattle.indexmap.specs.IndexMap.{get_by_text};
 ghost use Rattle.json_forms.specs.Bytes.{data_of};
 ghost use Rattle.stated_acts.specs.Bound.{AreViews};
@@ -8,13 +8,15 @@ ghost use Rattle.stack_driver.specs.Conditions.{IsView};
 ghost use Rattle.stack_driver.specs.declared.view.View.{View as ViewOf};
 ghost use Rattle.stated_acts.specs.Acts.{IsActAt, IsSoundAct};
 ghost use Rattle.stated_acts.specs.Standings.{standing_of, IsSoundStanding};
-ghost use Rattle.stated_history.specs.Walks.{IsSource, AreToldIn, outlined, IsReached, IsNotPast, IsInSession};
-ghost use Rattle.stated_history.specs.Walks.{IsAnswerAt, IsFacingLine, IsGoneOnAt, TellsAt, TellsCommits};
+ghost use Rattle.stated_history.specs.Kept.{HasKept, TellsLines};
+ghost use Rattle.stated_history.specs.Walks.{IsSource, outlined, IsReached, IsNotPast, IsInSession};
+ghost use Rattle.stated_history.specs.Walks.{IsAnswerAt, IsFacingLine, IsGoneOnAt, TellsAt};
 ghost use Rattle.stated_history.specs.Walks.{IsKeptOutline, IsTakenBy, IsViewTaken, line_said, takings_at};
 ghost use Rattle.stated_acts.specs.Spans.{line_at, IsPlaced, IsSpanOf};
-ghost use Rattle.stated_acts.specs.Transcript.{mount, Told, asked_by};
+ghost use Rattle.stated_acts.specs.Transcript.{mount, asked_by};
 ghost use Rattle.stated_acts.specs.Unchecked.{is_unchecked};
 
+use crate::kept::{StatedLines, keep};
 use crate::putting::Commit;
 use crate::walk::Walk;
 use cells::{List, Name};
@@ -35,28 +37,28 @@ pub struct Source<'s> {
     pub mounts: &'s [Name],
 }
 
-/// The commit of each line that prints a number of one; `None` where a line prints other numbers than those of the events
-/// that it states.
+/// The commit of each line that prints a number of one, and what is kept of what each does; `None` where a line prints other
+/// numbers than those of the events that it states.
 ///
 /// # Errors
 /// An allocation failed.
-pub fn state_commits(
-    alloc: Global,
-    source: &Source,
-) -> Result<Option<List<Option<Commit>>>, AllocError>
+pub fn state_commits(alloc: Global, source: &Source) -> Result<Option<StatedLines>, AllocError>
     requires { IsSource source.now }
-    ensures { IfOk result (λ commits. (told : ListOf Told)
-        → AreToldIn source.now told → TellsCommits (outlined source.now) told commits) }
+    ensures { IfOk result (TellsLines source.now) }
 {
     let mut commits = Vec::with_capacity(alloc, source.said.len())?;
+    let mut acts = Vec::with_capacity(alloc, source.said.len())?;
     let mut walk = Walk::first(alloc);
     for place in 0..source.said.len() {
-        match state_line(alloc, &mut walk, source, place)? {
+        match state_line(alloc, &mut walk, source, place, &mut acts)? {
             Some(commit) => commits.push(commit)?,
             None => return Ok(None),
         }
     }
-    Ok(Some(List::wrap(commits)))
+    Ok(Some(StatedLines {
+        commits: List::wrap(commits),
+        acts: List::wrap(acts),
+    }))
 }
 
 // The same of the line at a place, behind those before it.
@@ -65,6 +67,7 @@ fn state_line(
     walk: &mut Walk,
     source: &Source,
     place: usize,
+    acts: &mut Vec<Option<Act>>,
 ) -> Result<Option<Option<Commit>>, AllocError>
     requires source { IsSource source.now }
     requires place { place < length source.now.said.now }
@@ -72,6 +75,7 @@ fn state_line(
     requires reached { IsReached source.now place walk.old }
     requires order { IsNotPast source.now place walk.old }
     ensures next { IfOk result (TellsAt source.now place walk.new) }
+    ensures acts { OnOk result (HasKept source.now place acts.old.items acts.new.items) }
     ensures session { OnOk result (IsInSession source.now place walk.new) }
     ensures sound { OnOk result (IsSoundStanding walk.new.standing) }
 {
@@ -79,9 +83,18 @@ fn state_line(
     walk.turn_to(alloc, said.line.session);
     let answer = answer_said(alloc, source, said)?;
     match act_said(alloc, &walk.standing, source, said) {
-        Ok(act) => state_act(alloc, walk, source, place, act, &answer),
+        Ok(act) => match keep(alloc, acts, &act) {
+            Ok(()) => state_act(alloc, walk, source, place, act, &answer),
+            Err(e) => lose(act, e),
+        },
         Err(e) => Err(e),
     }
+}
+
+fn lose(_: Act, e: AllocError) -> Result<Option<Option<Commit>>, AllocError>
+    ensures { result ≡ Err e }
+{
+    Err(e)
 }
 
 // The same by what the line does and its answer, where the walk stands before it.

@@ -6,10 +6,12 @@
 #![tactic(auto)]
 
 mod commits;
+mod kept;
 mod putting;
 mod walk;
 
 pub use commits::{Source, act_said, answer_said, pass_line, state_commits};
+pub use kept::StatedLines;
 pub use putting::{Commit, commits_complete_the_history, put_commits};
 pub use stated_acts::{
     Act, Answer, AskedLine, Body, Cutting, Ongoing, OpenPlan, Openings, Said, cut, first_unchecked,

@@ -11,8 +11,10 @@ use Rattle.transcript_fits.specs.Spans.{line_at}
 use Rattle.transcript_fits.specs.declared.AskedLine.{AskedLine}
 use Rattle.transcript_fits.specs.declared.Said.{Said}
 use Rattle.transcript_fits.specs.StatedHistories.{ArePutIn, AreStatedWithCommits}
+use Rattle.transcript_fits.specs.Kept.{AreKeptActs}
 use Rattle.transcript_fits.specs.Walks.{IsSource, AreToldIn, outlined, TellsCommits}
 use Rattle.transcript_fits.specs.declared.Commit.{Commit}
+use Rattle.transcript_fits.specs.declared.Act.{Act}
 use Rattle.transcript_fits.specs.declared.Source.{Source}
 use Rattle.transcript_fits.specs.Claimed.{IsClaimed}
 use Rattle.transcript_fits.specs.Fitting.{IsAnswered}
@@ -79,9 +81,10 @@ module _ (s : Source) (is : IsSource s) where
       claimed = record { sessions = it.stated.sessions; count = it.stated.count; legal = legal }
 
       -- what is judged
-      pub judged : (store : VersionStore) → length s.scripts.now < 2 ^ 32 → IsStoreOf history store → IsJudgedSource s history store
-      judged store few kept = record {
+      pub judged : (acts : List (Option Act)) (store : VersionStore) → length s.scripts.now < 2 ^ 32 → AreKeptActs s acts → IsStoreOf history store → IsJudgedSource s acts history store
+      judged acts store few acts_kept kept = record {
         source = is;
+        acts_kept = acts_kept;
         few = few;
         told = told;
         told_in = told_in;

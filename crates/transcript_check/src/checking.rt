@@ -7,6 +7,7 @@ ghost use Rattle.transcript_fits.specs.Cuttings.{IsWholeCut};
 ghost use Rattle.transcript_fits.specs.StatedOpenings.{IsNumberedCut, AreStatedBy};
 ghost use Rattle.transcript_fits.specs.Unchecked.{AreChecked};
 ghost use Rattle.transcript_fits.specs.StatedHistories.{ArePutIn};
+ghost use Rattle.transcript_fits.specs.Kept.{AreKeptActs, TellsLines};
 ghost use Rattle.transcript_fits.specs.Walks.{IsSource, AreToldIn, outlined, TellsCommits};
 ghost use Rattle.transcript_check.specs.Parts.{AreAllNumbered, AreStatedIn, IsNumberedSource};
 ghost use Rattle.transcript_check.specs.declared.verdict.Verdict.TheVariants.{Yes, No};
@@ -20,12 +21,13 @@ use crate::verdict::Verdict;
 use cells::{List, Name, copy_name};
 use std::alloc::{AllocError, Global};
 use transcript_fits::{
-    Commit, Cutting, Event, Openings, Said, Source, VersionStore, are_answered,
+    Act, Commit, Cutting, Event, Openings, Said, Source, StatedLines, VersionStore, are_answered,
     commits_complete_the_history, cut, first_unchecked, number_events, put_commits, state_commits,
     state_openings, sweep_into,
 };
 
-/// Whether a transcript fits scripts, one of each session in order, by which part it doesn't, or because of which line it isn't checked.
+/// Whether a transcript fits scripts, one of each session in order, by which part it doesn't, or because of which line it isn't checked. There
+/// are fewer than 2^32 scripts, since a session's number has 32 bits.
 ///
 /// # Errors
 /// An allocation failed.
@@ -137,26 +139,43 @@ fn check_source(alloc: Global, source: &Source, spots: &[u64]) -> Result<Verdict
 {
     commits_complete_the_history();
     match state_commits(alloc, source) {
-        Ok(Some(commits)) => check_commits(alloc, source, spots, commits.items()),
+        Ok(Some(lines)) => check_lines(alloc, source, spots, lines),
         Ok(None) => Ok(Verdict::No { part: 3 }),
         Err(e) => Err(e),
     }
 }
 
-// The same, where these are the commits of its lines.
+// The same, where its lines state this.
+fn check_lines(
+    alloc: Global,
+    source: &Source,
+    spots: &[u64],
+    lines: StatedLines,
+) -> Result<Verdict, AllocError>
+    requires source { IsNumberedSource source.now spots.now }
+    requires lines { TellsLines source.now (Some lines) }
+    ensures { IfOk result (λ v. IsVerdict source.now.scripts.now source.now.transcript.now (verdict_of v)) }
+{
+    let commits = lines.commits.items();
+    check_commits(alloc, source, spots, commits, lines.acts.items())
+}
+
+// The same, where these are the commits of its lines, and this is kept of what they do.
 fn check_commits(
     alloc: Global,
     source: &Source,
     spots: &[u64],
     commits: &[Option<Commit>],
+    acts: &[Option<Act>],
 ) -> Result<Verdict, AllocError>
     requires source { IsNumberedSource source.now spots.now }
     requires commits { (told : ListOf Told) → AreToldIn source.now told
         → TellsCommits (outlined source.now) told (Some commits.now) }
+    requires acts { AreKeptActs source.now acts.now }
     ensures { IfOk result (λ v. IsVerdict source.now.scripts.now source.now.transcript.now (verdict_of v)) }
 {
     match stated_events(alloc, source, spots, commits) {
-        Ok(events) => check_events(alloc, source, events.as_slice()),
+        Ok(events) => check_events(alloc, source, acts, events.as_slice()),
         Err(e) => Err(e),
     }
 }
@@ -197,15 +216,21 @@ fn put_all(
 }
 
 // The same, where the transcript states these events.
-fn check_events(alloc: Global, source: &Source, events: &[Event]) -> Result<Verdict, AllocError>
+fn check_events(
+    alloc: Global,
+    source: &Source,
+    acts: &[Option<Act>],
+    events: &[Event],
+) -> Result<Verdict, AllocError>
     requires few { length source.now.scripts.now < 2 ^ 32 }
     requires source { IsSource source.now }
+    requires acts { AreKeptActs source.now acts.now }
     requires stated { AreStatedIn source.now events.now }
     ensures { IfOk result (λ v. IsVerdict source.now.scripts.now source.now.transcript.now (verdict_of v)) }
 {
     let mut store = VersionStore::new(alloc);
     match sweep_into(alloc, &mut store, events, &[]) {
-        Ok(Some(_)) => check_answers(alloc, source, events, &store),
+        Ok(Some(_)) => check_answers(alloc, source, acts, events, &store),
         Ok(None) => Ok(Verdict::No { part: 3 }),
         Err(e) => Err(e),
     }
@@ -215,17 +240,19 @@ fn check_events(alloc: Global, source: &Source, events: &[Event]) -> Result<Verd
 fn check_answers(
     alloc: Global,
     source: &Source,
+    acts: &[Option<Act>],
     events: &[Event],
     store: &VersionStore,
 ) -> Result<Verdict, AllocError>
     requires few { length source.now.scripts.now < 2 ^ 32 }
     requires source { IsSource source.now }
+    requires acts { AreKeptActs source.now acts.now }
     requires stated { AreStatedIn source.now events.now }
     requires legal { IsLegal finmap.empty events.now }
     requires kept { IsStoreOf events.now store.now }
     ensures { IfOk result (λ v. IsVerdict source.now.scripts.now source.now.transcript.now (verdict_of v)) }
 {
-    match are_answered(alloc, source, events, store) {
+    match are_answered(alloc, source, acts, events, store) {
         Ok(answered) => Ok(verdict_by(answered, events)),
         Err(e) => Err(e),
     }

@@ -35,9 +35,10 @@ in_order from (q ∷ said) (suc k) zero s r are low at there = absurd (omega (ar
 in_order from (q ∷ said) (suc k) (suc m) s r are low at there = in_order q.line.session said k m s r are.1 (omega (arith, low)) at there
 
 -- what lines are judged by is there where a transcript states what is judged
-pub judge_is : (j : Judge) → IsJudgedSource j.source.now j.events.now j.store.now → AreCounts (history_of j) j.counts.now → AreStored (outlined j.source.now) j.stored.now → IsJudge j
+pub judge_is : (j : Judge) → IsJudgedSource j.source.now j.acts.now j.events.now j.store.now → AreCounts (history_of j) j.counts.now → AreStored (outlined j.source.now) j.stored.now → IsJudge j
 judge_is j is counts stored = record {
   source = is.source;
+  acts = is.acts_kept;
   told = is.told;
   told_in = is.told_in;
   numbered = is.numbered;

@@ -17,6 +17,7 @@ mod LineOf
 mod PassLaws
 mod Follows
 mod Passing
+mod KeptActs
 mod BegunLaws
 mod StandLaws
 mod NextLine

@@ -1,5 +1,5 @@
 -- What lines are judged by.
-use Rattle.std.specs.Prelude.{◌≡◌, ◌≤◌, ◌<◌, ◌^◌, ℕ, ◌+◌, List, length, take, get_or, count_by}
+use Rattle.std.specs.Prelude.{◌≡◌, ◌≤◌, ◌<◌, ◌^◌, ℕ, ◌+◌, List, Option, length, take, get_or, count_by}
 use Rattle.history.specs.History.{History}
 use Rattle.history.specs.Legal.{is_opening}
 use Rattle.open_fits.specs.Sweeps.{IsStated}
@@ -8,8 +8,10 @@ use Rattle.stated_history.specs.Claimed.{IsClaimed}
 use Rattle.stated_history.specs.Outline.{outline}
 use Rattle.stated_history.specs.ToldNumbers.{AreNumbered}
 use Rattle.stated_history.specs.Transcript.{Told}
+use Rattle.stated_history.specs.Kept.{AreKeptActs}
 use Rattle.stated_history.specs.Walks.{IsSource, AreToldIn, outlined}
 use Rattle.stated_history.specs.declared.commits.Source.{Source}
+use Rattle.stated_history.specs.declared.Act.{Act}
 use Rattle.transcript_fits.specs.declared.judge.Judge.{Judge}
 use Rattle.open_fits.specs.Stores.{IsStoreOf}
 use Rattle.open_fits.specs.declared.VersionStore.{VersionStore}
@@ -23,9 +25,10 @@ pub record AreCounts (events : History) (counts : List ℕ) : Type 0 where
 abbrev pub history_of : Judge → History
 history_of j = j.events.now
 
--- a transcript states this history, which may have happened, and this is kept of it
+-- a transcript states this history, which may have happened, and this is kept of it and of its lines
 pub record IsJudge (j : Judge) : Type 0 where
   pub source : IsSource j.source.now
+  pub acts : AreKeptActs j.source.now j.acts.now
   pub told : List Told
   pub told_in : AreToldIn j.source.now told
   pub numbered : AreNumbered told
@@ -36,9 +39,10 @@ pub record IsJudge (j : Judge) : Type 0 where
   pub counts : AreCounts (history_of j) j.counts.now
   pub stored : AreStored (history_of j) j.stored.now
 
--- what is judged: a transcript that states this history, which may have happened, and of which this is kept
-pub record IsJudgedSource (s : Source) (events : History) (store : VersionStore) : Type 0 where
+-- what is judged: a transcript that states this history, which may have happened, and what is kept of its lines and of the history
+pub record IsJudgedSource (s : Source) (acts : List (Option Act)) (events : History) (store : VersionStore) : Type 0 where
   pub source : IsSource s
+  pub acts_kept : AreKeptActs s acts
   pub few : length s.scripts.now < 2 ^ 32
   pub told : List Told
   pub told_in : AreToldIn s told

@@ -9,6 +9,7 @@ pub mod Frames
 pub mod Pendings
 -- names of crates below, given on to those above
 pub use Rattle.stated_history.specs.Walks
+pub use Rattle.stated_history.specs.Kept
 pub use Rattle.stated_history.specs.StatedHistories
 pub use Rattle.stated_history.specs.Verdicts
 pub use Rattle.stated_history.specs.Fitting

@@ -19,14 +19,14 @@ use Rattle.stack_driver.specs.Cells.{cells_of}
 use Rattle.stack_driver.specs.Conditions.{IsView}
 use Rattle.stack_driver.specs.Views.{look_of}
 use Rattle.stack_driver.specs.declared.view.View.{View}
-use Rattle.stated_history.specs.Acts.{IsActBy, IsSoundAct}
+use Rattle.stated_history.specs.Acts.{IsActAt, IsActBy, IsSoundAct}
 use Rattle.stated_history.specs.StatedCommits.{IsSoundOp}
 use Rattle.stated_history.specs.Standings.{standing_of, IsSoundStanding}
 use Rattle.stated_history.specs.ToldNumbers.{done_in, failed_in, numbers_of, told_of}
 use Rattle.stated_history.specs.ToldStandings.{Standing, act_at, read_told, standing_asked, standing_step}
-use Rattle.stated_history.specs.Transcript.{Told}
+use Rattle.stated_history.specs.Transcript.{Told, asked_by}
 use Rattle.open_fits.specs.declared.Window.{Window as WindowOf}
-use Rattle.stated_history.specs.Spans.{bytes_at}
+use Rattle.stated_history.specs.Spans.{bytes_at, line_at}
 use Rattle.stated_history.specs.declared.Said.{Said}
 use Rattle.stated_history.specs.declared.Act.{Act}
 use Rattle.stated_history.specs.declared.Act.TheVariants.{Refused, Opens, Binds, Reads, Writes, Begins, Commits, Aborts}
@@ -132,6 +132,12 @@ pub record IsWalkAt (j : Judge) (walk : Walk) (place : ℕ) : Type 0 where
   pub reached : IsReached j.source.now place walk
   pub session : IsInSession j.source.now place walk
   pub sound : IsSoundStanding walk.standing
+
+-- the line at a place does this, as the walk stands
+abbrev pub IsActHere : Judge → Walk → ℕ → Act → Type 0
+IsActHere j walk place act =
+    (d : Said) → slice_get j.source.now.said.now place ≡ Some d
+    → IsActAt (standing_of walk.standing) (asked_by (line_at j.source.now.scripts.now d.line)) act
 
 -- the walk stands behind the line at a place
 pub record HasWalked (j : Judge) (old new : Stand) (place : ℕ) : Type 0 where

@@ -7,14 +7,15 @@ ghost use Rattle.transcript_fits.specs.Judges.{AreCounts};
 
 use history::{Event, Kind};
 use open_fits::{VersionStore, is_stored};
-use stated_history::{Openings, Source};
+use stated_history::{Act, Openings, Source};
 use std::alloc::{AllocError, Global};
 
-/// What lines are judged by: what is told, the events that are stated, what is kept of all chunks behind them, how many arrays are open
-/// behind each number of events, and of each array whether it lies on the mount.
+/// What lines are judged by: what is told, what is kept of what each line does, the events that are stated, what is kept of all chunks behind them,
+/// how many arrays are open behind each number of events, and of each array whether it lies on the mount.
 #[derive(Clone, Copy)]
 pub(crate) struct Judge<'j> {
     pub(crate) source: &'j Source<'j>,
+    pub(crate) acts: &'j [Option<Act>],
     pub(crate) events: &'j [Event],
     pub(crate) store: &'j VersionStore,
     pub(crate) counts: &'j [u64],

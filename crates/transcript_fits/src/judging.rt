@@ -16,6 +16,7 @@ ghost use Rattle.transcript_fits.specs.Sessions.{IsFittingAt, IsSessionAt};
 ghost use Rattle.transcript_fits.specs.Stands.{HasPassed, IsLineAt, IsLineKept, IsLineTold, IsPassing, IsStandAt, MayGoOn};
 ghost use Rattle.transcript_fits.specs.declared.line_fit.LineFit.TheVariants.{Unfit};
 
+use crate::acts::act_before;
 use crate::fitting::fit_line;
 use crate::frames::{Frame, count_session};
 use crate::judge::{Judge, counts_of, stored_of};
@@ -25,27 +26,29 @@ use crate::stand::Stand;
 use history::Event;
 use open_fits::{VersionStore, Window};
 use serde_json::Value;
-use stated_history::{Said, Source, act_said, answer_said};
+use stated_history::{Act, Said, Source, answer_said};
 use std::alloc::{AllocError, Global};
 
-/// Whether each line is answered as it may be, over the events that the transcript states. The time is that of two walks over the lines,
-/// of the cells of views, and of a sweep over the events.
+/// Whether each line is answered as it may be, over the events that the transcript states, where this is kept of what each line does. The time
+/// is that of a walk over the lines, of the cells of views, and of a sweep over the events.
 ///
 /// # Errors
 /// An allocation failed.
 pub fn are_answered(
     alloc: Global,
     source: &Source,
+    acts: &[Option<Act>],
     events: &[Event],
     store: &VersionStore,
 ) -> Result<bool, AllocError>
-    requires { IsJudgedSource source.now events.now store.now }
+    requires { IsJudgedSource source.now acts.now events.now store.now }
     ensures { IfOk result (λ is. (told : ListOf Told) → AreToldIn source.now told → IsTrue is ↔ IsAnswered told events.now) }
 {
     let counts = counts_of(alloc, events)?;
     let stored = stored_of(alloc, source.openings)?;
     let judge = Judge {
         source,
+        acts,
         events,
         store,
         counts: &counts,
@@ -177,8 +180,7 @@ fn judge_told(
         → MayGoOn (answer_of_line line.entry) (act_at (standing_of stand.old.walk.standing) t) fit) }
     ensures passed { IfOk result (λ fit. fit ≢ Unfit → HasPassed judge.now stand.old stand.new line.entry place) }
 {
-    let said = &judge.source.said[place];
-    let act = act_said(alloc, &stand.walk.standing, judge.source, said)?;
+    let act = act_before(alloc, judge, &stand.walk, place)?;
     match fit_line(alloc, judge, stand, line, place, act) {
         Ok(LineFit::Unfit) => Ok(LineFit::Unfit),
         Ok(fit) => pass_fit(alloc, judge, stand, line, place, fit),

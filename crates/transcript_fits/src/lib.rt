@@ -1,6 +1,7 @@
 //! Whether a transcript is a legal history of its scripts.
 #![tactic(auto)]
 
+mod acts;
 mod changing;
 mod fitting;
 mod frames;
@@ -17,6 +18,7 @@ pub use history::{ArrayInfo, Event, Home, Kind, Op};
 pub use judging::are_answered;
 pub use open_fits::{VersionStore, sweep_into};
 pub use stated_history::{
-    AskedLine, Commit, Cutting, Openings, Said, Source, commits_complete_the_history, cut,
-    first_unchecked, number_events, put_commits, state_commits, state_openings,
+    Act, AskedLine, Commit, Cutting, Openings, Said, Source, StatedLines,
+    commits_complete_the_history, cut, first_unchecked, number_events, put_commits, state_commits,
+    state_openings,
 };

@@ -14,12 +14,13 @@ ghost use Rattle.transcript_fits.specs.Judges.{IsJudge, history_of};
 ghost use Rattle.transcript_fits.specs.LineFits.{answer_of_line};
 ghost use Rattle.transcript_fits.specs.Stands.{AreOwnBehind, HasPassed, HasReadOf, HasWalked, HasWrittenOf, IsBegunAt, IsFacingOf, IsFollowing, IsLineTold, IsOwnOf, IsPassing, IsReadingOf, IsWalkAt, IsWritingOf};
 
+use crate::acts::act_before;
 use crate::judge::Judge;
 use crate::line_fit::ToldLine;
 use open_fits::Own;
 use serde_json::Value;
 use stack_driver::View;
-use stated_history::{Act, Walk, act_said, pass_line};
+use stated_history::{Act, Walk, pass_line};
 use std::alloc::{AllocError, Global};
 
 /// A session before one of its lines: how it stands, what its transaction has by its operations, the place of the line that began the
@@ -66,8 +67,7 @@ impl Stand {
         requires passing { IsPassing judge.now self.old line place }
         ensures { OnOk result (HasPassed judge.now self.old self.new line.entry place) }
     {
-        let said = &judge.source.said[place];
-        match act_said(alloc, &self.walk.standing, judge.source, said) {
+        match act_before(alloc, judge, &self.walk, place) {
             Ok(act) => self.pass_act(alloc, judge, line, place, act),
             Err(e) => Err(e),
         }

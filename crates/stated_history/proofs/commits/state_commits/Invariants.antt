@@ -1,5 +1,5 @@
-use Rattle.stated_history.proofs.SourceLaws.{AreWalkedUpTo}
+use Rattle.stated_history.proofs.KeptLaws.{AreKeptUpTo}
 use Rattle.stated_history.proofs.commits.state_commits.Given as goal
 
 abbrev pub invariant-loop-place : goal.invariant-loop-place
-invariant-loop-place l = AreWalkedUpTo l.source l.place l.walk l.commits.items
+invariant-loop-place l = AreKeptUpTo l.source l.place l.walk l.commits.items l.acts.items

@@ -14,5 +14,5 @@ stored_of-requires-clause-count c = c.requires.source.stated.opened.count
 
 pub judge_sessions-requires-clause-judge : goal.judge_sessions-requires-clause-judge
 judge_sessions-requires-clause-judge c =
-    judge_is (record { source = c.args.source; events = c.args.events; store = c.args.store; counts = c.deref.result; stored = c.deref-2.result }) c.requires
+    judge_is (record { source = c.args.source; acts = c.args.acts; events = c.args.events; store = c.args.store; counts = c.deref.result; stored = c.deref-2.result }) c.requires
     (subst (AreCounts c.args.events.now) (sym c.deref.ensures.value) c.in_ok-counts.ensures) (subst (AreStored (outlined c.args.source.now)) (sym c.deref-2.ensures.value) c.in_ok-stored.ensures)

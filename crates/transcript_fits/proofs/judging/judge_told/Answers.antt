@@ -1,10 +1,9 @@
-use Rattle.std.proofs.Common.{◌≢◌, ◌<◌, List, get_or, sym, subst}
-use Rattle.std.proofs.lemmas.Option.{slice_get-get_or}
+use Rattle.std.proofs.Common.{◌≢◌, ◌<◌, List, refl, sym, subst}
 use Rattle.std.proofs.lemmas.Result.{IfOk-weaker}
 use Rattle.stated_history.specs.Standings.{standing_of}
 use Rattle.stated_history.specs.ToldStandings.{act_at}
 use Rattle.stated_history.specs.Transcript.{Told}
-use Rattle.stated_history.proofs.Laws.{line_of_source, takings_long}
+use Rattle.stated_history.proofs.Laws.{got_low, takings_long}
 use Rattle.transcript_fits.specs.Judges.{history_of}
 use Rattle.transcript_fits.specs.LineFits.{IsAnsweredSo, IsLineFit, MayBeAsked, answer_of_line}
 use Rattle.transcript_fits.specs.Stands.{HasPassed, IsFaced, IsLineTold, MayGoOn}
@@ -12,26 +11,11 @@ use Rattle.transcript_fits.specs.declared.line_fit.LineFit.{LineFit}
 use Rattle.transcript_fits.specs.declared.line_fit.LineFit.TheVariants.{Unfit}
 use Rattle.transcript_fits.proofs.FacedLaws.{faced_of}
 use Rattle.transcript_fits.proofs.JudgedLine.{if_on}
-use Rattle.transcript_fits.proofs.Passing.{line_told_of}
+use Rattle.transcript_fits.proofs.Passing.{line_told_of, walk_at}
 use Rattle.transcript_fits.proofs.judging.judge_told.Goals as goal
 
-pub act_said-requires-clause-mounts : goal.act_said-requires-clause-mounts
-act_said-requires-clause-mounts c = c.requires.judge.source.mounts
-
-pub act_said-requires-clause-views : goal.act_said-requires-clause-views
-act_said-requires-clause-views c = c.requires.line.passing.sound.views
-
-pub act_said-requires-clause-placed : goal.act_said-requires-clause-placed
-act_said-requires-clause-placed c =
-    let s = c.args.judge.now.source.now in
-    let d = get_or s.said.now c.args.place c.index-judge-place.result in
-    (line_of_source s c.args.place d c.requires.judge.source (slice_get-get_or s.said.now c.args.place c.index-judge-place.result c.requires.line.passing.low)).placed
-
-pub act_said-requires-clause-checked : goal.act_said-requires-clause-checked
-act_said-requires-clause-checked c =
-    let s = c.args.judge.now.source.now in
-    let d = get_or s.said.now c.args.place c.index-judge-place.result in
-    (line_of_source s c.args.place d c.requires.judge.source (slice_get-get_or s.said.now c.args.place c.index-judge-place.result c.requires.line.passing.low)).checked
+pub act_before-requires-clause-walk : goal.act_before-requires-clause-walk
+act_before-requires-clause-walk c = walk_at c.args.judge.now c.requires.judge c.args.stand.now c.args.line c.args.place c.requires.line.passing c.args.stand.now.walk refl
 
 pub fit_line-requires-clause-place : goal.fit_line-requires-clause-place
 fit_line-requires-clause-place c = subst (λ n. c.args.place < n) (sym (takings_long c.args.judge.now.source.now c.requires.judge.source)) c.requires.line.passing.low
@@ -40,10 +24,10 @@ pub fit_line-requires-clause-faced : goal.fit_line-requires-clause-faced
 fit_line-requires-clause-faced c =
     let j = c.args.judge.now in
     let said = j.source.now.said.now in
-    let d = get_or said c.args.place c.index-judge-place.result in
+    let kept = got_low said c.args.place c.requires.line.passing.low in
     let one = line_told_of j c.requires.judge c.args.stand.now c.args.line c.args.place c.requires.line.passing in (
       act_at (standing_of c.args.stand.now.walk.standing) one.0,
-      faced_of j c.requires.judge c.args.stand.now c.args.line c.args.place c.requires.line c.in_ok-act.act c.in_ok-act.ensures.sound d (slice_get-get_or said c.args.place c.index-judge-place.result c.requires.line.passing.low) c.in_ok-act.ensures.act c.requires.judge.told one.0 one.1.told_in one.1.there,
+      faced_of j c.requires.judge c.args.stand.now c.args.line c.args.place c.requires.line c.in_ok-act.act c.in_ok-act.ensures.sound kept.0 kept.1 (c.in_ok-act.ensures.act kept.0 kept.1) c.requires.judge.told one.0 one.1.told_in one.1.there,
     )
 
 pub returns-in-Ok-Unfit-clause-fits : goal.returns-in-Ok-Unfit-clause-fits
@@ -51,9 +35,9 @@ returns-in-Ok-Unfit-clause-fits c = λ told t it.
     let j = c.args.judge.now in
     let said = j.source.now.said.now in
     let s = standing_of c.args.stand.now.walk.standing in
-    let d = get_or said c.args.place c.index-judge-place.result in
+    let kept = got_low said c.args.place c.requires.line.passing.low in
     let faced =
-    faced_of j c.requires.judge c.args.stand.now c.args.line c.args.place c.requires.line c.in_ok-act.act c.in_ok-act.ensures.sound d (slice_get-get_or said c.args.place c.index-judge-place.result c.requires.line.passing.low) c.in_ok-act.ensures.act told t it.told_in it.there in
+    faced_of j c.requires.judge c.args.stand.now c.args.line c.args.place c.requires.line c.in_ok-act.act c.in_ok-act.ensures.sound kept.0 kept.1 (c.in_ok-act.ensures.act kept.0 kept.1) told t it.told_in it.there in
     subst (λ (fit : LineFit). IsLineFit (history_of j) (IsAnsweredSo (history_of j) c.args.line s.transaction (act_at s t)) fit) c.in-Ok-Unfit.field-0-is (c.in-Ok-Unfit.ensures.fits (act_at s t) faced)
 
 pub returns-in-Ok : goal.returns-in-Ok
@@ -61,9 +45,9 @@ returns-in-Ok c =
     let j = c.args.judge.now in
     let said = j.source.now.said.now in
     let s = standing_of c.args.stand.now.walk.standing in
-    let d = get_or said c.args.place c.index-judge-place.result in
+    let kept = got_low said c.args.place c.requires.line.passing.low in
     let faced : (told : List Told) (t : Told) → IsLineTold j told c.args.place t → IsFaced j c.args.line c.args.place s c.args.stand.now.own (act_at s t) c.in_ok-act.act =
-    λ told t it. faced_of j c.requires.judge c.args.stand.now c.args.line c.args.place c.requires.line c.in_ok-act.act c.in_ok-act.ensures.sound d (slice_get-get_or said c.args.place c.index-judge-place.result c.requires.line.passing.low) c.in_ok-act.ensures.act told t it.told_in it.there in
+    λ told t it. faced_of j c.requires.judge c.args.stand.now c.args.line c.args.place c.requires.line c.in_ok-act.act c.in_ok-act.ensures.sound kept.0 kept.1 (c.in_ok-act.ensures.act kept.0 kept.1) told t it.told_in it.there in
     record {
       fits =
           IfOk-weaker c.pass_fit.result _ _
