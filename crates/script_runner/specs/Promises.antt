@@ -84,13 +84,13 @@ abbrev pub IsAnsweredYes : List (List ℕ) → List Part → Outcome → Type 0
 IsAnsweredYes scripts old outcome = names_of old ≡ mount ∷ [] → outcome.status ≢ 5 → holds_memory outcome.logs ≡ false → AreChecked scripts
     → IsVerdict scripts (text_of_logs outcome.logs) (yes (length outcome.history))
 
--- WHAT A CHECKER ANSWERS. What was printed of the scripts that the words ask for is answered yes
+-- WHAT A CHECKER ANSWERS. The text of the logs of the scripts that the words ask for is answered yes
 pub record IsYesOutcome (contents : Option Contents) (words : List (List ℕ)) (old : List Part) (outcome : Outcome) : Type 0 where
   pub scripts : List (List ℕ)
   pub asked : AreAskedFor contents words scripts
   pub answered : IsAnsweredYes scripts old outcome
 
--- these scripts were run over the mounts, and where those are one empty store, what was printed is answered yes
+-- these scripts were run over the mounts, and where those are one empty store, the text of the logs is answered yes
 pub record HasRunGiven (scripts : List (List ℕ)) (old new : List Part) (outcome : Outcome) (silent : Type 0) : Type 0 where
   pub ran : HasRunTexts scripts old new outcome silent
   pub fits : IsEmptyMount old → IsAnsweredYes scripts old outcome

@@ -51,7 +51,8 @@ pub fn run<S: Reader, O: Writer, K: KvStore + Send, R: Threads + Wait + Sync, G:
     // Serial transactions: over one empty store that makes all changes of a commit together.
     ensures serial { result.logs ≢ [] → IsEmptyMount mounts.old.items
         → IsSerialOutcome (S.contents scripts.old) (texts_of words.now) mounts.old.items mounts.new.items result }
-    // Over such a store, what is printed is a transcript that a checker has to answer yes.
+    // Over such a store, the text of the logs, which is what a run of files writes under status 0 and 1, is a transcript that a checker has to
+    // answer yes.
     ensures fits { result.logs ≢ [] → IsEmptyMount mounts.old.items
         → IsYesOutcome (S.contents scripts.old) (texts_of words.now) mounts.old.items result }
     // Over any mounts, where sessions were started, whatever the status.
@@ -68,7 +69,7 @@ pub fn run<S: Reader, O: Writer, K: KvStore + Send, R: Threads + Wait + Sync, G:
     ensures made { (number : ℕ) → AskToMake (texts_of words.now) number → (scripts.new ≡ scripts.old)
         × (result.status ≢ 3) }
     // The files that the words name are asked for in their order, each once and none behind the first that isn't given; what was given is run,
-    // and over one empty store what is printed is answered yes for it.
+    // and over one empty store the text of the logs is answered yes for it.
     ensures asked { (files : List Text) → AskFor (texts_of words.now) files
         → HasAsked S.gives scripts.old files result (λ texts.
         HasRunGiven texts mounts.old.items mounts.new.items result (sink.new ≡ sink.old)) scripts.new }
