@@ -1,8 +1,9 @@
 -- Cutting a transcript line by line.
-use Rattle.std.proofs.Common.{◌≡◌, ◌<◌, ◌≤◌, ℕ, ◌+◌, ◌-◌, List, [], ◌∷◌, ◌++◌, false, true, length, take, drop, refl, sym, ap, subst, ◌∙◌, ◌⊎◌, inl, inr, arith, append_assoc, append-nil, length-drop}
+use Rattle.std.proofs.Common.{◌≡◌, Option, ◌<◌, ◌≤◌, ℕ, ◌+◌, ◌-◌, List, [], ◌∷◌, ◌++◌, false, true, length, take, drop, refl, sym, ap, subst, ◌∙◌, ◌⊎◌, inl, inr, arith, append_assoc, append-nil, length-drop}
 use Rattle.std.proofs.lemmas.List.{take-append-drop, drop-drop, drop_all, map-append}
 use Rattle.std.specs.List.{AllByRecursion, flat_map}
 use Rattle.serde_json.specs.Data.{Data}
+use Rattle.serde_json.specs.declared.value.Value.{Value}
 use Rattle.json_forms.specs.Bytes.{data_of}
 use Rattle.transcript_laws.proofs.Laws.{some_inj}
 use Rattle.transcript_laws.specs.AnswerLines.{has_lf}
@@ -151,13 +152,14 @@ module _ (scripts : List (List ℕ)) (transcript : List ℕ) where
   abbrev next_told : AskedLine → ℕ → ℕ → Data → Told
   next_told line at size answer = record { session = line.session; number = line.number; asked = asked_by (line_at scripts line); text = take size (drop at transcript); answer = answer }
 
-  abbrev kept_said : AskedLine → ℕ → ℕ → EventNumbers → Said
-  kept_said line at size numbers = record { line = line; text = record { from = at; upto = at + size }; numbers = numbers }
+  abbrev kept_said : AskedLine → ℕ → ℕ → EventNumbers → Option Value → Said
+  kept_said line at size numbers answer = record { line = line; text = record { from = at; upto = at + size }; numbers = numbers; answer = answer }
 
   -- a line with an answer
-  pub one_more : (said : List Said) (left more : List ScriptLine) (line : AskedLine) (at size : ℕ) (numbers : EventNumbers) → IsCutUpTo said left at → left ≡ line_at scripts line ∷ more → IsPlaced scripts line
-      → BeginsWithAnswer (drop at transcript) line.number size numbers → IsCutUpTo (said ++ record { line = line; text = record { from = at; upto = at + size }; numbers = numbers } ∷ []) more (at + size)
-  one_more said left more line at size numbers is lefts placed begins = record {
+  pub one_more : (said : List Said) (left more : List ScriptLine) (line : AskedLine) (at size : ℕ) (numbers : EventNumbers) (answer : Option Value) → IsCutUpTo said left at → left ≡ line_at scripts line ∷ more → IsPlaced scripts line
+      → BeginsWithAnswer (drop at transcript) line.number size numbers answer
+      → IsCutUpTo (said ++ record { line = line; text = record { from = at; upto = at + size }; numbers = numbers; answer = answer } ∷ []) more (at + size)
+  one_more said left more line at size numbers answer is lefts placed begins = record {
     earlier = is.earlier ++ line_at scripts line ∷ [];
     told = is.told ++ next_told line at size begins.answer ∷ [];
     parts = is.parts ∙ ap (λ ls. is.earlier ++ ls) lefts ∙ sym (append_assoc is.earlier (line_at scripts line ∷ []) more);
@@ -165,7 +167,7 @@ module _ (scripts : List (List ℕ)) (transcript : List ℕ) where
     plain = plain_more is.told (next_told line at size begins.answer) is.plain begins.plain;
     text = is.text ∙ ap (λ rest. texts is.told ++ rest) (sym (take-append-drop size (drop at transcript)) ∙ ap (λ rest. take size (drop at transcript) ++ rest) (drop-drop size at transcript))
         ∙ sym (append_assoc (texts is.told) (take size (drop at transcript)) (drop (at + size) transcript)) ∙ ap (λ front. front ++ drop (at + size) transcript) (sym (texts_more is.told (next_told line at size begins.answer)));
-    said = said_more said is.told (kept_said line at size numbers) (next_told line at size begins.answer) is.said (record {
+    said = said_more said is.told (kept_said line at size numbers answer) (next_told line at size begins.answer) is.said (record {
       placed = placed;
       session = refl;
       number = refl;
@@ -173,8 +175,9 @@ module _ (scripts : List (List ℕ)) (transcript : List ℕ) where
       within = record { order = omega arith; within = within };
       text = ap (λ n. take n (drop at transcript)) sized;
       prints = begins.prints;
+      keeps = begins.keeps;
     });
-    lines = map-append (λ (s : Said). line_at scripts s.line) said (kept_said line at size numbers ∷ []) ∙ ap (λ ls. ls ++ line_at scripts line ∷ []) is.lines;
+    lines = map-append (λ (s : Said). line_at scripts s.line) said (kept_said line at size numbers answer ∷ []) ∙ ap (λ ls. ls ++ line_at scripts line ∷ []) is.lines;
     within = within;
   }
     where
@@ -188,7 +191,7 @@ module _ (scripts : List (List ℕ)) (transcript : List ℕ) where
   pub found_more : (old new : List Said) (left more : List ScriptLine) (line : AskedLine) (at size : ℕ) (rest : List ℕ) → IsCutUpTo old left at → left ≡ line_at scripts line ∷ more → IsPlaced scripts line
       → rest ≡ drop at transcript → IsKeptAnswer rest line at size old new → IsCutUpTo new more (at + size)
   found_more old new left more line at size rest is lefts placed here found =
-      subst (λ k. IsCutUpTo k more (at + size)) (sym found.kept) (one_more old left more line at size found.numbers is lefts placed (subst (λ t. BeginsWithAnswer t line.number size found.numbers) here found.begins))
+      subst (λ k. IsCutUpTo k more (at + size)) (sym found.kept) (one_more old left more line at size found.numbers found.answer is lefts placed (subst (λ t. BeginsWithAnswer t line.number size found.numbers found.answer) here found.begins))
 
   pub cut_off_here : (said : List Said) (left more : List ScriptLine) (line : AskedLine) (at : ℕ) → IsCutUpTo said left at → left ≡ line_at scripts line ∷ more → IsPlaced scripts line → BeginsWithMemory (drop at transcript) → IsCutOffAt scripts transcript line
   cut_off_here said left more line at is lefts placed begins = record {

@@ -1,8 +1,9 @@
 -- The line at the front of a text, as it is judged without its LF.
 use Rattle.std.proofs.Common.{◌≡◌, ◌<◌, ℕ, ◌+◌, List, [], ◌∷◌, ◌++◌, false, length, take, drop, sym, ap, subst, ◌∙◌, arith, append_assoc, length-append}
-use Rattle.std.specs.Prelude.{IsTrue}
+use Rattle.std.specs.Prelude.{IsTrue, Option}
 use Rattle.std.proofs.lemmas.List.{length-take-le, take_at}
 use Rattle.serde_json.specs.Data.{Data}
+use Rattle.serde_json.specs.declared.value.Value.{Value}
 use Rattle.json_forms.specs.Bytes.{data_of}
 use Rattle.transcript_laws.specs.AnswerLines.{has_lf, outside, is_compact}
 use Rattle.transcript_laws.specs.Unchecked.{IsMemoryAnswer}
@@ -10,6 +11,7 @@ use Rattle.transcript_laws.proofs.Laws.{cut_once, regroup}
 use Rattle.transcript_cut.specs.LineEnds.{IsLineEnd}
 use Rattle.transcript_cut.specs.Judged.{IsAnswerLine, IsOtherLine, IsJudged}
 use Rattle.transcript_cut.specs.Numbers.{PrintsNumbers}
+use Rattle.transcript_cut.specs.Keeping.{IsKeptOf}
 use Rattle.transcript_cut.specs.Fronts.{BeginsWithAnswer, BeginsWithMemory, BeginsOtherwise}
 use Rattle.transcript_cut.specs.declared.answers.Judged.{Judged}
 use Rattle.transcript_cut.specs.declared.answers.Judged.TheVariants.{Answer, Memory, Other}
@@ -39,8 +41,8 @@ module _ (text : List ℕ) (number spot : ℕ) (end : IsLineEnd text spot) (low 
       let size : length line ≡ spot = length-take-le spot text end.within in
       ap (take (spot + 1)) (end.behind low) ∙ ap (λ n. take (n + 1) (line ++ 10 ∷ rest)) (sym size) ∙ front_and_one line 10 rest
 
-  pub answer_front : (numbers : EventNumbers) (answer : Data) → IsAnswerLine line number answer → PrintsNumbers answer numbers → BeginsWithAnswer text number (spot + 1) numbers
-  answer_front numbers answer is prints = record {
+  pub answer_front : (numbers : EventNumbers) (kept : Option Value) (answer : Data) → IsAnswerLine line number answer → PrintsNumbers answer numbers → IsKeptOf answer kept → BeginsWithAnswer text number (spot + 1) numbers kept
+  answer_front numbers kept answer is prints keeps = record {
     answer = answer;
     within = omega (arith, low);
     is = record {
@@ -52,6 +54,7 @@ module _ (text : List ℕ) (number spot : ℕ) (end : IsLineEnd text spot) (low 
     };
     plain = is.plain;
     prints = prints;
+    keeps = keeps;
   }
 
   pub memory_front : IsMemoryAnswer line → BeginsWithMemory text
@@ -70,11 +73,11 @@ module _ (text : List ℕ) (number spot : ℕ) (end : IsLineEnd text spot) (low 
 
   -- what begins with a line that is judged so
   abbrev pub Begins : Judged → Type 0
-  Begins (Answer numbers) = BeginsWithAnswer text number (spot + 1) numbers
+  Begins (Answer numbers kept) = BeginsWithAnswer text number (spot + 1) numbers kept
   Begins Memory = BeginsWithMemory text
   Begins Other = BeginsOtherwise text number
 
   pub begins : (bytes : List ℕ) → bytes ≡ line → (judged : Judged) → IsJudged bytes number judged → Begins judged
-  begins bytes same (Answer numbers) is = let j = subst (λ b. IsJudged b number (Answer numbers)) same is in answer_front numbers j.0 j.1 j.2
+  begins bytes same (Answer numbers kept) is = let j = subst (λ b. IsJudged b number (Answer numbers kept)) same is in answer_front numbers kept j.0 j.1 j.2 j.3
   begins bytes same Memory is = memory_front (subst (λ b. IsJudged b number Memory) same is)
   begins bytes same Other is = other_front (subst (λ b. IsJudged b number Other) same is)

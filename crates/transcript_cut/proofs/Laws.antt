@@ -2,6 +2,8 @@
 
 -- the sessions of what is kept of a cut are those of its scripts
 pub use Rattle.transcript_cut.proofs.Sessions.{sessions_within}
+-- what is kept of lines, by their places
+pub use Rattle.transcript_cut.proofs.KeptLines.{commands_count, command_at, commands_taken}
 -- laws of crates below, given on to those above
 pub use Rattle.transcript_laws.proofs.Laws.{location_new, opening_new}
 pub use Rattle.transcript_laws.proofs.Laws.{places_apart}

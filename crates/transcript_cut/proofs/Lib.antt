@@ -6,6 +6,7 @@ pub mod Values
 pub mod Fronts
 pub mod Cuts
 pub mod Checked
+pub mod KeptLines
 pub mod Rising
 pub mod Slots
 pub mod Numbered

@@ -1,6 +1,7 @@
 -- What cutting a transcript gives.
-use Rattle.std.specs.Prelude.{◌≡◌, ℕ, ◌+◌, List, [], ◌∷◌, ◌++◌, map, false}
+use Rattle.std.specs.Prelude.{◌≡◌, ℕ, ◌+◌, List, [], ◌∷◌, ◌++◌, map, Option, false}
 use Rattle.std.specs.List.{AllByRecursion}
+use Rattle.serde_json.specs.declared.value.Value.{Value}
 use Rattle.transcript_laws.specs.Transcript.{ScriptLine, lines_of_scripts, Told, IsCut}
 use Rattle.transcript_laws.specs.Unchecked.{is_memory_answer, IsCutOff}
 use Rattle.transcript_laws.specs.Verdicts.{FailsPart1}
@@ -54,8 +55,9 @@ IsEnding scripts transcript said (Short line) = IsCutOffAt scripts transcript li
 -- an answer of so many bytes stands at the front of the text, which begins at this byte; and what is kept now
 pub record IsKeptAnswer (text : List ℕ) (line : AskedLine) (at size : ℕ) (old new : List Said) : Type 0 where
   pub numbers : EventNumbers
-  pub begins : BeginsWithAnswer text line.number size numbers
-  pub kept : new ≡ old ++ record { line = line; text = record { from = at; upto = at + size }; numbers = numbers } ∷ []
+  pub answer : Option Value
+  pub begins : BeginsWithAnswer text line.number size numbers answer
+  pub kept : new ≡ old ++ record { line = line; text = record { from = at; upto = at + size }; numbers = numbers; answer = answer } ∷ []
 
 -- what was found at the front of a text
 abbrev pub IsFound : List ℕ → AskedLine → ℕ → List Said → List Said → Found → Type 0

@@ -7,6 +7,7 @@ use Rattle.json_forms.specs.Numbers.{whole_number}
 use Rattle.transcript_laws.specs.AnswerLines.{outside, is_compact}
 use Rattle.transcript_laws.specs.Unchecked.{is_memory_answer, IsMemoryAnswer}
 use Rattle.transcript_cut.specs.Numbers.{PrintsNumbers}
+use Rattle.transcript_cut.specs.Keeping.{IsKeptOf}
 use Rattle.transcript_cut.specs.declared.answers.Judged.{Judged}
 use Rattle.transcript_cut.specs.declared.answers.Judged.TheVariants.{Answer, Memory, Other}
 
@@ -30,6 +31,6 @@ pub record IsOtherLine (bytes : List ℕ) (number : ℕ) : Type 0 where
 
 -- the line is as it is judged to be
 abbrev pub IsJudged : List ℕ → ℕ → Judged → Type 0
-IsJudged bytes number (Answer numbers) = (answer : Data) × IsAnswerLine bytes number answer × PrintsNumbers answer numbers
+IsJudged bytes number (Answer numbers kept) = (answer : Data) × IsAnswerLine bytes number answer × PrintsNumbers answer numbers × IsKeptOf answer kept
 IsJudged bytes number Memory = IsMemoryAnswer bytes
 IsJudged bytes number Other = IsOtherLine bytes number

@@ -2,6 +2,7 @@
 use Rattle.std.specs.Prelude.{◌≡◌, ℕ, List, [], ◌∷◌}
 use Rattle.transcript_laws.specs.Transcript.{Told, asked_by}
 use Rattle.transcript_cut.specs.Numbers.{PrintsNumbers}
+use Rattle.transcript_cut.specs.Keeping.{IsKeptOf}
 use Rattle.transcript_cut.specs.Spans.{bytes_at, IsSpanOf, line_at, IsPlaced}
 use Rattle.transcript_cut.specs.declared.said.Said.{Said}
 
@@ -14,6 +15,7 @@ pub record IsSaid (scripts : List (List ℕ)) (transcript : List ℕ) (said : Sa
   pub within : IsSpanOf transcript said.text
   pub text : told.text ≡ bytes_at said.text transcript
   pub prints : PrintsNumbers told.answer said.numbers
+  pub keeps : IsKeptOf told.answer said.answer
 
 -- so it is of each, one after another
 abbrev pub AreSaid : List (List ℕ) → List ℕ → List Said → List Told → Type 0

@@ -6,6 +6,7 @@ ghost use Rattle.json_forms.specs.Bytes.{data_of};
 ghost use Rattle.json_forms.specs.Numbers.{whole_number};
 ghost use Rattle.transcript_laws.specs.Unchecked.{is_memory_answer};
 ghost use Rattle.transcript_cut.specs.Judged.{IsAnswerOf, IsJudged};
+ghost use Rattle.transcript_cut.specs.Keeping.{IsKeptOf};
 ghost use Rattle.transcript_cut.specs.Fronts.{IsFront};
 
 use crate::compact::is_compact;
@@ -16,12 +17,13 @@ use serde_json::Value;
 use std::alloc::{AllocError, Global};
 
 /// What the line at the front of a text is.
-#[derive(Debug, Drop)]
+#[derive(Drop)]
 pub enum Front {
-    /// An answer to the line of the number: how many bytes it has, with its LF, and what it prints.
+    /// An answer to the line of the number: how many bytes it has, with its LF, what it prints, and what it reads as, where it is short.
     Answer {
         length: usize,
         numbers: EventNumbers,
+        answer: Option<Value>,
     },
     /// An answer of want of memory.
     Memory,
@@ -30,9 +32,12 @@ pub enum Front {
 }
 
 /// What a line is, without its LF.
-#[derive(Debug, Drop)]
+#[derive(Drop)]
 pub enum Judged {
-    Answer { numbers: EventNumbers },
+    Answer {
+        numbers: EventNumbers,
+        answer: Option<Value>,
+    },
     Memory,
     Other,
 }
@@ -47,9 +52,10 @@ pub fn front_of(alloc: Global, text: &[u8], number: u64) -> Result<Front, AllocE
     }
     let (line, _) = text.split_at(end);
     match judge(alloc, line, number) {
-        Ok(Judged::Answer { numbers }) => Ok(Front::Answer {
+        Ok(Judged::Answer { numbers, answer }) => Ok(Front::Answer {
             length: end + 1,
             numbers,
+            answer,
         }),
         Ok(Judged::Memory) => Ok(Front::Memory),
         Ok(Judged::Other) => Ok(Front::Other),
@@ -62,31 +68,41 @@ fn judge(alloc: Global, bytes: &[u8], number: u64) -> Result<Judged, AllocError>
     ensures { IfOk result (IsJudged bytes.now number) }
 {
     match parse(alloc, bytes) {
-        Ok(value) => judge_value(alloc, bytes, &value, number),
+        Ok(value) => judge_value(alloc, bytes, value, number),
         Err(ParseError::NotJson) => Ok(Judged::Other),
         Err(ParseError::Memory) => Err(AllocError),
     }
 }
 
 // The same of the value that the bytes are.
-fn judge_value(
-    alloc: Global,
-    bytes: &[u8],
-    value: &Value,
-    number: u64,
-) -> Result<Judged, AllocError>
-    requires { data_of bytes.now ≡ Some (view value.now) }
+fn judge_value(alloc: Global, bytes: &[u8], value: Value, number: u64) -> Result<Judged, AllocError>
+    requires { data_of bytes.now ≡ Some (view value) }
     ensures { IfOk result (IsJudged bytes.now number) }
 {
-    if is_memory_answer(value) {
+    if is_memory_answer(&value) {
         return Ok(Judged::Memory);
     }
-    if !is_answer(bytes, value, number) {
+    if !is_answer(bytes, &value, number) {
         return Ok(Judged::Other);
     }
-    match numbers_in(alloc, value) {
-        Ok(numbers) => Ok(Judged::Answer { numbers }),
+    match numbers_in(alloc, &value) {
+        Ok(numbers) => Ok(Judged::Answer {
+            numbers,
+            answer: kept_answer(value, bytes),
+        }),
         Err(e) => Err(e),
+    }
+}
+
+// What is kept of an answer of these bytes: itself, where it is short, so that it need not be read again. A value in memory takes many times the
+// room of its text, so a long one isn't kept.
+fn kept_answer(value: Value, bytes: &[u8]) -> Option<Value>
+    ensures { IsKeptOf (view value) result }
+{
+    if bytes.len() <= 256 {
+        Some(value)
+    } else {
+        None
     }
 }
 

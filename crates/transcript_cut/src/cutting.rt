@@ -9,7 +9,7 @@ use cells::List;
 use std::alloc::{AllocError, Global};
 
 /// What cutting a transcript gives.
-#[derive(Debug, Drop)]
+#[derive(Drop)]
 pub enum Cutting {
     /// An answer to each line, and nothing else.
     Whole { said: List<Said> },
@@ -96,13 +96,20 @@ fn keep_answer(
     ensures { IfOk result (IsFound rest.now line at said.old.items said.new.items) }
 {
     match front_of(alloc, rest, line.number) {
-        Ok(Front::Answer { length, numbers }) => {
+        Ok(
+            Front::Answer {
+                length,
+                numbers,
+                answer,
+            },
+        ) => {
             let upto = at + length;
             let text = Span { from: at, upto };
             said.push(Said {
                 line,
                 text,
                 numbers,
+                answer,
             })?;
             Ok(Found::Answer { length })
         }

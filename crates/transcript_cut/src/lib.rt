@@ -1,8 +1,8 @@
 //! A transcript cut into the answers to the lines of its scripts, and the numbers of events that these print.
 //!
-//! A checker of transcripts begins here. `first_unchecked` finds the first line that isn't checked, `cut` gives each line its answer, and
-//! `number_events` the line of each event. Others rest on three definitions of `transcript_laws`: `IsFirstUnchecked`, `IsCut` with `IsCutOff`,
-//! and `AreNumbered`.
+//! A checker of transcripts begins here. `read_lines` gives the commands of the lines or finds the first that isn't checked, `cut` gives each line
+//! its answer, and `number_events` the line of each event. Others rest on three definitions of `transcript_laws`: `IsFirstUnchecked`, `IsCut` with
+//! `IsCutOff`, and `AreNumbered`.
 #![tactic(auto)]
 
 mod answers;
@@ -26,4 +26,4 @@ pub use transcript_laws::{
     SpecError, SpecLeaf, Tree, Why, array_ref, build, form_of, given_info, joined, new_info,
     read_command, render,
 };
-pub use unchecked::first_unchecked;
+pub use unchecked::{Asking, read_lines};

@@ -1,4 +1,5 @@
 use crate::numbers::EventNumbers;
+use serde_json::Value;
 
 /// Bytes of a text: from the first up to, and without, the last.
 #[derive(Clone, Copy, Debug, PartialEq, Eq)]
@@ -15,10 +16,12 @@ pub struct AskedLine {
     pub bytes: Span,
 }
 
-/// What a transcript has for a line: where the answer stands, with its LF, and the numbers of events that it prints.
-#[derive(Debug, Drop)]
+/// What a transcript has for a line: where the answer stands, with its LF, the numbers of events that it prints, and what it reads as, where it is
+/// short.
+#[derive(Drop)]
 pub struct Said {
     pub line: AskedLine,
     pub text: Span,
     pub numbers: EventNumbers,
+    pub answer: Option<Value>,
 }
