@@ -6,7 +6,7 @@ use Rattle.history.specs.Answers as old
 use Rattle.history.specs.Commit.{Transaction}
 use Rattle.history.specs.Lines.{FormError, Line}
 use Rattle.history.specs.Viewing.{cell_fault}
-use Rattle.line_acts.specs.Form.{form_of}
+use Rattle.line_acts.specs.Form.{form_of, IsSound, IsSoundOther}
 use Rattle.line_acts.specs.Meanings.{line_of, line_in, line_of_bytes, refused_by}
 use Rattle.line_acts.specs.Refused.{IsAnswerTo}
 use Rattle.line_acts.specs.Refusals.{refusal_body, form_error, spec_form, spec_body, steps_form, steps_body}
@@ -140,3 +140,16 @@ plain_down k name steps (Some d) is checked = absurd (checked_not k (command.Rea
 -- what any transaction leaves as it is
 pub act_among : (s : Standing) (l : Line) (act : Act) → IsActAmong (standing_of s).names l act → IsActAt (standing_of s) l act
 act_among s l act each = each (standing_of s).transaction
+
+-- a command that opens nothing is sound whatever the mounts are
+pub sound_other : (names : List (List ℕ)) (k : Command) → IsSoundOther k → IsSound names k
+sound_other names (command.Open name plan) is = absurd is
+sound_other names (command.View name of transform steps) is = is
+sound_other names (command.Join name form layers transform steps) is = is
+sound_other names (command.Read name steps down) is = is
+sound_other names (command.Write name steps values) is = is
+sound_other names (command.Begin atomic repeatable_read) is = is
+sound_other names command.Commit is = is
+sound_other names command.Abort is = is
+sound_other names (command.Resize name shape) is = is
+sound_other names (command.Resolve name) is = is

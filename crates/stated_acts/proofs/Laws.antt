@@ -22,3 +22,4 @@ pub use Rattle.stated_arrays.proofs.Laws.{IsGoodLine, AreGoodLines, good_lines, 
 pub use Rattle.stated_arrays.proofs.Laws.{among}
 pub use Rattle.stated_arrays.proofs.Laws.{uncut}
 pub use Rattle.stated_arrays.proofs.Laws.{sessions_within}
+pub use Rattle.stated_arrays.proofs.Laws.{commands_count, command_at, commands_taken}

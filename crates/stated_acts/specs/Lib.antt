@@ -5,6 +5,7 @@ pub mod Printing
 pub use Rattle.stated_arrays.specs.AnswerNumbers
 pub use Rattle.stated_arrays.specs.Claimed
 pub use Rattle.stated_arrays.specs.Cuttings
+pub use Rattle.stated_arrays.specs.Keeping
 pub use Rattle.stated_arrays.specs.Openings
 pub use Rattle.stated_arrays.specs.Outcomes
 pub use Rattle.stated_arrays.specs.Outline

@@ -17,6 +17,7 @@ ghost use Rattle.stated_acts.specs.Acts.{IsActAt, IsActAmong, IsActOfView, IsRef
 ghost use Rattle.stated_acts.specs.Standings.{standing_of};
 ghost use Rattle.line_acts.specs.Form.{form_of, IsSound};
 ghost use Rattle.stated_arrays.specs.CommandLines.{command_of_line};
+ghost use Rattle.stated_arrays.specs.Keeping.{IsCommandIn};
 ghost use Rattle.stated_arrays.specs.Transcript.{mount};
 ghost use Rattle.stated_arrays.specs.Unchecked.{is_unchecked_form, is_unchecked_in};
 ghost use Rattle.step_forms.specs.Given.{IsGiven};
@@ -51,12 +52,33 @@ pub enum Act {
     Aborts,
 }
 
-/// What a line of these bytes does for a session that stands so, where this is the name of the mount. Lines that aren't
-/// checked are left out.
+/// What a line of these bytes does for a session that stands so, where this is the name of the mount, and this is kept of the line: where nothing
+/// is, it is read again. Lines that aren't checked are left out.
 ///
 /// # Errors
 /// An allocation failed.
 pub fn act_of(
+    alloc: Global,
+    standing: &Standing,
+    mounts: &[Name],
+    bytes: &[u8],
+    kept: Option<Command>,
+) -> Result<Act, AllocError>
+    requires views { AreViews (get_by_text standing.now.names) }
+    requires mounts { mounts.now ≡ mount ∷ [] }
+    requires kept { IsCommandIn bytes.now kept }
+    requires checked { is_unchecked_in (command_of_line (mount ∷ []) bytes.now) ≡ false }
+    ensures act { IfOk result (IsActAt (standing_of standing.now) (line_of_bytes (mount ∷ []) bytes.now)) }
+    ensures sound { IfOk result IsSoundAct }
+{
+    match kept {
+        Some(command) => act_in(alloc, standing, command),
+        None => act_read(alloc, standing, mounts, bytes),
+    }
+}
+
+// The same of a line that is read again.
+fn act_read(
     alloc: Global,
     standing: &Standing,
     mounts: &[Name],

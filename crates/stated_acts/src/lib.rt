@@ -19,7 +19,7 @@ pub use opened_views::view_opened;
 pub use printing::may_print;
 pub use standing::{Ongoing, Standing};
 pub use stated_arrays::{
-    Asked, AskedLine, BuildCause, BuildError, Cutting, LeafOutcome, OpenPlan, Openings, Said,
-    SpecLeaf, Tree, Wanted, array_opened, array_ref, build, bytes_of, cut, first_unchecked, joined,
-    number_events, outcome_after, place_next, state_openings, wanted_by, words_told,
+    Asked, AskedLine, Asking, BuildCause, BuildError, Command, Cutting, LeafOutcome, OpenPlan,
+    Openings, Said, SpecLeaf, Tree, Wanted, array_opened, array_ref, build, bytes_of, cut, joined,
+    number_events, outcome_after, place_next, read_lines, state_openings, wanted_by, words_told,
 };

@@ -4,6 +4,7 @@
 pub use Rattle.stated_arrays.proofs.PairLaws.{pairs_of}
 -- laws of crates below, given on to those above
 pub use Rattle.transcript_cut.proofs.Laws.{sessions_within}
+pub use Rattle.transcript_cut.proofs.Laws.{commands_count, command_at, commands_taken}
 pub use Rattle.transcript_cut.proofs.Laws.{array_at-outline, count-outline}
 -- what is made of what is asked is stored; the outline of a legal history is legal
 pub use Rattle.stated_arrays.proofs.TableLaws.{made_stored, outline_legal}

@@ -12,6 +12,7 @@ pub mod OpenedViews
 -- names of crates below, given on to those above
 pub use Rattle.transcript_cut.specs.Claimed
 pub use Rattle.transcript_cut.specs.Cuttings
+pub use Rattle.transcript_cut.specs.Keeping
 pub use Rattle.transcript_cut.specs.Lines as CommandLines
 pub use Rattle.transcript_cut.specs.Numbers as AnswerNumbers
 pub use Rattle.transcript_cut.specs.Outline

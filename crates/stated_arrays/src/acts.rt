@@ -1,6 +1,7 @@
 // What lines ask for, as far as arrays and transactions go.
 ghost use Rattle.std.specs.Prelude.{◌≡◌, ◌≢◌, ◌∷◌, [], IfOk};
-ghost use Rattle.transcript_cut.specs.Form.{form_of, IsSound};
+ghost use Rattle.transcript_cut.specs.Form.{form_of, IsSound, IsSoundOther};
+ghost use Rattle.transcript_cut.specs.Keeping.{IsCommandOf};
 ghost use Rattle.transcript_cut.specs.Lines.{command_of_line};
 ghost use Rattle.transcript_cut.specs.Meanings.{line_of, line_of_bytes};
 ghost use Rattle.transcript_cut.specs.Transcript.{mount, asked_by};
@@ -25,19 +26,22 @@ pub enum Act {
     Other,
 }
 
-/// What a line asks for, where this is the name of the mount.
+/// What a line asks for, of which this is kept; where nothing is, it is read again.
 pub fn act_of(
     alloc: Global,
     scripts: &[List<u8>],
     line: AskedLine,
-    mounts: &[Name],
+    command: &Option<Command>,
 ) -> Result<Act, AllocError>
     requires placed { IsPlaced scripts.now line }
-    requires mounts { mounts.now ≡ mount ∷ [] }
+    requires command { IsCommandOf (line_at scripts.now line) command.now }
     ensures asked { IfOk result (IsActOf (asked_by (line_at scripts.now line))) }
     ensures sound { IfOk result IsSoundAct }
 {
-    act_of_bytes(alloc, bytes_of(scripts, line), mounts)
+    match command {
+        Some(command) => Ok(act_by(command)),
+        None => act_read(alloc, bytes_of(scripts, line)),
+    }
 }
 
 /// The bytes of a line.
@@ -47,6 +51,42 @@ pub fn bytes_of(scripts: &[List<u8>], line: AskedLine) -> &[u8]
 {
     let script = scripts[line.session as usize].items();
     &script[line.bytes.from..line.bytes.upto]
+}
+
+// What a command asks for that opens nothing.
+fn act_by(command: &Command) -> Act
+    requires { IsSoundOther command.now }
+    ensures asked { IsActOf (line_of (form_of command.now)) result }
+    ensures sound { IsSoundAct result }
+{
+    match command {
+        Command::Open { .. } => unreachable!(),
+        Command::Begin { .. } => Act::Begin,
+        Command::View { .. } => Act::Other,
+        Command::Join { .. } => Act::Other,
+        Command::Read { .. } => Act::Other,
+        Command::Write { .. } => Act::Other,
+        Command::Resize { .. } => Act::Other,
+        Command::Resolve { .. } => Act::Other,
+        Command::Commit => Act::Commit,
+        Command::Abort => Act::Abort,
+    }
+}
+
+// What a line of these bytes asks for.
+fn act_read(alloc: Global, bytes: &[u8]) -> Result<Act, AllocError>
+    ensures asked { IfOk result (IsActOf (line_of_bytes (mount ∷ []) bytes.now)) }
+    ensures sound { IfOk result IsSoundAct }
+{
+    let mounts = [the_mount(alloc)?];
+    act_of_bytes(alloc, bytes, &mounts)
+}
+
+// The name of the one mount.
+fn the_mount(alloc: Global) -> Result<Name, AllocError>
+    ensures { IfOk result (λ name. name ≡ mount) }
+{
+    Ok(Name::wrap(String::from_str(alloc, "memory")?))
 }
 
 fn act_of_bytes(alloc: Global, bytes: &[u8], mounts: &[Name]) -> Result<Act, AllocError>

@@ -1,17 +1,19 @@
 // What each line of scripts opens, outside of transactions.
-ghost use Rattle.std.specs.Prelude.{◌≡◌, ◌<◌, ◌∷◌, [], ◌++◌, IfOk, OnOk, length, slice_index_or, slice_set, false, List, ℕ};
+ghost use Rattle.std.specs.Prelude.{◌≡◌, ◌<◌, [], ◌++◌, IfOk, OnOk, length, slice_index_or, slice_set, false, List, ℕ};
 ghost use Rattle.std.specs.List.{AllByRecursion};
-ghost use Rattle.transcript_cut.specs.Transcript.{mount, Told};
+ghost use Rattle.transcript_cut.specs.Cuttings.{lines_kept};
+ghost use Rattle.transcript_cut.specs.Keeping.{AreCommandsOf, IsCommandOf};
+ghost use Rattle.transcript_cut.specs.Transcript.{Told};
 ghost use Rattle.transcript_cut.specs.Said.{AreSaid};
 ghost use Rattle.transcript_cut.specs.declared.said.Said.{Said as SaidOf};
-ghost use Rattle.transcript_cut.specs.Spans.{IsPlaced};
+ghost use Rattle.transcript_cut.specs.Spans.{line_at, IsPlaced};
 ghost use Rattle.stated_arrays.specs.Acts.{IsActOf, stands_by, IsSoundAct, leaves_by};
 ghost use Rattle.stated_arrays.specs.Lines.{AreKept, IsNewLine, IsKeptBehind, IsSoundLine};
 
 use crate::acts::{Act, act_of, stands_behind};
-use cells::{List, Name};
+use cells::List;
 use std::alloc::{AllocError, Global};
-use transcript_cut::{Said, SpecLeaf};
+use transcript_cut::{Command, Said, SpecLeaf};
 
 /// What a line opens, as far as its leaves were given numbers: the leaves that are left, for each other one the number that it takes, if
 /// it takes one, and how many of the numbers that its answer prints were taken.
@@ -27,35 +29,29 @@ pub fn keep_lines(
     alloc: Global,
     scripts: &[List<u8>],
     said: &[Said],
+    commands: &[Option<Command>],
 ) -> Result<Vec<OpenLine>, AllocError>
-    requires { AllByRecursion (λ (s : SaidOf). IsPlaced scripts.now s.line) said.now }
+    requires placed { AllByRecursion (λ (s : SaidOf). IsPlaced scripts.now s.line) said.now }
+    requires commands { AreCommandsOf (lines_kept scripts.now said.now) commands.now }
     ensures kept { IfOk result (λ lines. (transcript : List ℕ) (told : List Told)
         → AreSaid scripts.now transcript said.now told → AreKept [] told lines.items) }
     ensures sound { IfOk result (λ lines. AllByRecursion IsSoundLine lines.items) }
     ensures count { IfOk result (λ lines. length lines.items ≡ length said.now) }
 {
-    let mounts = [the_mount(alloc)?];
     let mut standing = falses(alloc, scripts.len())?;
-    keep_standing(alloc, scripts, &mounts, said, standing.as_mut_slice())
-}
-
-// The name of the one mount.
-fn the_mount(alloc: Global) -> Result<Name, AllocError>
-    ensures { IfOk result (λ name. name ≡ mount) }
-{
-    Ok(Name::wrap(String::from_str(alloc, "memory")?))
+    keep_standing(alloc, scripts, said, commands, standing.as_mut_slice())
 }
 
 // The same, with whether a transaction of each session stands, where none does at first.
 fn keep_standing(
     alloc: Global,
     scripts: &[List<u8>],
-    mounts: &[Name],
     said: &[Said],
+    commands: &[Option<Command>],
     standing: &mut [bool],
 ) -> Result<Vec<OpenLine>, AllocError>
     requires placed { AllByRecursion (λ (s : SaidOf). IsPlaced scripts.now s.line) said.now }
-    requires mounts { mounts.now ≡ mount ∷ [] }
+    requires commands { AreCommandsOf (lines_kept scripts.now said.now) commands.now }
     requires sessions { length standing.old ≡ length scripts.now }
     requires none { (k : ℕ) → slice_index_or standing.old k false ≡ false }
     ensures kept { IfOk result (λ lines. (transcript : List ℕ) (told : List Told)
@@ -64,7 +60,7 @@ fn keep_standing(
     ensures count { IfOk result (λ lines. length lines.items ≡ length said.now) }
 {
     let mut lines = Vec::with_capacity(alloc, said.len())?;
-    keep_all(alloc, scripts, mounts, said, standing, &mut lines)?;
+    keep_all(alloc, scripts, said, commands, standing, &mut lines)?;
     Ok(lines)
 }
 
@@ -84,13 +80,13 @@ fn falses(alloc: Global, count: usize) -> Result<Vec<bool>, AllocError>
 fn keep_all(
     alloc: Global,
     scripts: &[List<u8>],
-    mounts: &[Name],
     said: &[Said],
+    commands: &[Option<Command>],
     standing: &mut [bool],
     lines: &mut Vec<OpenLine>,
 ) -> Result<(), AllocError>
     requires placed { AllByRecursion (λ (s : SaidOf). IsPlaced scripts.now s.line) said.now }
-    requires mounts { mounts.now ≡ mount ∷ [] }
+    requires commands { AreCommandsOf (lines_kept scripts.now said.now) commands.now }
     requires sessions { length standing.old ≡ length scripts.now }
     requires none { (k : ℕ) → slice_index_or standing.old k false ≡ false }
     requires first { lines.old.items ≡ [] }
@@ -99,8 +95,9 @@ fn keep_all(
     ensures sound { OnOk result (AllByRecursion IsSoundLine lines.new.items) }
     ensures count { OnOk result (length lines.new.items ≡ length said.now) }
 {
-    for line in said {
-        keep_line(alloc, scripts, mounts, line, standing, lines)?;
+    for place in 0..said.len() {
+        let line = &said[place];
+        keep_line(alloc, scripts, line, &commands[place], standing, lines)?;
     }
     Ok(())
 }
@@ -109,17 +106,17 @@ fn keep_all(
 fn keep_line(
     alloc: Global,
     scripts: &[List<u8>],
-    mounts: &[Name],
     line: &Said,
+    command: &Option<Command>,
     standing: &mut [bool],
     lines: &mut Vec<OpenLine>,
 ) -> Result<(), AllocError>
     requires placed { IsPlaced scripts.now line.now.line }
-    requires mounts { mounts.now ≡ mount ∷ [] }
+    requires command { IsCommandOf (line_at scripts.now line.now.line) command.now }
     requires session { line.now.line.session < length standing.old }
     ensures { OnOk result (IsKeptBehind scripts.now line.now standing.old standing.new lines.old.items lines.new.items) }
 {
-    match act_of(alloc, scripts, line.line, mounts) {
+    match act_of(alloc, scripts, line.line, command) {
         Ok(act) => keep_act(alloc, line, standing, lines, act),
         Err(e) => Err(e),
     }

@@ -2,6 +2,8 @@
 ghost use Rattle.std.specs.Prelude.{◌≡◌, ◌++◌, IfOk, ℕ, List, length, map};
 ghost use Rattle.std.specs.List.{AllByRecursion};
 ghost use Rattle.transcript_cut.specs.declared.said.Said.{Said as SaidOf};
+ghost use Rattle.transcript_cut.specs.Cuttings.{lines_kept};
+ghost use Rattle.transcript_cut.specs.Keeping.{AreCommandsOf};
 ghost use Rattle.transcript_cut.specs.Spans.{IsPlaced};
 ghost use Rattle.stated_arrays.specs.Lines.{IsSoundLine, IsFreshLine};
 ghost use Rattle.stated_arrays.specs.Openings.{IsNumberedCut, IsStating};
@@ -15,7 +17,7 @@ use cells::List;
 use history::Event;
 use locations::Locations;
 use std::alloc::{AllocError, Global};
-use transcript_cut::Said;
+use transcript_cut::{Command, Said};
 
 /// The arrays that a transcript states.
 #[derive(Drop)]
@@ -30,8 +32,8 @@ pub struct Openings {
     pub takings: List<List<Option<u64>>>,
 }
 
-/// Which arrays a transcript states that is cut into these answers, whose numbers stand at these spots; `None` where no history is
-/// stated in which each event may follow those before it. A history may be stated only if `Some` is given, and has the outline that
+/// Which arrays a transcript states that is cut into these answers, whose numbers stand at these spots, where this is kept of the lines; `None`
+/// where no history is stated in which each event may follow those before it. A history may be stated only if `Some` is given, and has the outline that
 /// is given then.
 ///
 /// # Errors
@@ -41,11 +43,13 @@ pub fn state_openings(
     scripts: &[List<u8>],
     said: &[Said],
     spots: &[u64],
+    commands: &[Option<Command>],
 ) -> Result<Option<Openings>, AllocError>
-    requires { IsNumberedCut scripts.now said.now spots.now }
+    requires numbered { IsNumberedCut scripts.now said.now spots.now }
+    requires commands { AreCommandsOf (lines_kept scripts.now said.now) commands.now }
     ensures { IfOk result (IsStating scripts.now said.now) }
 {
-    let mut lines = keep_lines(alloc, scripts, said)?;
+    let mut lines = keep_lines(alloc, scripts, said, commands)?;
     state_lines(alloc, lines.as_mut_slice(), said, spots)
 }
 

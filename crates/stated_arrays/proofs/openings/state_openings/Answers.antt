@@ -9,17 +9,17 @@ use Rattle.stated_arrays.proofs.Kept.{fresh_of}
 use Rattle.stated_arrays.proofs.Told.{placed_of, stated_by_told}
 use Rattle.stated_arrays.proofs.openings.state_openings.Goals as goal
 
-pub keep_lines-requires : goal.keep_lines-requires
-keep_lines-requires c = placed_of c.args.scripts.now c.requires.transcript c.args.said.now c.requires.told c.requires.said_of
+pub keep_lines-requires-clause-placed : goal.keep_lines-requires-clause-placed
+keep_lines-requires-clause-placed c = placed_of c.args.scripts.now c.requires.numbered.transcript c.args.said.now c.requires.numbered.told c.requires.numbered.said_of
 
 pub state_lines-requires : goal.state_lines-requires
 state_lines-requires c =
     let same = sym c.as_mut_slice.ensures.value in
     record {
       sound = subst (AllByRecursion IsSoundLine) same c.in_ok-lines.ensures.sound;
-      fresh = subst (AllByRecursion IsFreshLine) same (fresh_of [] c.requires.told c.in_ok-lines.lines.items (c.in_ok-lines.ensures.kept c.requires.transcript c.requires.told c.requires.said_of));
+      fresh = subst (AllByRecursion IsFreshLine) same (fresh_of [] c.requires.numbered.told c.in_ok-lines.lines.items (c.in_ok-lines.ensures.kept c.requires.numbered.transcript c.requires.numbered.told c.requires.numbered.said_of));
       count = ap length c.as_mut_slice.ensures.value ∙ c.in_ok-lines.ensures.count;
-      table = exact_table c.args.scripts.now c.requires.transcript c.args.said.now c.requires.told c.args.spots.now c.requires.said_of c.requires.numbered c.requires.table;
+      table = exact_table c.args.scripts.now c.requires.numbered.transcript c.args.said.now c.requires.numbered.told c.args.spots.now c.requires.numbered.said_of c.requires.numbered.numbered c.requires.numbered.table;
     }
 
 pub returns : goal.returns
