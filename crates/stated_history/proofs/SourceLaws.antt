@@ -3,6 +3,8 @@ use Rattle.std.proofs.Common.{◌≡◌, ◌≢◌, ◌∙◌, ◌<◌, ◌≤�
 use Rattle.std.specs.Prelude.{slice_index_or, option_map, is_some, ◌↔◌, IsTrue, IfOk, OnOk}
 use Rattle.std.specs.List.{AllByRecursion, slice_get}
 use Rattle.serde_json.specs.Data.{Data}
+use Rattle.serde_json.specs.View.{view as data_in}
+use Rattle.serde_json.specs.declared.value.Value.{Value}
 use Rattle.json_forms.specs.Bytes.{data_of}
 use Rattle.history.specs.Acts.{Asked}
 use Rattle.history.specs.Commit.{Transaction}
@@ -17,7 +19,9 @@ use Rattle.stated_acts.specs.declared.Tree.{Tree}
 use Rattle.stack_driver.specs.declared.view.View.{View}
 use Rattle.stated_acts.specs.Openings.{IsStatedBy, AreTakenBy}
 use Rattle.stated_acts.specs.Outlined.{leaves_at, AreOpenedBy}
+use Rattle.stated_acts.specs.Keeping.{IsKeptOf}
 use Rattle.stated_acts.specs.Said.{IsSaid, AreSaid}
+use Rattle.stated_history.specs.Kept.{HoldsAnswer}
 use Rattle.stated_acts.specs.Spans.{bytes_at, line_at, IsPlaced, IsSpanOf}
 use Rattle.stated_acts.specs.Stances.{stance}
 use Rattle.stated_acts.specs.ToldStandings.{Standing, first_standing, standing, standing_asked, act_at}
@@ -282,12 +286,18 @@ got_below [] k x is = absurd (cc)
 got_below (y ∷ xs) zero x is = omega arith
 got_below (y ∷ xs) (suc k) x is = let rest = got_below xs k x is in omega (arith, rest)
 
+-- what is kept of an answer reads as it
+kept_data : (d : Data) (kept : Option Value) (answer : Value) → kept ≡ Some answer → IsKeptOf d kept → data_in answer ≡ d
+kept_data d None answer is holds = absurd (cc)
+kept_data d (Some v) answer is holds = ap data_in (sym (some_inj v answer is)) ∙ holds
+
 -- what is known of a line that something is kept of
 pub record IsLineOf (s : Source) (d : Said) : Type 0 where
   pub placed : IsPlaced s.scripts.now d.line
   pub checked : is_unchecked (line_at s.scripts.now d.line) ≡ false
   pub within : IsSpanOf s.transcript.now d.text
   pub some : d.text.from < d.text.upto
+  pub holds : HoldsAnswer s.transcript.now d
 
 pub line_of_source : (s : Source) (place : ℕ) (d : Said) → IsSource s → slice_get s.said.now place ≡ Some d → IsLineOf s d
 line_of_source s place d is at =
@@ -299,6 +309,7 @@ line_of_source s place d is at =
       checked = checked_at s.scripts.now s.transcript.now s.said.now place d is.cut is.checked at;
       within = said.within;
       some = (has_answer s of_it.0 place d line.0 is of_it.1 at line.1).some;
+      holds = λ answer kept. (has_answer s of_it.0 place d line.0 is of_it.1 at line.1).reads ∙ ap Some (sym (kept_data line.0.answer d.answer answer kept said.keeps));
     }
 
 -- behind the line, by what a step of the walk leaves

@@ -25,4 +25,5 @@ pub use Rattle.stated_acts.specs.Fitting
 pub use Rattle.stated_acts.specs.Unchecked
 pub use Rattle.stated_acts.specs.Verdicts
 pub use Rattle.stated_acts.specs.Cuttings
+pub use Rattle.stated_acts.specs.Keeping
 pub use Rattle.stated_acts.specs.Openings

@@ -8,7 +8,9 @@ ghost use Rattle.stack_driver.specs.Conditions.{IsView};
 ghost use Rattle.stack_driver.specs.declared.view.View.{View as ViewOf};
 ghost use Rattle.stated_acts.specs.Acts.{IsActAt, IsSoundAct};
 ghost use Rattle.stated_acts.specs.Standings.{standing_of, IsSoundStanding};
-ghost use Rattle.stated_history.specs.Kept.{HasKept, TellsLines};
+ghost use Rattle.stated_history.specs.Kept.{data_read, HasKept, HoldsAnswer, IsKeptAt, TellsLines};
+ghost use Rattle.stated_acts.specs.Cuttings.{lines_kept};
+ghost use Rattle.stated_acts.specs.Keeping.{AreCommandsOf, IsCommandOf};
 ghost use Rattle.stated_history.specs.Walks.{IsSource, outlined, IsReached, IsNotPast, IsInSession};
 ghost use Rattle.stated_history.specs.Walks.{IsAnswerAt, IsFacingLine, IsGoneOnAt, TellsAt};
 ghost use Rattle.stated_history.specs.Walks.{IsKeptOutline, IsTakenBy, IsViewTaken, line_said, takings_at};
@@ -16,6 +18,7 @@ ghost use Rattle.stated_acts.specs.Spans.{line_at, IsPlaced, IsSpanOf};
 ghost use Rattle.stated_acts.specs.Transcript.{mount, asked_by};
 ghost use Rattle.stated_acts.specs.Unchecked.{is_unchecked};
 
+use crate::answers::ReadAnswer;
 use crate::kept::{StatedLines, keep};
 use crate::putting::Commit;
 use crate::walk::Walk;
@@ -23,7 +26,9 @@ use cells::{List, Name};
 use json_forms::parse;
 use serde_json::Value;
 use stack_driver::View;
-use stated_acts::{Act, Openings, Said, Standing, act_of, bytes_of, may_print, view_opened};
+use stated_acts::{
+    Act, Command, Openings, Said, Standing, act_of, bytes_of, may_print, view_opened,
+};
 use std::alloc::{AllocError, Global};
 
 /// A transcript that is cut into these answers to the lines of scripts, and the arrays that it states.
@@ -38,19 +43,25 @@ pub struct Source<'s> {
 }
 
 /// The commit of each line that prints a number of one, and what is kept of what each does; `None` where a line prints other
-/// numbers than those of the events that it states.
+/// numbers than those of the events that it states. What is kept of the lines is taken.
 ///
 /// # Errors
 /// An allocation failed.
-pub fn state_commits(alloc: Global, source: &Source) -> Result<Option<StatedLines>, AllocError>
-    requires { IsSource source.now }
+pub fn state_commits(
+    alloc: Global,
+    source: &Source,
+    commands: &mut [Option<Command>],
+) -> Result<Option<StatedLines>, AllocError>
+    requires source { IsSource source.now }
+    requires commands { AreCommandsOf (lines_kept source.now.scripts.now source.now.said.now) commands.old }
     ensures { IfOk result (TellsLines source.now) }
 {
     let mut commits = Vec::with_capacity(alloc, source.said.len())?;
     let mut acts = Vec::with_capacity(alloc, source.said.len())?;
     let mut walk = Walk::first(alloc);
     for place in 0..source.said.len() {
-        match state_line(alloc, &mut walk, source, place, &mut acts)? {
+        let command = commands[place].take();
+        match state_line(alloc, &mut walk, source, place, command, &mut acts)? {
             Some(commit) => commits.push(commit)?,
             None => return Ok(None),
         }
@@ -67,10 +78,12 @@ fn state_line(
     walk: &mut Walk,
     source: &Source,
     place: usize,
+    command: Option<Command>,
     acts: &mut Vec<Option<Act>>,
 ) -> Result<Option<Option<Commit>>, AllocError>
     requires source { IsSource source.now }
     requires place { place < length source.now.said.now }
+    requires command { IsKeptAt source.now place command }
     requires sound { IsSoundStanding walk.old.standing }
     requires reached { IsReached source.now place walk.old }
     requires order { IsNotPast source.now place walk.old }
@@ -81,10 +94,9 @@ fn state_line(
 {
     let said = &source.said[place];
     walk.turn_to(alloc, said.line.session);
-    let answer = answer_said(alloc, source, said)?;
-    match act_said(alloc, &walk.standing, source, said) {
+    match act_said(alloc, &walk.standing, source, said, command) {
         Ok(act) => match keep(alloc, acts, &act) {
-            Ok(()) => state_act(alloc, walk, source, place, act, &answer),
+            Ok(()) => state_answered(alloc, walk, source, place, act),
             Err(e) => lose(act, e),
         },
         Err(e) => Err(e),
@@ -97,7 +109,30 @@ fn lose(_: Act, e: AllocError) -> Result<Option<Option<Commit>>, AllocError>
     Err(e)
 }
 
-// The same by what the line does and its answer, where the walk stands before it.
+// The same by what the line does, where the walk stands before it.
+fn state_answered(
+    alloc: Global,
+    walk: &mut Walk,
+    source: &Source,
+    place: usize,
+    act: Act,
+) -> Result<Option<Option<Commit>>, AllocError>
+    requires source { IsSource source.now }
+    requires place { place < length source.now.said.now }
+    requires sound { IsSoundStanding walk.old.standing }
+    requires act { IsSoundAct act }
+    requires facing { IsFacingLine source.now place walk.old act }
+    ensures next { IfOk result (TellsAt source.now place walk.new) }
+    ensures session { OnOk result (walk.new.session ≡ walk.old.session) }
+    ensures sound { OnOk result (IsSoundStanding walk.new.standing) }
+{
+    match answer_said(alloc, source, &source.said[place]) {
+        Ok(answer) => state_act(alloc, walk, source, place, act, answer.value()),
+        Err(e) => lose(act, e),
+    }
+}
+
+// The same by its answer, too.
 fn state_act(
     alloc: Global,
     walk: &mut Walk,
@@ -169,7 +204,7 @@ fn fail(_: Act, e: AllocError) -> Result<Option<Commit>, AllocError>
     Err(e)
 }
 
-/// What a line does for its session, which stands so before it.
+/// What a line does for its session, which stands so before it, where this is kept of the line.
 ///
 /// # Errors
 /// An allocation failed.
@@ -178,10 +213,12 @@ pub fn act_said(
     standing: &Standing,
     source: &Source,
     said: &Said,
+    kept: Option<Command>,
 ) -> Result<Act, AllocError>
     requires mounts { source.now.mounts.now ≡ mount ∷ [] }
     requires views { AreViews (get_by_text standing.now.names) }
     requires placed { IsPlaced source.now.scripts.now said.now.line }
+    requires kept { IsCommandOf (line_at source.now.scripts.now said.now.line) kept }
     requires checked { is_unchecked (line_at source.now.scripts.now said.now.line) ≡ false }
     ensures act { IfOk result (IsActAt (standing_of standing.now)
         (asked_by (line_at source.now.scripts.now said.now.line))) }
@@ -192,23 +229,40 @@ pub fn act_said(
         standing,
         source.mounts,
         bytes_of(source.scripts, said.line),
+        kept,
     )
 }
 
-/// The answer to a line, as JSON: that of its text without the LF at the end.
+/// The answer to a line, as JSON: that of its text without the LF at the end, which is read again where it isn't kept.
 ///
 /// # Errors
 /// An allocation failed.
-pub fn answer_said(alloc: Global, source: &Source, said: &Said) -> Result<Value, AllocError>
+pub fn answer_said<'s>(
+    alloc: Global,
+    source: &Source,
+    said: &'s Said,
+) -> Result<ReadAnswer<'s>, AllocError>
     requires within { IsSpanOf source.now.transcript.now said.now.text }
     requires some { said.now.text.from < said.now.text.upto }
-    ensures { IfOk result (λ v. data_of (line_said said.now source.now.transcript.now) ≡ Some (data_in v)) }
+    requires kept { HoldsAnswer source.now.transcript.now said.now }
+    ensures { IfOk result (λ a. data_of (line_said said.now source.now.transcript.now) ≡ Some (data_read a)) }
+{
+    match &said.answer {
+        Some(answer) => Ok(ReadAnswer::Kept { answer }),
+        None => read_again(alloc, source, said),
+    }
+}
+
+fn read_again<'s>(alloc: Global, source: &Source, said: &Said) -> Result<ReadAnswer<'s>, AllocError>
+    requires within { IsSpanOf source.now.transcript.now said.now.text }
+    requires some { said.now.text.from < said.now.text.upto }
+    ensures { IfOk result (λ a. data_of (line_said said.now source.now.transcript.now) ≡ Some (data_read a)) }
 {
     match parse(
         alloc,
         &source.transcript[said.text.from..said.text.upto - 1],
     ) {
-        Ok(answer) => Ok(answer),
+        Ok(answer) => Ok(ReadAnswer::Again { answer }),
         Err(_) => Err(AllocError),
     }
 }
