@@ -2,14 +2,16 @@
 ghost use Rattle.std.specs.Prelude.{◌<◌, ◌^◌, ℕ, List, length};
 ghost use Rattle.std.specs.List.{AllByRecursion};
 ghost use Rattle.transcript_check.specs.Openings.{IsNumberedCut};
-ghost use Rattle.transcript_check.specs.Cuttings.{IsWholeCut};
+ghost use Rattle.transcript_check.specs.Cuttings.{lines_kept, IsWholeCut};
+ghost use Rattle.transcript_check.specs.Keeping.{AreCommandsOf};
+ghost use Rattle.transcript_check.specs.Transcript.{lines_of_scripts};
 ghost use Rattle.transcript_check.specs.declared.Said.{Said as SaidOf};
 
 use crate::fault::Fault;
 use cells::List;
 use std::alloc::Global;
 use transcript_check::{
-    Cutting, Openings, Said, cut, first_unchecked, number_events, state_openings,
+    Asking, Command, Cutting, Openings, Said, cut, number_events, read_lines, state_openings,
 };
 
 // The most scripts of a case.
@@ -26,9 +28,11 @@ pub(crate) fn judged(
     if scripts.len() > MOST {
         return Err(Fault::Line);
     }
-    match first_unchecked(alloc, scripts)? {
-        Some(line) => not_checked(alloc, line.session, line.number),
-        None => by_cutting(alloc, scripts, transcript, arrays),
+    match read_lines(alloc, scripts)? {
+        Asking::Checked { commands } => {
+            by_cutting(alloc, scripts, transcript, commands.items(), arrays)
+        }
+        Asking::Unchecked { line } => not_checked(alloc, line.session, line.number),
     }
 }
 
@@ -41,12 +45,14 @@ fn by_cutting(
     alloc: Global,
     scripts: &[List<u8>],
     transcript: &[u8],
+    commands: &[Option<Command>],
     arrays: bool,
 ) -> Result<String, Fault>
-    requires { length scripts.now < 2 ^ 32 }
+    requires few { length scripts.now < 2 ^ 32 }
+    requires commands { AreCommandsOf (lines_of_scripts 0 scripts.now) commands.now }
 {
     match cut(alloc, scripts, transcript) {
-        Ok(Cutting::Whole { said }) => by_numbers(alloc, scripts, said.items(), arrays),
+        Ok(Cutting::Whole { said }) => by_numbers(alloc, scripts, said.items(), commands, arrays),
         Ok(Cutting::Broken) => part(alloc, 1),
         Ok(Cutting::CutOff { line }) => not_checked(alloc, line.session, line.number),
         Err(e) => Err(Fault::from(e)),
@@ -62,13 +68,15 @@ fn by_numbers(
     alloc: Global,
     scripts: &[List<u8>],
     said: &[Said],
+    commands: &[Option<Command>],
     arrays: bool,
 ) -> Result<String, Fault>
     requires sessions { AllByRecursion (λ (s : SaidOf). s.line.session < length scripts.now) said.now }
     requires cut { (transcript : List ℕ) × IsWholeCut scripts.now transcript said.now }
+    requires commands { AreCommandsOf (lines_kept scripts.now said.now) commands.now }
 {
     match number_events(alloc, scripts.len(), said) {
-        Ok(Some(spots)) => by_spots(alloc, scripts, said, spots.items(), arrays),
+        Ok(Some(spots)) => by_spots(alloc, scripts, said, commands, spots.items(), arrays),
         Ok(None) => part(alloc, 2),
         Err(e) => Err(Fault::from(e)),
     }
@@ -78,13 +86,15 @@ fn by_spots(
     alloc: Global,
     scripts: &[List<u8>],
     said: &[Said],
+    commands: &[Option<Command>],
     spots: &[u64],
     arrays: bool,
 ) -> Result<String, Fault>
-    requires { IsNumberedCut scripts.now said.now spots.now }
+    requires numbered { IsNumberedCut scripts.now said.now spots.now }
+    requires commands { AreCommandsOf (lines_kept scripts.now said.now) commands.now }
 {
     if arrays {
-        by_arrays(alloc, scripts, said, spots)
+        by_arrays(alloc, scripts, said, commands, spots)
     } else {
         numbered(alloc, said.len(), spots)
     }
@@ -98,11 +108,13 @@ fn by_arrays(
     alloc: Global,
     scripts: &[List<u8>],
     said: &[Said],
+    commands: &[Option<Command>],
     spots: &[u64],
 ) -> Result<String, Fault>
-    requires { IsNumberedCut scripts.now said.now spots.now }
+    requires numbered { IsNumberedCut scripts.now said.now spots.now }
+    requires commands { AreCommandsOf (lines_kept scripts.now said.now) commands.now }
 {
-    match state_openings(alloc, scripts, said, spots)? {
+    match state_openings(alloc, scripts, said, spots, commands)? {
         Some(openings) => opened(alloc, &openings),
         None => part(alloc, 3),
     }

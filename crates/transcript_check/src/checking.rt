@@ -3,8 +3,9 @@ ghost use Rattle.std.specs.Prelude.{◌≡◌, ◌<◌, ◌^◌, List as ListOf,
 ghost use Rattle.std.specs.FinMap as finmap;
 ghost use Rattle.transcript_fits.specs.Legal.{IsLegal};
 ghost use Rattle.std.specs.List.{AllByRecursion};
-ghost use Rattle.transcript_fits.specs.Cuttings.{IsWholeCut};
-ghost use Rattle.transcript_fits.specs.StatedOpenings.{IsNumberedCut, AreStatedBy};
+ghost use Rattle.transcript_fits.specs.Cuttings.{lines_kept, IsWholeCut};
+ghost use Rattle.transcript_fits.specs.Keeping.{AreCommandsOf};
+ghost use Rattle.transcript_fits.specs.StatedOpenings.{IsNumberedCut};
 ghost use Rattle.transcript_fits.specs.Unchecked.{AreChecked};
 ghost use Rattle.transcript_fits.specs.StatedHistories.{ArePutIn};
 ghost use Rattle.transcript_fits.specs.Kept.{AreKeptActs, TellsLines};
@@ -12,7 +13,7 @@ ghost use Rattle.transcript_fits.specs.Walks.{IsSource, AreToldIn, outlined, Tel
 ghost use Rattle.transcript_check.specs.Parts.{AreAllNumbered, AreStatedIn, IsNumberedSource};
 ghost use Rattle.transcript_check.specs.declared.verdict.Verdict.TheVariants.{Yes, No};
 ghost use Rattle.transcript_check.specs.Verdicts.{verdict_of};
-ghost use Rattle.transcript_fits.specs.Transcript.{mount, Told};
+ghost use Rattle.transcript_fits.specs.Transcript.{lines_of_scripts, mount, Told};
 ghost use Rattle.transcript_fits.specs.Verdicts.{IsVerdict};
 ghost use Rattle.transcript_fits.specs.Stores.{IsStoreOf};
 
@@ -21,9 +22,9 @@ use crate::verdict::Verdict;
 use cells::{List, Name, copy_name};
 use std::alloc::{AllocError, Global};
 use transcript_fits::{
-    Act, Commit, Cutting, Event, Openings, Said, Source, StatedLines, VersionStore, are_answered,
-    commits_complete_the_history, cut, first_unchecked, number_events, put_commits, state_commits,
-    state_openings, sweep_into,
+    Act, Asking, Command, Commit, Cutting, Event, Said, Source, StatedLines, VersionStore,
+    are_answered, commits_complete_the_history, cut, number_events, put_commits, read_lines,
+    state_commits, state_openings, sweep_into,
 };
 
 /// Whether a transcript fits scripts, one of each session in order, by which part it doesn't, or because of which line it isn't checked. There
@@ -35,21 +36,44 @@ pub fn check(alloc: Global, scripts: &[List<u8>], transcript: &[u8]) -> Result<V
     requires { length scripts.now < 2 ^ 32 }
     ensures { IfOk result (λ v. IsVerdict scripts.now transcript.now (verdict_of v)) }
 {
-    match first_unchecked(alloc, scripts) {
-        Ok(Some(line)) => Ok(Verdict::not_checked(line)),
-        Ok(None) => check_text(alloc, scripts, transcript),
+    match read_lines(alloc, scripts) {
+        Ok(Asking::Checked { commands }) => check_lines_read(alloc, scripts, transcript, commands),
+        Ok(Asking::Unchecked { line }) => Ok(Verdict::not_checked(line)),
         Err(e) => Err(e),
     }
 }
 
-// The same of checked scripts.
-fn check_text(alloc: Global, scripts: &[List<u8>], transcript: &[u8]) -> Result<Verdict, AllocError>
+// The same of checked scripts, of whose lines this is kept.
+fn check_lines_read(
+    alloc: Global,
+    scripts: &[List<u8>],
+    transcript: &[u8],
+    commands: List<Option<Command>>,
+) -> Result<Verdict, AllocError>
     requires few { length scripts.now < 2 ^ 32 }
     requires checked { AreChecked scripts.now }
+    requires commands { AreCommandsOf (lines_of_scripts 0 scripts.now) commands }
+    ensures { IfOk result (λ v. IsVerdict scripts.now transcript.now (verdict_of v)) }
+{
+    let mut commands = commands.into_inner();
+    check_text(alloc, scripts, transcript, commands.as_mut_slice())
+}
+
+fn check_text(
+    alloc: Global,
+    scripts: &[List<u8>],
+    transcript: &[u8],
+    commands: &mut [Option<Command>],
+) -> Result<Verdict, AllocError>
+    requires few { length scripts.now < 2 ^ 32 }
+    requires checked { AreChecked scripts.now }
+    requires commands { AreCommandsOf (lines_of_scripts 0 scripts.now) commands.old }
     ensures { IfOk result (λ v. IsVerdict scripts.now transcript.now (verdict_of v)) }
 {
     match cut(alloc, scripts, transcript) {
-        Ok(Cutting::Whole { said }) => check_said(alloc, scripts, transcript, said.items()),
+        Ok(Cutting::Whole { said }) => {
+            check_said(alloc, scripts, transcript, said.items(), commands)
+        }
         Ok(Cutting::Broken) => Ok(Verdict::No { part: 1 }),
         Ok(Cutting::CutOff { line }) => Ok(Verdict::not_checked(line)),
         Err(e) => Err(e),
@@ -62,14 +86,16 @@ fn check_said(
     scripts: &[List<u8>],
     transcript: &[u8],
     said: &[Said],
+    commands: &mut [Option<Command>],
 ) -> Result<Verdict, AllocError>
     requires few { length scripts.now < 2 ^ 32 }
     requires checked { AreChecked scripts.now }
     requires cut { IsWholeCut scripts.now transcript.now said.now }
+    requires commands { AreCommandsOf (lines_of_scripts 0 scripts.now) commands.old }
     ensures { IfOk result (λ v. IsVerdict scripts.now transcript.now (verdict_of v)) }
 {
     match number_events(alloc, scripts.len(), said) {
-        Ok(Some(spots)) => check_numbers(alloc, scripts, transcript, said, spots.items()),
+        Ok(Some(spots)) => check_numbers(alloc, scripts, transcript, said, spots.items(), commands),
         Ok(None) => Ok(Verdict::No { part: 2 }),
         Err(e) => Err(e),
     }
@@ -82,47 +108,31 @@ fn check_numbers(
     transcript: &[u8],
     said: &[Said],
     spots: &[u64],
+    commands: &mut [Option<Command>],
 ) -> Result<Verdict, AllocError>
     requires few { length scripts.now < 2 ^ 32 }
     requires checked { AreChecked scripts.now }
     requires cut { IsWholeCut scripts.now transcript.now said.now }
     requires numbered { AreAllNumbered scripts.now transcript.now said.now }
     requires table { IsNumberedCut scripts.now said.now spots.now }
-    ensures { IfOk result (λ v. IsVerdict scripts.now transcript.now (verdict_of v)) }
-{
-    match state_openings(alloc, scripts, said, spots) {
-        Ok(Some(openings)) => check_openings(alloc, scripts, transcript, said, spots, openings),
-        Ok(None) => Ok(Verdict::No { part: 3 }),
-        Err(e) => Err(e),
-    }
-}
-
-// The same, where the transcript states these arrays.
-fn check_openings(
-    alloc: Global,
-    scripts: &[List<u8>],
-    transcript: &[u8],
-    said: &[Said],
-    spots: &[u64],
-    openings: Openings,
-) -> Result<Verdict, AllocError>
-    requires few { length scripts.now < 2 ^ 32 }
-    requires checked { AreChecked scripts.now }
-    requires cut { IsWholeCut scripts.now transcript.now said.now }
-    requires numbered { AreAllNumbered scripts.now transcript.now said.now }
-    requires table { IsNumberedCut scripts.now said.now spots.now }
-    requires stated { AreStatedBy scripts.now said.now openings }
+    requires commands { AreCommandsOf (lines_of_scripts 0 scripts.now) commands.old }
     ensures { IfOk result (λ v. IsVerdict scripts.now transcript.now (verdict_of v)) }
 {
     let mounts = [the_mount(alloc)?];
-    let source = Source {
-        scripts,
-        transcript,
-        said,
-        openings: &openings,
-        mounts: &mounts,
-    };
-    check_source(alloc, &source, spots)
+    match state_openings(alloc, scripts, said, spots, commands) {
+        Ok(Some(openings)) => {
+            let source = Source {
+                scripts,
+                transcript,
+                said,
+                openings: &openings,
+                mounts: &mounts,
+            };
+            check_source(alloc, &source, spots, commands)
+        }
+        Ok(None) => Ok(Verdict::No { part: 3 }),
+        Err(e) => Err(e),
+    }
 }
 
 // The name of the one mount.
@@ -133,12 +143,18 @@ fn the_mount(alloc: Global) -> Result<Name, AllocError>
 }
 
 // The same of a source.
-fn check_source(alloc: Global, source: &Source, spots: &[u64]) -> Result<Verdict, AllocError>
-    requires { IsNumberedSource source.now spots.now }
+fn check_source(
+    alloc: Global,
+    source: &Source,
+    spots: &[u64],
+    commands: &mut [Option<Command>],
+) -> Result<Verdict, AllocError>
+    requires source { IsNumberedSource source.now spots.now }
+    requires commands { AreCommandsOf (lines_kept source.now.scripts.now source.now.said.now) commands.old }
     ensures { IfOk result (λ v. IsVerdict source.now.scripts.now source.now.transcript.now (verdict_of v)) }
 {
     commits_complete_the_history();
-    match state_commits(alloc, source) {
+    match state_commits(alloc, source, commands) {
         Ok(Some(lines)) => check_lines(alloc, source, spots, lines),
         Ok(None) => Ok(Verdict::No { part: 3 }),
         Err(e) => Err(e),

@@ -18,6 +18,7 @@ pub use running::check_run;
 pub use script_streams::{MemoryScripts, MemorySink, Reader, Writer};
 pub use stating::stated_history_may_be_swept;
 pub use transcript_fits::{
-    Cutting, Openings, Said, Source, cut, first_unchecked, number_events, state_openings,
+    Asking, Command, Cutting, Openings, Said, Source, cut, number_events, read_lines,
+    state_openings,
 };
 pub use verdict::Verdict;

@@ -18,6 +18,7 @@ pub use Rattle.open_fits.specs.Stores
 pub use Rattle.stated_history.specs.AnswerNumbers
 pub use Rattle.stated_history.specs.Claimed
 pub use Rattle.stated_history.specs.Cuttings
+pub use Rattle.stated_history.specs.Keeping
 pub use Rattle.stated_history.specs.Outline
 pub use Rattle.stated_history.specs.Said
 pub use Rattle.stated_history.specs.Spans

@@ -31,6 +31,7 @@ pub(crate) fn act_before(
             &walk.standing,
             judge.source,
             &judge.source.said[place],
+            None,
         ),
         Err(e) => Err(e),
     }

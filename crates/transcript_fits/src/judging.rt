@@ -136,7 +136,7 @@ fn judge_line(
         &judge.source.said[place],
         judge.source.transcript,
         window,
-        &answer,
+        answer.value(),
     );
     judge_told(alloc, judge, stand, line, place)
 }

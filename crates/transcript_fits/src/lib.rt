@@ -18,7 +18,7 @@ pub use history::{ArrayInfo, Event, Home, Kind, Op};
 pub use judging::are_answered;
 pub use open_fits::{VersionStore, sweep_into};
 pub use stated_history::{
-    Act, AskedLine, Commit, Cutting, Openings, Said, Source, StatedLines,
-    commits_complete_the_history, cut, first_unchecked, number_events, put_commits, state_commits,
+    Act, AskedLine, Asking, Command, Commit, Cutting, Openings, Said, Source, StatedLines,
+    commits_complete_the_history, cut, number_events, put_commits, read_lines, state_commits,
     state_openings,
 };

@@ -1,7 +1,7 @@
 use Rattle.transcript_cases.proofs.judging.by_numbers.Goals as goal
 
-pub by_spots-requires : goal.by_spots-requires
-by_spots-requires c =
+pub by_spots-requires-clause-numbered : goal.by_spots-requires-clause-numbered
+by_spots-requires-clause-numbered c =
     let whole = c.requires.cut.1 in
     let numbering = rw c.in-Ok-Some.field-0-is at c.in-Ok-Some.ensures in
     record {

@@ -9,6 +9,6 @@ check_lines-requires-clause-lines c = subst (TellsLines c.args.source.now) c.in-
 pub returns-in-Ok-None : goal.returns-in-Ok-None
 returns-in-Ok-None c =
     let s = c.args.source.now in
-    let is = c.requires.source in
+    let is = c.requires.source.source in
     let tells = subst (TellsLines s) c.in-Ok-None.field-0-is c.in-Ok-None.ensures in
-    none_claimed s is c.requires.numbered (c.commits_complete_the_history.ensures.none s is.cut.told is (told_in s is) (tells is.cut.told (told_in s is)))
+    none_claimed s is c.requires.source.numbered (c.commits_complete_the_history.ensures.none s is.cut.told is (told_in s is) (tells is.cut.told (told_in s is)))

@@ -1,4 +1,4 @@
-use Rattle.std.proofs.Common.{◌≡◌, ◌+◌, Some, get_or, sym, subst, ◌∙◌}
+use Rattle.std.proofs.Common.{◌≡◌, ◌+◌, Some, get_or, sym, ap, subst, ◌∙◌}
 use Rattle.std.proofs.lemmas.Option.{slice_get-get_or}
 use Rattle.std.proofs.lemmas.Result.{IfOk-weaker}
 use Rattle.json_forms.specs.Bytes.{data_of}
@@ -46,9 +46,9 @@ judge_told-requires-clause-line c =
     let first = get_or s.said.now place c.index-judge-place.result in
     let d = get_or s.said.now place c.index-judge-place-2.result in
     let got = slice_get-get_or s.said.now place c.index-judge-place-2.result low in
-    let reads : data_of (line_said d s.transcript.now) ≡ Some (data_in c.in_ok-answer.answer) =
-    subst (λ (x : Said). data_of (line_said x s.transcript.now) ≡ Some (data_in c.in_ok-answer.answer)) (some_inj first d (sym (slice_get-get_or s.said.now place c.index-judge-place.result low) ∙ got)) c.in_ok-answer.ensures in
-    line_here c.args.judge.now c.requires.judge c.args.frame.now c.args.stand.now c.args.at c.window-window.result c.window-window.ensures c.told_line-line.result (data_in c.in_ok-answer.answer) d got c.told_line-line.ensures reads f.0 f.1 f.2 f.3 f.4 f.5
+    let reads : data_of (line_said d s.transcript.now) ≡ Some (data_in c.value.result.now) =
+    subst (λ (x : Said). data_of (line_said x s.transcript.now) ≡ Some (data_in c.value.result.now)) (some_inj first d (sym (slice_get-get_or s.said.now place c.index-judge-place.result low) ∙ got)) (c.in_ok-answer.ensures ∙ ap Some (sym c.value.ensures)) in
+    line_here c.args.judge.now c.requires.judge c.args.frame.now c.args.stand.now c.args.at c.window-window.result c.window-window.ensures c.told_line-line.result (data_in c.value.result.now) d got c.told_line-line.ensures reads f.0 f.1 f.2 f.3 f.4 f.5
 
 pub returns-clause-fits : goal.returns-clause-fits
 returns-clause-fits c =
@@ -59,11 +59,11 @@ returns-clause-fits c =
     let first = get_or s.said.now place c.index-judge-place.result in
     let d = get_or s.said.now place c.index-judge-place-2.result in
     let got = slice_get-get_or s.said.now place c.index-judge-place-2.result low in
-    let reads : data_of (line_said d s.transcript.now) ≡ Some (data_in c.in_ok-answer.answer) =
-    subst (λ (x : Said). data_of (line_said x s.transcript.now) ≡ Some (data_in c.in_ok-answer.answer)) (some_inj first d (sym (slice_get-get_or s.said.now place c.index-judge-place.result low) ∙ got)) c.in_ok-answer.ensures in
+    let reads : data_of (line_said d s.transcript.now) ≡ Some (data_in c.value.result.now) =
+    subst (λ (x : Said). data_of (line_said x s.transcript.now) ≡ Some (data_in c.value.result.now)) (some_inj first d (sym (slice_get-get_or s.said.now place c.index-judge-place.result low) ∙ got)) (c.in_ok-answer.ensures ∙ ap Some (sym c.value.ensures)) in
     IfOk-weaker c.judge_told.result _ _
     (λ fit fits session begin many told of under stands of_it.
-    fits_here c.args.judge.now c.requires.judge c.args.frame.now c.args.stand.now c.args.at c.window-window.result c.window-window.ensures c.told_line-line.result (data_in c.in_ok-answer.answer) d got c.told_line-line.ensures reads session begin many of under stands fit fits told of_it) c.judge_told.ensures.fits
+    fits_here c.args.judge.now c.requires.judge c.args.frame.now c.args.stand.now c.args.at c.window-window.result c.window-window.ensures c.told_line-line.result (data_in c.value.result.now) d got c.told_line-line.ensures reads session begin many of under stands fit fits told of_it) c.judge_told.ensures.fits
 
 pub returns-clause-stand : goal.returns-clause-stand
 returns-clause-stand c =
@@ -74,9 +74,16 @@ returns-clause-stand c =
     let first = get_or s.said.now place c.index-judge-place.result in
     let d = get_or s.said.now place c.index-judge-place-2.result in
     let got = slice_get-get_or s.said.now place c.index-judge-place-2.result low in
-    let reads : data_of (line_said d s.transcript.now) ≡ Some (data_in c.in_ok-answer.answer) =
-    subst (λ (x : Said). data_of (line_said x s.transcript.now) ≡ Some (data_in c.in_ok-answer.answer)) (some_inj first d (sym (slice_get-get_or s.said.now place c.index-judge-place.result low) ∙ got)) c.in_ok-answer.ensures in
+    let reads : data_of (line_said d s.transcript.now) ≡ Some (data_in c.value.result.now) =
+    subst (λ (x : Said). data_of (line_said x s.transcript.now) ≡ Some (data_in c.value.result.now)) (some_inj first d (sym (slice_get-get_or s.said.now place c.index-judge-place.result low) ∙ got)) (c.in_ok-answer.ensures ∙ ap Some (sym c.value.ensures)) in
     if_ok_three c.judge_told.result _ _ _ _
     (λ fit fits on passed session begin many of under stands goes.
-    stands_here c.args.judge.now c.requires.judge c.args.frame.now c.args.stand.now c.args.at c.window-window.result c.window-window.ensures c.told_line-line.result (data_in c.in_ok-answer.answer) d got c.told_line-line.ensures reads session begin many of under stands fit fits c.judge_told.new.stand on (passed goes) goes)
+    stands_here c.args.judge.now c.requires.judge c.args.frame.now c.args.stand.now c.args.at c.window-window.result c.window-window.ensures c.told_line-line.result (data_in c.value.result.now) d got c.told_line-line.ensures reads session begin many of under stands fit fits c.judge_told.new.stand on (passed goes) goes)
     c.judge_told.ensures.fits c.judge_told.ensures.on c.judge_told.ensures.passed
+
+pub answer_said-requires-clause-kept : goal.answer_said-requires-clause-kept
+answer_said-requires-clause-kept c =
+    let s = c.args.judge.now.source.now in
+    let f = c.requires.frame in
+    let place = c.args.frame.now.begin + c.args.at in
+    (line_of_source s place (get_or s.said.now place c.index-judge-place.result) c.requires.judge.source (slice_get-get_or s.said.now place c.index-judge-place.result (place_in c.args.judge.now c.requires.judge f.0 f.1 f.2 c.args.at c.args.frame.now f.3 f.4))).holds
