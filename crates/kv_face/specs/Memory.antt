@@ -50,6 +50,7 @@ abbrev pub seen_of : MemoryStore → StoreSeen
 seen_of s = record {
   contents = Some s.contents;
   faults = faults_of s;
+  counts = [];
   prefixes = prefixes_of s;
   names = None;
   standing = s.standing;

@@ -1,5 +1,5 @@
 -- What a key-value store means: a map from keys to bytes, and what a list of changes makes of it.
-use Rattle.std.specs.Prelude.{◌≡◌, ◌<◌, ◌≤◌, ℕ, ◌+◌, List, [], ◌∷◌, ◌++◌, length, drop, map, fold, Bool, true, ◌||◌, nat_le, nat_eq, Option, Some, None}
+use Rattle.std.specs.Prelude.{◌≡◌, ◌<◌, ◌≤◌, ℕ, ◌+◌, List, [], ◌∷◌, ◌++◌, length, slice_index, drop, map, fold, Bool, true, ◌||◌, nat_le, nat_eq, Option, Some, None}
 use Rattle.std.specs.Ordering.{nat_cmp}
 use Rattle.std.specs.Cmp.Lexicographic.{slice_cmp}
 use Rattle.std.specs.List.{list_any, list_all, starts_with}
@@ -53,6 +53,8 @@ pub record StoreSeen : Type 0 where
   pub contents : Option Contents
   -- how many faults there were; it never falls
   pub faults : ℕ
+  -- the counts of the stores of which it is made, in their order; none where it isn't made of others
+  pub counts : List ℕ
   -- the prefixes under which several changes are made together
   pub prefixes : List (List ℕ)
   -- the names of which one begins each key that the store takes; with none it takes every key
@@ -67,6 +69,10 @@ abbrev pub OneMore : Option ℕ → Option ℕ → Type 0
 OneMore old None = Unit {0}
 OneMore None (Some n) = ⊥
 OneMore (Some m) (Some n) = n ≡ m + 1
+
+-- no count is lower than the one that stood at its place
+pub record NoneFell (before now : List ℕ) : Type 0 where
+  pub each : (k : ℕ) → slice_index before k ≤ slice_index now k
 
 -- a count of faults never falls, and rises where the call failed
 pub record HasCause (before now : ℕ) (failed : Type 0) : Type 0 where

@@ -3,7 +3,7 @@ ghost use Rattle.std.specs.FinMap as finmap;
 ghost use Rattle.std.specs.List.{IsDistinct};
 ghost use Rattle.std.specs.Str.{IsCharBoundary, bytes_eq};
 ghost use Rattle.kv_face.specs.declared.change.Change.{Change};
-ghost use Rattle.kv_face.specs.Store.{StoreSeen, opened, finished, failing, takes, Contents, after, keys_of, are_together, OneMore, HasCause, IsToldExactly};
+ghost use Rattle.kv_face.specs.Store.{StoreSeen, opened, finished, failing, takes, Contents, after, keys_of, are_together, OneMore, HasCause, IsToldExactly, NoneFell};
 
 use crate::change::Change;
 use crate::error::{Failed, KvError};
@@ -27,7 +27,8 @@ pub trait KvStore: Drop {
         ensures names { (seen self.new).names ≡ (seen self.old).names }
         ensures standing { (seen self.new).standing ≡ (seen self.old).standing }
         ensures change_count { (seen self.new).changes ≡ (seen self.old).changes }
-        ensures cause { IsToldExactly ((seen self.old).faults) ((seen self.new).faults) (IsErrOf result KvError.Failed) };
+        ensures cause { IsToldExactly ((seen self.old).faults) ((seen self.new).faults) (IsErrOf result KvError.Failed) }
+        ensures counts { NoneFell ((seen self.old).counts) ((seen self.new).counts) };
 
     /// The bytes under a key as `get` gives them, in a form that can be shared, so that a store which keeps them so need not copy them.
     ///
@@ -42,6 +43,7 @@ pub trait KvStore: Drop {
         ensures standing { (seen self.new).standing ≡ (seen self.old).standing }
         ensures change_count { (seen self.new).changes ≡ (seen self.old).changes }
         ensures cause { IsToldExactly ((seen self.old).faults) ((seen self.new).faults) (IsErrOf result KvError.Failed) }
+        ensures counts { NoneFell ((seen self.old).counts) ((seen self.new).counts) }
     {
         match self.get(key) {
             Ok(bytes) => shared(bytes),
@@ -80,7 +82,8 @@ pub trait KvStore: Drop {
             → OneMore ((seen self.old).changes) ((seen self.new).changes)) }
         ensures count_none { length changes.now ≡ 0 → (seen self.new).changes ≡ (seen self.old).changes }
         ensures count_err { OnErr result ((seen self.new).changes ≡ (seen self.old).changes) }
-        ensures cause { IsToldExactly ((seen self.old).faults) ((seen self.new).faults) (IsErrOf result KvError.Failed) };
+        ensures cause { IsToldExactly ((seen self.old).faults) ((seen self.new).faults) (IsErrOf result KvError.Failed) }
+        ensures counts { NoneFell ((seen self.old).counts) ((seen self.new).counts) };
 
     /// Makes all changes as `apply` does, and takes them, so that a store which keeps their bytes need not copy them.
     ///
@@ -105,6 +108,7 @@ pub trait KvStore: Drop {
         ensures count_none { length changes.items ≡ 0 → (seen self.new).changes ≡ (seen self.old).changes }
         ensures count_err { OnErr result ((seen self.new).changes ≡ (seen self.old).changes) }
         ensures cause { IsToldExactly ((seen self.old).faults) ((seen self.new).faults) (IsErrOf result KvError.Failed) }
+        ensures counts { NoneFell ((seen self.old).counts) ((seen self.new).counts) }
     {
         self.apply(changes.as_slice())
     }
@@ -120,7 +124,8 @@ pub trait KvStore: Drop {
         ensures prefixes { (seen self.new).prefixes ≡ (seen self.old).prefixes }
         ensures names { (seen self.new).names ≡ (seen self.old).names }
         ensures change_count { (seen self.new).changes ≡ (seen self.old).changes }
-        ensures cause { HasCause ((seen self.old).faults) ((seen self.new).faults) (IsErr result) };
+        ensures cause { HasCause ((seen self.old).faults) ((seen self.new).faults) (IsErr result) }
+        ensures counts { NoneFell ((seen self.old).counts) ((seen self.new).counts) };
 }
 
 // Bytes that can be shared from now on.
