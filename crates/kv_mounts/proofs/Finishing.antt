@@ -1,5 +1,5 @@
 -- What finishing each mount leaves, and what it does to the mounts together.
-use Rattle.std.proofs.Common.{◌≡◌, ℕ, suc, ◌+◌, ◌<◌, ◌≤◌, ◌⊎◌, List, [], ◌∷◌, ◌++◌, length, take, drop, get_or, set, map, Bool, true, false, ◌||◌, None, refl, sym, ap, subst, ◌∙◌, arith, bytes_eq, inl, inr}
+use Rattle.std.proofs.Common.{◌≡◌, ℕ, zero, suc, ◌+◌, ◌<◌, ◌≤◌, ◌⊎◌, List, [], ◌∷◌, ◌++◌, length, take, drop, get_or, set, map, Bool, true, false, ◌||◌, None, refl, sym, ap, subst, ◌∙◌, arith, bytes_eq, inl, inr}
 use Rattle.std.specs.Prelude.{option_map, option_and_then, All, if◌then◌else◌, Result, Ok, Err, OnOk, OnErr, IsErr, is_err}
 use Rattle.std.specs.List.{list_any, IsDistinct, AllByRecursion}
 use Rattle.std.proofs.Math.Seq.{take-append_seam}
@@ -8,9 +8,9 @@ use Rattle.std.proofs.lemmas.List.{take_more, take_more_set, drop-set-lt, length
 use Rattle.std.proofs.lemmas.List.Elements.{AllZip-push, recursion_from_All, All-from_recursion}
 use Rattle.std.proofs.lemmas.List.Folds.{list_any-append}
 use Rattle.std.proofs.lemmas.List.Sums.{sum_by-cons}
-use Rattle.kv_face.specs.Store.{Standing, opened, finished, failing, HasCause}
+use Rattle.kv_face.specs.Store.{Standing, opened, finished, failing, HasCause, NoneFell}
 use Rattle.kv_mounts.specs.Parts.{Part, AreMounts, IsMountName, names_of, below}
-use Rattle.kv_mounts.specs.Union.{entries_below, entries_of, union_of, faults_of, prefixes_of, is_open, has_failed, standing_of, change_count_of}
+use Rattle.kv_mounts.specs.Union.{entries_below, entries_of, union_of, faults_of, counts_of, prefixes_of, is_open, has_failed, standing_of, change_count_of}
 use Rattle.kv_mounts.specs.Finish.{IsFinished, AreFinished, failed_from, failed_places}
 
 -- a list that is put back whole
@@ -176,6 +176,17 @@ more_faults (p ∷ old) (q ∷ new) done any =
 -- the count of faults rises where one store failed
 pub finished_cause : {F : Type 0} (old new : List Part) → AreFinished old new → (F → list_any has_failed new ≡ true) → HasCause (faults_of old) (faults_of new) F
 finished_cause old new done failed = record { later = later_faults old new done; cause = λ f. more_faults old new done (failed f) }
+
+counts_each : (old new : List Part) → AreFinished old new → (k : ℕ) → get_or (counts_of old) k 0 ≤ get_or (counts_of new) k 0
+counts_each [] [] done k = omega arith
+counts_each [] (q ∷ new) done k = absurd done
+counts_each (p ∷ old) [] done k = absurd done
+counts_each (p ∷ old) (q ∷ new) done zero = done.0.later
+counts_each (p ∷ old) (q ∷ new) done (suc k) = counts_each old new done.1 k
+
+-- and none of the stores' own falls
+pub finished_counts : (old new : List Part) → AreFinished old new → NoneFell (counts_of old) (counts_of new)
+finished_counts old new done = record { each = counts_each old new done }
 
 -- what holds where a result is Ok, or is none
 pub ok_by : {A E : Type 0} (P : Type 0) (r : Result A E) → (is_err r ≡ false → P) → OnOk r P

@@ -5,9 +5,9 @@ use Rattle.std.specs.List.{list_any, IsDistinct, AllByRecursion}
 use Rattle.std.proofs.Math.Seq.{map-set_same}
 use Rattle.std.proofs.lemmas.List.Elements.{All-set, All-get_or, recursion_from_All}
 use Rattle.std.proofs.lemmas.List.Sums.{sum_by-set}
-use Rattle.kv_face.specs.Store.{Standing, opened, finished, failing, OneMore, IsToldExactly}
+use Rattle.kv_face.specs.Store.{Standing, opened, finished, failing, OneMore, IsToldExactly, NoneFell}
 use Rattle.kv_mounts.specs.Parts.{Part, AreMounts, IsMountName, names_of, below}
-use Rattle.kv_mounts.specs.Union.{entries_below, entries_of, union_of, faults_of, prefixes_of, is_open, has_failed, standing_of, sum_told, change_count_of}
+use Rattle.kv_mounts.specs.Union.{entries_below, entries_of, union_of, faults_of, counts_of, prefixes_of, is_open, has_failed, standing_of, sum_told, change_count_of}
 use Rattle.kv_mounts.proofs.UnionLaws.{length-set, names_of-set}
 
 -- the changed mount stands where the old one stood, with its name
@@ -113,6 +113,17 @@ has_cause parts i p q c h =
       cause = λ f. omega (arith, sums, h.cause f);
       told = λ more. h.told (omega (arith, sums, more));
     }
+
+counts_at : (parts : List Part) (i : ℕ) (p q : Part) → p ≡ get_or parts i p → p.faults ≤ q.faults → (k : ℕ) → get_or (counts_of parts) k 0 ≤ get_or (counts_of (set parts i q)) k 0
+counts_at [] i p q is h k = omega arith
+counts_at (x ∷ ps) zero p q is h zero = subst (λ (r : Part). r.faults ≤ q.faults) is h
+counts_at (x ∷ ps) zero p q is h (suc k) = omega arith
+counts_at (x ∷ ps) (suc i) p q is h zero = omega arith
+counts_at (x ∷ ps) (suc i) p q is h (suc k) = counts_at ps i p q is h k
+
+-- no count of a mount falls where that of the changed one doesn't
+pub none_fell : (parts : List Part) (i : ℕ) (p q : Part) → Changes parts i p q → p.faults ≤ q.faults → NoneFell (counts_of parts) (counts_of (set parts i q))
+none_fell parts i p q c h = record { each = counts_at parts i p q c.is h }
 
 -- tests of names and tests of mounts by their names
 pub any_names : (test : List ℕ → Bool) (parts : List Part) → list_any test (names_of parts) ≡ list_any (λ (p : Part). test p.name) parts

@@ -17,6 +17,7 @@ abbrev pub file_seen : FileStore → StoreSeen
 file_seen s = record {
   contents = None;
   faults = s.faults;
+  counts = [];
   prefixes = [];
   names = None;
   standing = file_standing s;

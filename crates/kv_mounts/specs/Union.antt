@@ -26,6 +26,10 @@ union_of parts = option_map (λ es. finmap.from_entries es) (entries_of parts)
 abbrev pub faults_of : List Part → ℕ
 faults_of parts = sum_by (λ (p : Part). p.faults) parts
 
+-- the counts of faults of the stores
+abbrev pub counts_of : List Part → List ℕ
+counts_of parts = map (λ (p : Part). p.faults) parts
+
 -- the prefixes of all stores, each behind the mount's name and a slash
 abbrev pub prefixes_of : List Part → List (List ℕ)
 prefixes_of parts = flat_map (λ (p : Part). map (below p.name) p.prefixes) parts
@@ -54,6 +58,7 @@ abbrev pub seen_of : List Part → StoreSeen
 seen_of parts = record {
   contents = union_of parts;
   faults = faults_of parts;
+  counts = counts_of parts;
   prefixes = prefixes_of parts;
   names = Some (names_of parts);
   standing = standing_of parts;

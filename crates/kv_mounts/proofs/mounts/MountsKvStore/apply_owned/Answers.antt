@@ -2,12 +2,12 @@ use Rattle.std.proofs.Common.{◌≡◌, ◌<◌, length, get_or, set, true, fal
 use Rattle.std.specs.Prelude.{IfSome}
 use Rattle.std.specs.List.{list_any}
 use Rattle.std.proofs.lemmas.Result.{on_ok_weaker}
-use Rattle.kv_face.specs.Store.{are_together, after, opened, OneMore}
+use Rattle.kv_face.specs.Store.{are_together, after, opened, OneMore, NoneFell}
 use Rattle.kv_face.specs.declared.change.Change.{Change}
 use Rattle.kv_mounts.specs.Parts.{Part, AreOneMounts, names_of, begins}
-use Rattle.kv_mounts.specs.Union.{union_of, prefixes_of, change_count_of, standing_of}
+use Rattle.kv_mounts.specs.Union.{union_of, counts_of, prefixes_of, change_count_of, standing_of}
 use Rattle.kv_mounts.proofs.UnionLaws.{after_changes}
-use Rattle.kv_mounts.proofs.Kept.{Changes, any_names, few_at, AreMounts-set, union_of-set, prefixes_of-set, names_of-kept, standing_of-opened, standing_either, change_count_of-set, one_more, err_weaker}
+use Rattle.kv_mounts.proofs.Kept.{Changes, any_names, few_at, AreMounts-set, union_of-set, prefixes_of-set, names_of-kept, standing_of-opened, standing_either, change_count_of-set, one_more, none_fell, err_weaker}
 use Rattle.kv_mounts.proofs.Together.{one_mount_at, more_than_none}
 use Rattle.kv_mounts.proofs.mounts.MountsKvStore.apply_owned.Goals as goal
 
@@ -155,3 +155,14 @@ returns-clause-count_err g c =
     let kept = c.apply.ensures.kept in
     let changes : Changes old i p q = record { there = less; is = c.index_mut.ensures.value; name = ap (λ (r : Part). r.name) kept; names = ap (λ (r : Part). r.names) kept; prefixes = ap (λ (r : Part). r.prefixes) kept } in
     err_weaker c.apply.result (λ h. change_count_of-set old i p q changes h ∙ ap change_count_of c.self.view_is) c.apply.ensures.count_err
+
+pub returns-clause-counts : goal.returns-clause-counts
+returns-clause-counts g c =
+    let old = c.self.inside.list.items in
+    let i = c.in-Some.place in
+    let p = c.index_mut.result.now in
+    let less : i < length old = omega (arith, c.in-Some.ensures.found.0, ap length c.as_slice.ensures.value) in
+    let q = c.apply.new.self in
+    let kept = c.apply.ensures.kept in
+    let changes : Changes old i p q = record { there = less; is = c.index_mut.ensures.value; name = ap (λ (r : Part). r.name) kept; names = ap (λ (r : Part). r.names) kept; prefixes = ap (λ (r : Part). r.prefixes) kept } in
+    subst (λ (ps : List Part). NoneFell (counts_of ps) (counts_of (set old i q))) c.self.view_is (none_fell old i p q changes c.apply.ensures.cause.later)

@@ -1,12 +1,13 @@
-use Rattle.std.proofs.Common.{◌≡◌, ◌<◌, length, get_or, true, false, ap, sym, subst, ◌∙◌, arith, List, Some}
+use Rattle.std.proofs.Common.{◌≡◌, ◌<◌, length, get_or, set, true, false, ap, sym, subst, ◌∙◌, arith, List, Some}
 use Rattle.std.specs.Prelude.{IfSome}
 use Rattle.std.specs.FinMap as finmap
 use Rattle.std.specs.List.{list_any}
 use Rattle.std.proofs.lemmas.Result.{IfOk-weaker}
+use Rattle.kv_face.specs.Store.{NoneFell}
 use Rattle.kv_mounts.specs.Parts.{Part, names_of, begins}
-use Rattle.kv_mounts.specs.Union.{union_of, prefixes_of, change_count_of, standing_of}
+use Rattle.kv_mounts.specs.Union.{union_of, counts_of, prefixes_of, change_count_of, standing_of}
 use Rattle.kv_mounts.proofs.UnionLaws.{got}
-use Rattle.kv_mounts.proofs.Kept.{Changes, any_names, few_at, AreMounts-set, union_of-set, prefixes_of-set, names_of-kept, standing_of-set, change_count_of-set}
+use Rattle.kv_mounts.proofs.Kept.{Changes, any_names, few_at, AreMounts-set, union_of-set, prefixes_of-set, names_of-kept, standing_of-set, change_count_of-set, none_fell}
 use Rattle.kv_mounts.proofs.mounts.MountsKvStore.get_shared.Goals as goal
 
 pub unreachable-requires : goal.unreachable-requires
@@ -93,3 +94,13 @@ returns-clause-change_count g c =
     let less : i < length old = omega (arith, c.in-Some.ensures.found.0, ap length c.as_slice.ensures.value) in
     let changes : Changes old i p q = record { there = less; is = c.index_mut.ensures.value; name = ap (λ (r : Part). r.name) c.get_shared.ensures.kept; names = ap (λ (r : Part). r.names) c.get_shared.ensures.kept; prefixes = ap (λ (r : Part). r.prefixes) c.get_shared.ensures.kept } in
     change_count_of-set old i p q changes (ap (λ (r : Part). r.change_count) c.get_shared.ensures.kept) ∙ ap change_count_of c.self.view_is
+
+pub returns-clause-counts : goal.returns-clause-counts
+returns-clause-counts g c =
+    let old = c.self.inside.list.items in
+    let i = c.in-Some.place in
+    let p = c.index_mut.result.now in
+    let q = c.get_shared.new.self in
+    let less : i < length old = omega (arith, c.in-Some.ensures.found.0, ap length c.as_slice.ensures.value) in
+    let changes : Changes old i p q = record { there = less; is = c.index_mut.ensures.value; name = ap (λ (r : Part). r.name) c.get_shared.ensures.kept; names = ap (λ (r : Part). r.names) c.get_shared.ensures.kept; prefixes = ap (λ (r : Part). r.prefixes) c.get_shared.ensures.kept } in
+    subst (λ (ps : List Part). NoneFell (counts_of ps) (counts_of (set old i q))) c.self.view_is (none_fell old i p q changes c.get_shared.ensures.cause.later)
