@@ -27,7 +27,7 @@ log_begun limit = record { events = []; generations = finmap.empty; cache = reco
 
 pub agrees_begun : (store : StoreSeen) (limit : ℕ) → Agrees (record { store = store; limit = limit }) store (log_begun limit)
 agrees_begun store limit = record {
-  frame = record { faults = omega arith; prefixes = refl; names = refl };
+  frame = record { faults = omega arith; counts = record { each = λ k. omega arith }; prefixes = refl; names = refl };
   faults = omega arith;
   told = λ rose. absurd (omega (arith, rose));
   limit = refl;

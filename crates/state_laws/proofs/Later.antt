@@ -36,6 +36,7 @@ count_more f events e = fold-append (λ a x. a + cond {A = ℕ} (f x) 1 0) 0 eve
 pub frame_then : (a b c : StoreSeen) → IsFrame a b → IsFrame b c → IsFrame a c
 frame_then a b c first second = record {
   faults = let x = first.faults in let y = second.faults in omega arith;
+  counts = record { each = λ k. let x = first.counts.each k in let y = second.counts.each k in omega arith };
   prefixes = second.prefixes ∙ first.prefixes;
   names = second.names ∙ first.names;
 }

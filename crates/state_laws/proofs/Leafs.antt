@@ -163,4 +163,4 @@ module _ (opening : Opening) (store next : StoreSeen) (log : Log) (owner : ℕ) 
 
 -- a store that wasn't called
 pub frame_same : (store : StoreSeen) → IsFrame store store
-frame_same store = record { faults = omega arith; prefixes = refl; names = refl }
+frame_same store = record { faults = omega arith; counts = record { each = λ k. omega arith }; prefixes = refl; names = refl }
