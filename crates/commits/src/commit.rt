@@ -106,7 +106,7 @@ fn commit_by_keys<K: KvStore>(
 /// each key, in byte order. Refusals come in the order of `CommitRefused`; the first three change nothing and end the transaction.
 ///
 /// # Errors
-/// As `CommitRefused` says. After `Damaged` nothing was changed; after `StoreFailed`, which one event more tells, and after `Memory` the
+/// As `CommitRefused` says. After `Damaged` there is no event more; after `StoreFailed`, which one event more tells, and after `Memory` the
 /// events stand that were done before.
 pub fn commit_now<K: KvStore>(
     alloc: Global,

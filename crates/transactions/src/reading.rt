@@ -48,13 +48,12 @@ use turn_book::{Pass, TurnBook};
 
 impl Txn {
     /// The words of a view's cells, in C order: what the transaction staged, else what stood at the mark of the cell's chunk. A chunk that the
-    /// transaction doesn't keep is fetched, and decoded outside of turns, behind the gate. Where none is to be fetched no turn is taken; none
-    /// is held at return.
+    /// transaction doesn't keep is fetched, and decoded outside of turns, behind the gate. No turn is held at return.
     ///
     /// # Errors
     /// - `View` with the first thing that is wrong with the view; no turn was taken then.
     /// - `StoreFailed` where the store failed, which one event more tells.
-    /// - `Damaged` for the first of the chunks to be fetched whose bytes are none of its array's.
+    /// - `Damaged` for a chunk that the read needs whose bytes are none of its array's, where the store told its contents.
     /// - `Shrunk` where a cell lay outside its array's shape when its chunk was read.
     /// - `Memory`.
     ///
