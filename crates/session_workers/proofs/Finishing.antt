@@ -1,5 +1,5 @@
 -- What finishing mounts leaves as it was.
-use Rattle.std.proofs.Common.{◌≡◌, ◌≢◌, ◌∙◌, ℕ, ◌+◌, ◌≤◌, Bool, true, false, List, [], ◌∷◌, ◌++◌, length, map, inl, inr, refl, sym, ap, arith}
+use Rattle.std.proofs.Common.{◌≡◌, ◌≢◌, ◌∙◌, ℕ, ◌+◌, ◌≤◌, Bool, true, false, List, [], ◌∷◌, ◌++◌, length, get_or, map, suc, inl, inr, refl, sym, ap, arith}
 use Rattle.std.specs.Prelude.{◌⊎◌, All, option_map, option_and_then, if◌then◌else◌}
 use Rattle.std.specs.List.{AllByRecursion, AllZip, sum}
 use Rattle.std.specs.FinMap as finmap
@@ -8,7 +8,7 @@ use Rattle.std.proofs.lemmas.List.Sums.{sum_by-cons}
 use Rattle.kv_face.specs.Store.{Standing, opened, finished, failing}
 use Rattle.kv_mounts.specs.Finish.{IsFinished, AreFinished, failed_from}
 use Rattle.kv_mounts.specs.Parts.{Part, below, names_of}
-use Rattle.kv_mounts.specs.Union.{has_failed, entries_of, entries_below, faults_of, prefixes_of, union_of, sum_told, change_count_of}
+use Rattle.kv_mounts.specs.Union.{has_failed, entries_of, entries_below, faults_of, prefixes_of, union_of, sum_told, change_count_of, counts_of}
 use Rattle.session_workers.specs.Finished.{HasRisen}
 
 module _ (p q : Part) (is : IsFinished p q) where
@@ -106,6 +106,19 @@ listed_rise n (p ∷ ps) (q ∷ qs) are = by (listed_rise (n + 1) ps qs are.1) (
         let was = faults_parts p ps in
         let is = faults_parts q qs in
         omega (arith, first, later, listed, was, is)
+
+same_rest : (x y : List ℕ) (xs ys : List (List ℕ)) → x ∷ xs ≡ y ∷ ys → xs ≡ ys
+same_rest x y xs ys e = cc
+
+none_there : (x : List ℕ) (xs : List (List ℕ)) → x ∷ xs ≡ [] → ⊥
+none_there x xs e = cc
+
+-- of mounts with the same names whose counts are place by place no lower than they were, each has a count no lower than its own
+pub own_counts : (old now : List Part) → names_of now ≡ names_of old → ((k : ℕ) → get_or (counts_of old) k 0 ≤ get_or (counts_of now) k 0) → AllZip (λ (p : Part) (count : ℕ). p.faults ≤ count) old (map (λ (p : Part). p.faults) now)
+own_counts [] [] names each = tt
+own_counts [] (q ∷ qs) names each = absurd (none_there q.name (names_of qs) names)
+own_counts (p ∷ ps) [] names each = absurd (none_there p.name (names_of ps) (sym names))
+own_counts (p ∷ ps) (q ∷ qs) names each = (each 0, own_counts ps qs (same_rest q.name p.name (names_of qs) (names_of ps) names) (λ k. each (suc k)))
 
 -- a count of each before, and how it rose
 pub counts_rise : (old new : List Part) → AreFinished old new → AllZip HasRisen (map (λ (p : Part). p.faults) old) new

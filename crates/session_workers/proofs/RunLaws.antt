@@ -14,11 +14,11 @@ use Rattle.session_runs.specs.Bodies.{answer_of}
 use Rattle.kv_mounts.specs.Finish.{AreFinished, failed_places}
 use Rattle.history.specs.Store.{RepresentsHistory}
 use Rattle.kv_mounts.specs.Parts.{Part, AreMounts, below, names_of}
-use Rattle.kv_mounts.specs.Union.{union_of, faults_of, prefixes_of, standing_of, change_count_of}
+use Rattle.kv_mounts.specs.Union.{union_of, faults_of, prefixes_of, counts_of, standing_of, change_count_of}
 use Rattle.session_workers.specs.Finished.{AreBack, IsRun}
 use Rattle.session_workers.specs.MountRuns.{fixed_over, IsPrintedRun, IsEmptyMount, IsSerialRun, IsSingleRun}
 use Rattle.session_workers.proofs.Alone.{alone_where, alone_run}
-use Rattle.session_workers.proofs.Finishing.{names_stay, union_stays, prefixes_stay, count_stays, counts_rise, counts_sum, faults_rise, listed_rise, all_closed}
+use Rattle.session_workers.proofs.Finishing.{names_stay, union_stays, prefixes_stay, count_stays, own_counts, counts_rise, counts_sum, faults_rise, listed_rise, all_closed}
 use Rattle.serial_runs.specs.Runs.{IsRunOf, AreLogs, AreOfMount}
 use Rattle.serial_runs.specs.Serial.{IsSerial}
 use Rattle.serial_runs.proofs.Laws.{logs_foreign, run_alike, serial}
@@ -36,6 +36,7 @@ abbrev pub seen_over : List Part → StoreSeen
 seen_over parts = record {
   contents = union_of parts;
   faults = faults_of parts;
+  counts = counts_of parts;
   prefixes = prefixes_of parts;
   names = Some (names_of parts);
   standing = standing_of parts;
@@ -86,6 +87,7 @@ module _ (scripts : List (List ℕ)) (old mid new : List Part) (limit : ℕ) (lo
         counts = map (λ (p : Part). p.faults) mid;
         called = let more = agrees.faults in let all = counts_sum mid in omega (arith, more, all);
         told = λ rose. let all = counts_sum mid in agrees.told (omega (arith, rose, all));
+        later = own_counts old mid (some_names (names_of mid) (names_of old) agrees.frame.names) agrees.frame.counts.each;
         own = counts_rise mid new finished;
         risen = let more = agrees.faults in let rise = listed_rise 0 mid new finished in omega (arith, more, rise);
       }

@@ -33,6 +33,8 @@ pub record AreBack (old new : List Part) (history : History) (unfinished : List 
   pub called : faults_of old + count_by is_fault history ≤ sum counts
   -- and they rose at all only where the history tells of a failed call
   pub told : faults_of old < sum counts → 0 < count_by is_fault history
+  -- none of them is lower than the own count with which the mount at its place came
+  pub later : AllZip (λ (p : Part) (before : ℕ). p.faults ≤ before) old counts
   -- and the own count of each that stands failed rose as it was finished
   pub own : AllZip HasRisen counts new
   -- so all counts together rose by the events of failed calls and by one for each of these places, or by more

@@ -1,5 +1,5 @@
 -- What stays beside an opening.
-use Rattle.std.proofs.Common.{◌≡◌, ℕ, List, Option, Some, None, inl, inr, arith, refl, sym, subst, ◌∙◌}
+use Rattle.std.proofs.Common.{◌≡◌, ℕ, List, Option, Some, None, inl, inr, refl, sym, subst, ◌∙◌}
 use Rattle.std.specs.Prelude.{Result, Ok, Err, OnOk, OnErr, IsSome, IfOk}
 use Rattle.state_laws.specs.declared.ArrayInfo.{ArrayInfo}
 use Rattle.state_laws.specs.Seen.{StoreSeen, IsQuiet, IsRead}
@@ -10,6 +10,7 @@ use Rattle.state_laws.specs.Fetches.{HasFailed}
 use Rattle.state_laws.specs.Log.{Log}
 use Rattle.state_laws.specs.Openings.{IsBeside, IsStoreError}
 use Rattle.state_laws.specs.Placed.{entered}
+use Rattle.state_laws.proofs.Laws.{frame_same, frame_then}
 
 pub beside_same : (log : Log) → IsBeside log log
 beside_same log = record { generations = refl; cache = refl; locals = inl refl }
@@ -56,12 +57,12 @@ never_there X (Ok o) is = λ none. no_event (o.event) none is
 never_there X (Err e) is = tt
 
 pub quiet_same : (store : StoreSeen) → IsQuiet store store
-quiet_same store = record { frame = record { faults = omega arith; prefixes = refl; names = refl }; contents = refl; changes = refl }
+quiet_same store = record { frame = frame_same store; contents = refl; changes = refl }
 
 -- a call that read, and then one that changed nothing
 pub quiet_then : (old middle new : StoreSeen) → IsRead old middle → IsQuiet middle new → IsQuiet old new
 quiet_then old middle new first then = record {
-  frame = record { faults = omega (arith, first.frame.faults, then.frame.faults); prefixes = then.frame.prefixes ∙ first.frame.prefixes; names = then.frame.names ∙ first.frame.names };
+  frame = frame_then old middle new first.frame then.frame;
   contents = then.contents ∙ first.contents;
   changes = then.changes ∙ first.changes;
 }

@@ -6,6 +6,10 @@ use Rattle.chunk_fetches.specs.Turns.{owner_of}
 use Rattle.chunk_fetches.proofs.TurnLaws.{past_of, has_turned}
 use Rattle.chunk_fetches.proofs.turns.settle_in_turn.Goals as goal
 
+pub give-requires-clause-agrees : goal.give-requires-clause-agrees
+give-requires-clause-agrees c d =
+    d.settle_all-settled.ensures.kept d.args.book.now.fixed d.args.pass.now.seen d.take-held.ensures.before.0 (rw d.state.ensures.value (sym d.take-held.ensures.before.1)) d.requires.fresh (rw d.state.ensures.value d.take-held.ensures.agrees)
+
 pub give-requires-clause-added : goal.give-requires-clause-added
 give-requires-clause-added c d =
     let h = d.state.result.now.log.events in
