@@ -1,7 +1,7 @@
 -- Laws of items: what they spell, and one item put.
 use Rattle.std.proofs.Common.{◌≡◌, ◌≢◌, ◌⊎◌, inl, inr, ℕ, zero, suc, ◌+◌, ◌*◌, ◌-◌, ◌/◌, ◌<◌, ◌≤◌, ◌^◌, Bool, true, false, List, [], ◌∷◌, ◌++◌, length, get_or, set, take, drop, map, replicate, All, refl, sym, ◌∙◌, ap, subst, arith, zero-add, get_or-set_other, get_or-set_same, below_more}
 use Rattle.std.specs.List.{range_with_len}
-use Rattle.std.proofs.lemmas.List.{length-drop, length-take-le, get_or-drop, drop-take, ext_get_or, get_or-replicate, length-replicate}
+use Rattle.std.proofs.lemmas.List.{length-drop, length-take-le, get_or-drop, drop-take, drop-replicate, take-replicate, ext_get_or, get_or-replicate, length-replicate}
 use Rattle.std.proofs.lemmas.List.Elements.{All-from_get_or}
 use Rattle.std.proofs.lemmas.List.FromFn.{length-map-range_with_len, get_or-map-range_with_len}
 use Rattle.std.proofs.lemmas.Slice.{take-put_mid_below, between-put_mid, drop-put_mid}
@@ -296,3 +296,31 @@ IsWhereUpTo-all mask over words laid place n one two three four all is =
     let size = length-words_where mask over words (one ∙ sym three) (two ∙ sym three) in
     ext_get_or 0 laid (words_where mask over words) (omega (arith, size, three, four))
     (λ k inside. is.front k (omega (arith, inside, four, all)) ∙ sym (get_or-words_where mask over words k (one ∙ sym three) (two ∙ sym three) (omega (arith, inside, three, four))))
+
+-- bytes of 0 spell 0
+zeros_spell : (dtype : Dtype) → word_of_bytes dtype false (replicate (byte_count dtype) 0) ≡ 0
+zeros_spell I8 = refl
+zeros_spell U8 = refl
+zeros_spell I16 = refl
+zeros_spell U16 = refl
+zeros_spell I32 = refl
+zeros_spell U32 = refl
+zeros_spell I64 = refl
+zeros_spell U64 = refl
+
+-- so they are items of the word 0
+pub words_in-zeros : (dtype : Dtype) (n : ℕ) → words_in dtype n (replicate (n * byte_count dtype) 0) ≡ replicate n 0
+words_in-zeros dtype n =
+    let size = byte_count dtype in
+    let zeros = replicate (n * size) 0 in
+    let count = length-words_in dtype n zeros in
+    ext_get_or 0 (words_in dtype n zeros) (replicate n 0) (omega (arith, count, length-replicate {A = ℕ} n 0))
+    (λ k inside.
+    let less : k < n = omega (arith, inside, count) in
+    let behind : drop (k * size) zeros ≡ replicate (n * size - k * size) 0 = drop-replicate (k * size) (n * size) 0 in
+    let item : take size (replicate (n * size - k * size) 0) ≡ replicate size 0 = take-replicate size (n * size - k * size) 0 (omega (arith, item_fits dtype k n less)) in
+    get_or-words_in dtype n zeros k less
+    ∙ ap (λ bytes. word_of_bytes dtype false (take size bytes)) behind
+    ∙ ap (word_of_bytes dtype false) item
+    ∙ zeros_spell dtype
+    ∙ sym (get_or-replicate n k 0 0 less))

@@ -2,7 +2,7 @@ ghost use Rattle.std.specs.Prelude.{◌≡◌, ℕ, ◌*◌, ◌<◌, ◌≤◌,
 
 use crate::dtype::Dtype;
 use crate::items::{
-    are_all, fill_items, item, lay_items, put_item, put_items, put_words, take_items, take_words,
+    are_all, fill_zeros, item, lay_items, put_item, put_items, put_words, take_items, take_words,
 };
 use crate::places::count_cells;
 use crate::run::Run;
@@ -103,7 +103,7 @@ impl Dense {
         let cells = count as usize;
         let shape = Sizes::wrap(Vec::from_slice(alloc, shape)?);
         let mut bytes = vec![in alloc; 0; cells * dtype.byte_count()]?;
-        fill_items(dtype, cells, word, &mut bytes);
+        fill_zeros(dtype, cells, word, &mut bytes);
         Ok(Dense {
             dtype,
             shape,

@@ -34,8 +34,8 @@ pub(crate) fn put_item(dtype: Dtype, place: usize, word: u64, bytes: &mut [u8])
     );
 }
 
-/// Puts a word as each item.
-pub(crate) fn fill_items(dtype: Dtype, cells: usize, word: u64, bytes: &mut [u8])
+// Puts a word as each item.
+fn fill_items(dtype: Dtype, cells: usize, word: u64, bytes: &mut [u8])
     requires full { length bytes.old ≡ cells * byte_count dtype }
     requires small { cells ≤ 2 ^ 24 }
     requires word { IsWord dtype word }
@@ -51,6 +51,19 @@ pub(crate) fn fill_items(dtype: Dtype, cells: usize, word: u64, bytes: &mut [u8]
         Dtype::I64 => fill_each(Dtype::I64, cells, word, bytes),
         Dtype::U64 => fill_each(Dtype::U64, cells, word, bytes),
     }
+}
+
+/// Puts a word as each item of bytes that are all 0, which are items of the word 0 already.
+pub(crate) fn fill_zeros(dtype: Dtype, cells: usize, word: u64, bytes: &mut [u8])
+    requires zeros { bytes.old ≡ replicate (cells * byte_count dtype) 0 }
+    requires small { cells ≤ 2 ^ 24 }
+    requires word { IsWord dtype word }
+    ensures { words_in dtype cells bytes.new ≡ replicate cells word }
+{
+    if word == 0 {
+        return;
+    }
+    fill_items(dtype, cells, word, bytes);
 }
 
 #[inline(always)]
