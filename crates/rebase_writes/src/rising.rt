@@ -120,23 +120,47 @@ pub(crate) fn add_run(
 // A run of fewer pairs keeps its words one by one, so that runs don't become many where rows of one word stand among others.
 const FEW_PAIRS: u32 = 64;
 
-// Whether a run has many pairs, and the words of all are the same.
+// Whether the words of all pairs are the same: by the view step, or where a run has many pairs, by the words.
 fn is_one_word(run: &Run, words: &[u64]) -> bool
     requires some { 1 ≤ run.now.len }
     requires inside { (k : ℕ) → k < run.now.len → view_place run.now k < length words.now }
     ensures { IsTrue result → (k : ℕ) → k < run.now.len
         → slice_index words.now (view_place run.now k) ≡ slice_index words.now (view_place run.now 0) }
 {
+    if run.view_step == 0 {
+        return true;
+    }
     if run.len < FEW_PAIRS {
         return false;
     }
     let first = words[run.view as usize];
+    if run.view_step == 1 {
+        let from = run.view as usize;
+        return is_each(&words[from..from + run.len as usize], first);
+    }
     for k in 0..run.len {
         if words[run.view as usize + run.view_step as usize * k as usize] != first {
             return false;
         }
     }
     true
+}
+
+// Whether each word is this one. Where the last isn't, the others aren't looked at; else all are, so that the loop takes several at a time.
+fn is_each(words: &[u64], word: u64) -> bool
+    requires some { 1 ≤ length words.now }
+    ensures { IsTrue result → (k : ℕ) → k < length words.now → slice_index words.now k ≡ word }
+{
+    if words[words.len() - 1] != word {
+        return false;
+    }
+    let mut same = true;
+    for other in words {
+        if *other != word {
+            same = false;
+        }
+    }
+    same
 }
 
 // Stages the one word of a run behind the runs that are there.
