@@ -5,6 +5,7 @@ pub mod RowLaws
 pub mod CoverLaws
 pub mod BareLaws
 pub mod SnapshotLaws
+pub mod FillLaws
 pub mod LayLaws
 pub mod StartLaws
 pub mod Laws

@@ -1,5 +1,5 @@
 // A chunk's words after a commit and after a resize.
-ghost use Rattle.std.specs.Prelude.{◌≡◌, ℕ, ◌^◌, ◌≤◌, ◌<◌, List, IfOk, length, option_map, slice_index, unwrap_or, if◌then◌else◌};
+ghost use Rattle.std.specs.Prelude.{◌≡◌, ℕ, ◌^◌, ◌≤◌, ◌<◌, List, Some, IfOk, length, option_map, slice_index, unwrap_or, if◌then◌else◌};
 ghost use Rattle.std.specs.Option.{ForSome};
 ghost use Rattle.cells.specs.Elements.{word_at};
 ghost use Rattle.cells.specs.Numbers.{IsWord};
@@ -9,7 +9,7 @@ ghost use Rattle.chunk_laying.specs.Laid.{IsChunkOf, laid_word, cut_word, word_u
 ghost use Rattle.chunk_laying.specs.Rows.{is_place_inside};
 
 use crate::rows::{inside_of_row, rows_of};
-use cells::{Dense, Dtype};
+use cells::{Dense, Dtype, Run};
 use rebase_writes::Staged;
 use std::alloc::{AllocError, Global};
 
@@ -45,6 +45,33 @@ pub fn lay(
     let mut cells = over(alloc, fill, staged, base, dtype, chunk_shape)?;
     fill_outside(shape, chunk_shape, chunk, fill, &mut cells);
     Ok(cells)
+}
+
+/// The same over a base that is used up: its cells are those of the chunk then. It takes no memory.
+pub fn lay_in(
+    shape: &[u64],
+    chunk: &[u64],
+    fill: u64,
+    staged: &Staged,
+    base: Dense,
+    chunk_shape: &[u64],
+) -> Dense
+    requires chunk { IsChunkOf shape.now chunk_shape.now chunk.now }
+    requires fill { IsWord base.dtype fill }
+    requires size { length staged.now ≡ cell_count chunk_shape.now }
+    requires words { AreWords base.dtype staged.now }
+    requires base_shape { base.shape ≡ chunk_shape.now }
+    ensures dtype { result.dtype ≡ base.dtype }
+    ensures shape { result.shape ≡ chunk_shape.now }
+    ensures words { (index : List ℕ) → IsInside chunk_shape.now index → word_at result index
+        ≡ laid_word shape.now chunk_shape.now chunk.now fill staged.now (Some base) index }
+{
+    let mut cells = base;
+    // A look at the shape, by which it is known how many words there are.
+    let _ = cells.shape();
+    staged.lay_over(&mut cells);
+    fill_outside(shape, chunk_shape, chunk, fill, &mut cells);
+    cells
 }
 
 /// The chunk's cells once its array has another shape: the base's word in the shape, and the fill past it.
@@ -174,7 +201,14 @@ fn fill_run(cells: &mut Dense, from: usize, to: usize, fill: u64)
         → slice_index cells.new.words place ≡ slice_index cells.old.words place }
     ensures behind { (place : ℕ) → to ≤ place → slice_index cells.new.words place ≡ slice_index cells.old.words place }
 {
-    for place in from..to {
-        cells.set(place, fill);
-    }
+    // A look at the cells, by which it is known how many there are.
+    let _ = cells.count();
+    let run = Run {
+        view: 0,
+        view_step: 0,
+        chunk: from as u32,
+        chunk_step: 1,
+        len: (to - from) as u32,
+    };
+    cells.write_run(&run, &[fill]);
 }

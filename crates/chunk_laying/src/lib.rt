@@ -17,7 +17,7 @@ mod within;
 pub use asking::is_chunk_of;
 pub use counting::{MOST_CUT_CHUNKS, count_cut};
 pub use covering::covers;
-pub use laying::{cut, lay};
+pub use laying::{cut, lay, lay_in};
 pub use listing::cut_chunks;
 pub use remaining::{is_cut_in_part, is_gone};
 pub use within::stays_within;
