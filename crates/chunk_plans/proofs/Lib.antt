@@ -4,6 +4,7 @@ pub mod LeftLaws
 pub mod Kept
 pub mod Forms
 pub mod Same
+pub mod Read
 pub mod Plans
 pub mod Holding
 pub mod Usable

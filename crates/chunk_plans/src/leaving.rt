@@ -1,5 +1,5 @@
 // What is left of a stored chunk.
-ghost use Rattle.std.specs.Prelude.{◌≡◌, IfOk, length, option_map, true, false};
+ghost use Rattle.std.specs.Prelude.{◌≡◌, Some, IfOk, length, option_map, true, false};
 ghost use Rattle.std.specs.Option.{ForSome};
 ghost use Rattle.cells.specs.Numbers.{IsWord};
 ghost use Rattle.cells.specs.Places.{cell_count};
@@ -11,7 +11,7 @@ ghost use Rattle.chunk_plans.specs.Left.{IsLeftAs};
 
 use cells::{Dense, List};
 use chunk_forms::{Form, encode_form};
-use chunk_laying::lay;
+use chunk_laying::{lay, lay_in};
 use rebase_writes::Staged;
 use std::alloc::{AllocError, Global};
 
@@ -55,6 +55,41 @@ pub fn left_over(
         form.dtype(),
         form.chunk_shape(),
     )?;
+    // A look at the cells, by which it is known how many there are.
+    let _ = cells.count();
+    let bytes = encode_form(alloc, form, chunk, form.fill(), &cells)?;
+    Ok(LeftOver { cells, bytes })
+}
+
+/// The same over the cells of a base, which are used up.
+///
+/// # Errors
+/// Want of memory alone.
+pub(crate) fn left_in(
+    alloc: Global,
+    form: &Form,
+    chunk: &[u64],
+    staged: &Staged,
+    base: Dense,
+) -> Result<LeftOver, AllocError>
+    requires stored { is_local form.now ≡ false }
+    requires fill { IsWord (dtype_of form.now) (fill_of form.now) }
+    requires chunk { IsChunkOf (shape_of form.now) (chunk_shape_of form.now) chunk.now }
+    requires reached { reaches_into (chunk_shape_of form.now) (shape_of form.now) chunk.now ≡ true }
+    requires size { length staged.now ≡ cell_count (chunk_shape_of form.now) }
+    requires words { AreWords (dtype_of form.now) staged.now }
+    requires base_dtype { base.dtype ≡ dtype_of form.now }
+    requires base_shape { base.shape ≡ chunk_shape_of form.now }
+    ensures { IfOk result (λ l. IsLeftAs form.now chunk.now staged.now (Some base) l.cells l.bytes) }
+{
+    let cells = lay_in(
+        form.shape(),
+        chunk,
+        form.fill(),
+        staged,
+        base,
+        form.chunk_shape(),
+    );
     // A look at the cells, by which it is known how many there are.
     let _ = cells.count();
     let bytes = encode_form(alloc, form, chunk, form.fill(), &cells)?;

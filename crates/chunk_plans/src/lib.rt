@@ -12,6 +12,7 @@ mod leaving;
 mod mark;
 mod plan;
 mod planning;
+mod reading;
 mod readying;
 mod sorting;
 mod write;

@@ -18,8 +18,9 @@ ghost use Rattle.chunk_plans.specs.declared.plan.Left.TheVariants as left;
 ghost use Rattle.chunk_plans.specs.Writes.{is_base, IsWrite, IsPlanOf, IsReadyWrite, IsSameButCache, chunk_of_write, may_use};
 
 use crate::held::held_over;
-use crate::leaving::{LeftOver, left_over};
+use crate::leaving::{LeftOver, left_in, left_over};
 use crate::plan::{Left, Planned};
+use crate::reading::cells_at;
 use crate::write::{ChunkWrite, Ready};
 use cells::Dense;
 use chunk_cache::Snapshot;
@@ -340,12 +341,6 @@ fn read_over<K: KvStore>(
     ensures memory { result ≡ Err FetchError.Memory → IsSameButCache state.old.log state.new.log }
     ensures kept { KeepsAgreement (K.seen state.old.store) state.old.log (K.seen state.new.store) state.new.log }
 {
-    let fetched = state.fetch(owner, write.array, write.chunk)?;
-    Ok(left_over(
-        alloc,
-        form,
-        write.chunk,
-        write.staged,
-        Some(fetched.snapshot.cells()),
-    )?)
+    let base = cells_at(alloc, state, owner, write)?;
+    Ok(left_in(alloc, form, write.chunk, write.staged, base)?)
 }
