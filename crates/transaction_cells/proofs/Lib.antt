@@ -1,4 +1,5 @@
 pub mod RunLaws
+pub mod OneWord
 pub mod ToldLaws
 pub mod PlaceLaws
 pub mod TableLaws

@@ -1,9 +1,10 @@
-ghost use Rattle.std.specs.Prelude.{◌≡◌, ◌∷◌, ◌++◌, [], ℕ, List, Option, length, map, slice_index_or, ◌<◌, ◌≤◌, ◌^◌, pos, ◌≤ℤ◌, ◌<ℤ◌, OnOk, OnErr};
+ghost use Rattle.std.specs.Prelude.{◌≡◌, ◌∷◌, ◌++◌, [], ℕ, List, Option, length, map, slice_index, slice_index_or, ◌<◌, ◌≤◌, ◌^◌, pos, ◌≤ℤ◌, ◌<ℤ◌, IsTrue, OnOk, OnErr};
 ghost use Rattle.std.specs.List.{AllByRecursion, IsDistinct, list_any};
 ghost use Rattle.std.specs.Map.Iter.{ShowsInOrder, deref_pair};
 ghost use Rattle.std.specs.Str.{bytes_eq};
 ghost use Rattle.cells.specs.Numbers.{IsWord};
 ghost use Rattle.cells.specs.Runs.{IsRunInside, pairs_of, chunk_number, chunk_place};
+ghost use Rattle.rebase_writes.specs.Runs.{pairs_written};
 ghost use Rattle.history.specs.Chunks.{chunk_of};
 ghost use Rattle.history.specs.History.{History};
 ghost use Rattle.history.specs.Reads.{unwritten};
@@ -102,7 +103,7 @@ impl Staging {
     {
         let pieces = cells.pieces.items();
         prepare(alloc, &mut self.table, pieces)?;
-        write(&mut self.table, pieces, kept);
+        write(&mut self.table, pieces, kept, is_one(kept));
         Ok(())
     }
 
@@ -199,33 +200,76 @@ fn add(alloc: Global, table: &mut Table, piece: &Piece) -> Result<(), AllocError
     }
 }
 
-// Writes the words of each piece along its runs.
-fn write(table: &mut Table, pieces: &[Piece], words: &[u64])
-    requires { (id : List ℕ) → MayWrite pieces.now id (length words.now) (found table.old.entries id) }
+// Fewer words aren't looked at.
+const FEW_WORDS: usize = 64;
+
+// Whether there are many words, all of them the same. Where the last isn't the first, the others aren't looked at; else all are, so that the loop takes
+// several at a time.
+fn is_one(words: &[u64]) -> bool
+    ensures { IsTrue result → (k : ℕ) → k < length words.now → slice_index words.now k ≡ slice_index words.now 0 }
+{
+    if words.len() < FEW_WORDS {
+        return false;
+    }
+    let first = words[0];
+    if words[words.len() - 1] != first {
+        return false;
+    }
+    let mut same = true;
+    for word in words {
+        if *word != first {
+            same = false;
+        }
+    }
+    same
+}
+
+// Writes the words of each piece along its runs. `one` tells that they are all the same.
+fn write(table: &mut Table, pieces: &[Piece], words: &[u64], one: bool)
+    requires may { (id : List ℕ) → MayWrite pieces.now id (length words.now) (found table.old.entries id) }
+    requires one { IsTrue one → (k : ℕ) → k < length words.now → slice_index words.now k ≡ slice_index words.now 0 }
     ensures { (id : List ℕ) → found table.new.entries id
         ≡ pieces_written pieces.now id words.now (found table.old.entries id) }
 {
     for piece in pieces {
-        write_piece(table, piece, words);
+        write_piece(table, piece, words, one);
     }
 }
 
-fn write_piece(table: &mut Table, piece: &Piece, words: &[u64])
-    requires { (id : List ℕ) → MayWrite (piece.now ∷ []) id (length words.now) (found table.old.entries id) }
+fn write_piece(table: &mut Table, piece: &Piece, words: &[u64], one: bool)
+    requires may { (id : List ℕ) → MayWrite (piece.now ∷ []) id (length words.now) (found table.old.entries id) }
+    requires one { IsTrue one → (k : ℕ) → k < length words.now → slice_index words.now k ≡ slice_index words.now 0 }
     ensures { (id : List ℕ) → found table.new.entries id
         ≡ pieces_written (piece.now ∷ []) id words.now (found table.old.entries id) }
 {
     let Some(staged) = table.get_mut(piece.id.items()) else {
         unreachable!();
     };
-    write_runs(staged, piece.runs.items(), words);
+    write_runs(staged, piece.runs.items(), words, one);
 }
 
-fn write_runs(staged: &mut Staged, runs: &[Run], words: &[u64])
-    requires { AllByRecursion (λ run. IsRunInside run (length words.now) (length staged.old)) runs.now }
+fn write_runs(staged: &mut Staged, runs: &[Run], words: &[u64], one: bool)
+    requires inside { AllByRecursion (λ run. IsRunInside run (length words.now) (length staged.old)) runs.now }
+    requires one { IsTrue one → (k : ℕ) → k < length words.now → slice_index words.now k ≡ slice_index words.now 0 }
     ensures { staged.new ≡ runs_written runs.now words.now staged.old }
 {
     for run in runs {
-        staged.write_run(run, words);
+        write_run(staged, *run, words, one);
     }
+}
+
+// Where the words are all the same, the first of them stands for each, so that no other is read again.
+fn write_run(staged: &mut Staged, run: Run, words: &[u64], one: bool)
+    requires inside { IsRunInside run (length words.now) (length staged.old) }
+    requires one { IsTrue one → (k : ℕ) → k < length words.now → slice_index words.now k ≡ slice_index words.now 0 }
+    ensures { staged.new ≡ pairs_written (pairs_of run) words.now staged.old }
+{
+    if one {
+        let mut first = run;
+        first.view = 0;
+        first.view_step = 0;
+        staged.write_run(&first, words);
+        return;
+    }
+    staged.write_run(&run, words);
 }

@@ -4,8 +4,8 @@ use Rattle.transaction_cells.specs.Tables.{pieces_written, MayWrite}
 use Rattle.transaction_cells.proofs.StagingLaws.{may_after, next_may, next_written}
 use Rattle.transaction_cells.proofs.staging.write.Goals as goal
 
-pub write_piece-requires : goal.write_piece-requires
-write_piece-requires c id =
+pub write_piece-requires-clause-may : goal.write_piece-requires-clause-may
+write_piece-requires-clause-may c id =
     ((next_may c.args.pieces.now c.loop-piece.piece-index c.piece-item.result id (length c.args.words.now) (found c.loop-piece.table.entries id) c.loop-piece-test.true c.piece-item.is (c.loop-piece.invariant.may id)).0, tt)
 
 pub loop-piece-preserved : goal.loop-piece-preserved

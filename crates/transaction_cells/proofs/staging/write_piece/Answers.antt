@@ -14,14 +14,14 @@ pub unreachable-requires : goal.unreachable-requires
 unreachable-requires c =
     let old = c.args.table.now.entries in
     let p = c.args.piece.now in
-    no_room p (length c.args.words.now) (found old p.id) ((c.requires p.id).0 refl) (ap (λ xs. found old xs) (sym c.items.ensures) ∙ sym c.in_default.ensures.value)
+    no_room p (length c.args.words.now) (found old p.id) ((c.requires.may p.id).0 refl) (ap (λ xs. found old xs) (sym c.items.ensures) ∙ sym c.in_default.ensures.value)
 
-pub write_runs-requires : goal.write_runs-requires
-write_runs-requires c =
+pub write_runs-requires-clause-inside : goal.write_runs-requires-clause-inside
+write_runs-requires-clause-inside c =
     let old = c.args.table.now.entries in
     let p = c.args.piece.now in
     let there : found old p.id ≡ Some c.in-Some.staged.now = ap (λ xs. found old xs) (sym c.items.ensures) ∙ sym c.in-Some.ensures.value in
-    let room : HasRoom p.runs (length c.args.words.now) (Some c.in-Some.staged.now) = subst (HasRoom p.runs (length c.args.words.now)) there ((c.requires p.id).0 refl) in
+    let room : HasRoom p.runs (length c.args.words.now) (Some c.in-Some.staged.now) = subst (HasRoom p.runs (length c.args.words.now)) there ((c.requires.may p.id).0 refl) in
     subst (λ (rs : List Run). AllByRecursion (λ run. IsRunInside run (length c.args.words.now) (length c.in-Some.staged.now)) rs) (sym c.items-2.ensures) room
 
 pub returns : goal.returns

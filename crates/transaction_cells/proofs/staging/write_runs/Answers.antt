@@ -13,5 +13,5 @@ loop-run-preserved c =
     let rest = ap (runs_written (drop (k + 1) runs) words) c.write_run.ensures ∙ sym (at_drop_more (λ (rs : List Run). runs_written rs words c.loop-run.staged) runs k _ c.loop-run-test.true) ∙ c.loop-run.invariant.rest in
     record {
       rest = rest;
-      size = sym (length-runs_written (drop (k + 1) runs) words c.write_run.new.self) ∙ ap (λ (cells : List (Option ℕ)). length cells) rest ∙ length-runs_written runs words c.args.staged.now;
+      size = sym (length-runs_written (drop (k + 1) runs) words c.write_run.new.staged) ∙ ap (λ (cells : List (Option ℕ)). length cells) rest ∙ length-runs_written runs words c.args.staged.now;
     }

@@ -11,8 +11,8 @@ pub returns-in_err-prepare-clause-err : goal.returns-in_err-prepare-clause-err
 returns-in_err-prepare-clause-err c =
     on_err_of c.from_residual.result (λ id place. same_words c.self.inside.table.entries c.prepare.new.table.entries c.args.self.now id place c.self.view_is (c.in_err-prepare.ensures.words id))
 
-pub write-requires : goal.write-requires
-write-requires c id =
+pub write-requires-clause-may : goal.write-requires-clause-may
+write-requires-clause-may c id =
     let pieces = c.args.cells.now.pieces in
     let sites = c.requires.sites in
     let old = c.self.inside.table.entries in
