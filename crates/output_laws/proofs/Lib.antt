@@ -1,3 +1,5 @@
+mod JsonTexts
+mod JsonData
 mod Plain
 mod TypedBodies
 mod Ranks

@@ -1,4 +1,5 @@
 pub mod Plain
+pub mod Held
 pub mod Typed
 pub mod Flat
 pub mod Printed

@@ -6,6 +6,7 @@
 #![tactic(auto)]
 
 ghost use Rattle.output_laws.specs.Flat.{OutputsAreFlat};
+ghost use Rattle.output_laws.specs.Held.{DataIsHeld};
 ghost use Rattle.output_laws.specs.Printed.{PrintedOutputsAreYes};
 
 mod bodies;
@@ -16,6 +17,11 @@ mod looks;
 /// The values of an output are along at most 32 dimensions.
 pub fn outputs_are_flat()
     ensures { OutputsAreFlat }
+{}
+
+/// Of what bytes are as JSON each text is UTF-8, each integer takes 64 bits, and a list has at most half as many items as there are bytes.
+pub fn data_is_held()
+    ensures { DataIsHeld }
 {}
 
 /// What an output prints is answered yes, by as many events as there are, where its answers are those of a program.
