@@ -5,6 +5,13 @@ mod TypedBodies
 mod Ranks
 mod StepRanks
 mod ViewRanks
+mod SmallDims
+mod SmallMaps
+mod SmallSteps
+mod SmallViews
+mod HeldData
+mod HeldTransforms
+mod HeldSteps
 mod PlanRanks
 mod LineRanks
 mod OpenedRanks

@@ -41,8 +41,8 @@ use Rattle.dim_expressions.specs.declared.error.ApplyError.{ApplyError}
 use Rattle.output_laws.proofs.Ranks.{HasRank, joined_rank}
 
 -- what it gives is such
-record Gives {E : Type 0} (r : Result DomainAndMaps E) : Type 0 where
-  each : (t : DomainAndMaps) → r ≡ Ok t → HasRank t
+pub record Gives {E : Type 0} (r : Result DomainAndMaps E) : Type 0 where
+  pub each : (t : DomainAndMaps) → r ≡ Ok t → HasRank t
 
 refused : {E : Type 0} (e : E) → Gives (Err e)
 refused e = record { each = λ t is. absurd (cc) }
@@ -67,7 +67,7 @@ over_gives u v has = by (joined_answer u v) refl
 
 -- ---- which dimensions a step selects
 
-abbrev AreBelow : ℕ → List ℕ → Type 0
+abbrev pub AreBelow : ℕ → List ℕ → Type 0
 AreBelow rank dims = AllByRecursion (λ d. d < rank) dims
 
 wider : (n m : ℕ) (dims : List ℕ) → n ≤ m → AreBelow n dims → AreBelow m dims
@@ -140,7 +140,7 @@ known_below rank None dims each e = absurd (cc)
 known_below rank (Some ds) dims each e = subst (AreBelow rank) (repeat_same _ ds dims _ e) (each ds refl)
 
 -- a step that adds no dimensions selects ones that are there
-selected_below : (u : DomainAndMaps) (step : Step) (dims : List ℕ) → HasRank u → is_newaxis step.act ≡ false → selected_of step u.domain ≡ Ok dims → AreBelow (length u.domain.dims) dims
+pub selected_below : (u : DomainAndMaps) (step : Step) (dims : List ℕ) → HasRank u → is_newaxis step.act ≡ false → selected_of step u.domain ≡ Ok dims → AreBelow (length u.domain.dims) dims
 selected_below u step dims has other e = by step.all e
   where
     rank : ℕ
@@ -175,7 +175,7 @@ without_rank u selected news put few =
     record { few = omega (arith, a, b, few); labels = omega (arith, a, b, c, d, e) }
 
 -- where dimensions are selected, one less stays
-fewer : (u : DomainAndMaps) (selected : List ℕ) → HasRank u → AreBelow (length u.domain.dims) selected → (length selected == 0) ≡ false → 1 + length (others selected (length u.domain.dims)) ≤ 32
+pub fewer : (u : DomainAndMaps) (selected : List ℕ) → HasRank u → AreBelow (length u.domain.dims) selected → (length selected == 0) ≡ false → 1 + length (others selected (length u.domain.dims)) ≤ 32
 fewer u [] has below some = absurd (cc)
 fewer u (x ∷ selected) has below some =
     let same : (x == x) ≡ true = grind (arith, nat_tests) in
@@ -246,7 +246,7 @@ numbered_gives : (number : ℕ) (r : Result DomainAndMaps Cause) → Gives r →
 numbered_gives number (Ok t) g = one t (g.each t refl)
 numbered_gives number (Err cause) g = refused _
 
-after_gives : (number : ℕ) (u : DomainAndMaps) (step : Step) → HasRank u → Gives (after_step number u step)
+pub after_gives : (number : ℕ) (u : DomainAndMaps) (step : Step) → HasRank u → Gives (after_step number u step)
 after_gives number u step has = by (selected_of step u.domain) refl
   where
     by : (r : Result (List ℕ) SelectError) → selected_of step u.domain ≡ r → Gives (answer_on number u step r)

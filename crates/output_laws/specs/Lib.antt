@@ -1,5 +1,6 @@
 pub mod Plain
 pub mod Held
+pub mod Small
 pub mod Typed
 pub mod Flat
 pub mod Printed

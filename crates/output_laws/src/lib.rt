@@ -8,6 +8,7 @@
 ghost use Rattle.output_laws.specs.Flat.{OutputsAreFlat};
 ghost use Rattle.output_laws.specs.Held.{DataIsHeld};
 ghost use Rattle.output_laws.specs.Printed.{PrintedOutputsAreYes};
+ghost use Rattle.output_laws.specs.Small.{StepsStaySmall};
 
 mod bodies;
 mod causes;
@@ -22,6 +23,11 @@ pub fn outputs_are_flat()
 /// Of what bytes are as JSON each text is UTF-8, each integer takes 64 bits, and a list has at most half as many items as there are bytes.
 pub fn data_is_held()
     ensures { DataIsHeld }
+{}
+
+/// Steps on a transform whose numbers take 64 bits and whose texts are UTF-8 give one, or a cause that says numbers of 64 bits.
+pub fn steps_stay_small()
+    ensures { StepsStaySmall }
 {}
 
 /// What an output prints is answered yes, by as many events as there are, where its answers are those of a program.
