@@ -9,6 +9,7 @@ mod SmallDims
 mod SmallMaps
 mod SmallSteps
 mod SmallViews
+mod SmallBodies
 mod HeldData
 mod HeldTransforms
 mod HeldSteps

@@ -58,7 +58,7 @@ pub no_plain : (n : ℕ) → ArePlain n no_members
 no_plain n = record { spelled = tt; shallow = omega arith }
 
 -- one more, of a plain name
-put_named : (n : ℕ) (k : List ℕ) (d : Data) (ms : Members) → are_ascii k ≡ true → IsPlain n d → ArePlain n ms → ArePlain n (put k d ms)
+pub put_named : (n : ℕ) (k : List ℕ) (d : Data) (ms : Members) → are_ascii k ≡ true → IsPlain n d → ArePlain n ms → ArePlain n (put k d ms)
 put_named n k d ms ascii value rest = put_plain n k d ms (IsUtf8-are_ascii k ascii) value rest
 
 pub wider : (n m : ℕ) (d : Data) → n ≤ m → IsPlain n d → IsPlain m d
@@ -83,7 +83,7 @@ pub integer_plain : (n : ℕ) (z : ℤ) → IsWhole z → IsPlain n (integer z)
 integer_plain n (pos k) is = record { spelled = omega (arith, ints, is.to_greatest); shallow = omega arith }
 integer_plain n (negsuc k) is = record { spelled = omega (arith, ints, is.from_least); shallow = omega arith }
 
-either_plain : (b : Bool) (n : ℕ) (d e : Data) → IsPlain n d → IsPlain n e → IsPlain n (cond b d e)
+pub either_plain : (b : Bool) (n : ℕ) (d e : Data) → IsPlain n d → IsPlain n e → IsPlain n (cond b d e)
 either_plain true n d e one other = one
 either_plain false n d e one other = other
 
@@ -124,7 +124,7 @@ dtype_plain n U64 = closed_plain n (dtype_name U64) refl
 
 -- ---- domains and transforms
 
-flagged_plain : (b : Bool) (d : Data) → IsPlain 0 d → IsPlain 1 (flagged b d)
+pub flagged_plain : (b : Bool) (d : Data) → IsPlain 0 d → IsPlain 1 (flagged b d)
 flagged_plain true d is = record { spelled = (is.spelled, tt); shallow = omega (arith, is.shallow) }
 flagged_plain false d is = wider 0 1 d (omega arith) is
 
@@ -146,7 +146,7 @@ bounds_plain f each dims are = list_plain f dims 1 (go dims are)
     go [] all = tt
     go (x ∷ xs) all = let both = and_parts _ _ all in (each x (AreBounds-true x both.0), go xs both.1)
 
-labels_plain : (n : ℕ) (name : List ℕ) (labels : List (List ℕ)) (ms : Members) → are_ascii name ≡ true → AllByRecursion IsUtf8 labels → 1 ≤ n → ArePlain n ms → ArePlain n (with_labels name labels ms)
+pub labels_plain : (n : ℕ) (name : List ℕ) (labels : List (List ℕ)) (ms : Members) → are_ascii name ≡ true → AllByRecursion IsUtf8 labels → 1 ≤ n → ArePlain n ms → ArePlain n (with_labels name labels ms)
 labels_plain n name labels ms ascii texts room rest =
     either (are_unlabelled labels) ms _ rest (put_named n name (list_of (map string labels)) ms ascii (wider 1 n _ room (list_plain string labels 0 (go labels texts))) rest)
   where
@@ -158,7 +158,7 @@ labels_plain n name labels ms ascii texts room rest =
     either true xs ys one other = one
     either false xs ys one other = other
 
-object_plain : (n : ℕ) (ms : Members) → ArePlain n ms → IsPlain (n + 1) (object ms)
+pub object_plain : (n : ℕ) (ms : Members) → ArePlain n ms → IsPlain (n + 1) (object ms)
 object_plain n ms are = record { spelled = are.spelled; shallow = omega (arith, are.shallow) }
 
 pub domain_plain : (domain : Domain) → list_all are_bounds domain.dims ≡ true → AllByRecursion IsUtf8 domain.labels → IsPlain 3 (domain_data domain)
@@ -191,14 +191,14 @@ each_nested sizes entries each call (x ∷ xs) = (
   each_nested sizes entries each call xs,
 )
 
-nested_plain : (sizes : List ℕ) (entries : List ℤ) → AllByRecursion IsWhole entries → IsPlain (length sizes) (nested_data sizes entries)
+pub nested_plain : (sizes : List ℕ) (entries : List ℤ) → AllByRecursion IsWhole entries → IsPlain (length sizes) (nested_data sizes entries)
 nested_plain [] entries each = integer_plain 0 _ (first_whole entries each)
 nested_plain (size ∷ sizes) entries each =
     wider (length sizes + 1) (suc (length sizes)) _ (omega arith)
     (list_plain (λ i. nested_data sizes (take (cell_count sizes) (drop (i * cell_count sizes) entries))) (range_with_len 0 size) (length sizes)
     (each_nested sizes entries each (nested_plain sizes) (range_with_len 0 size)))
 
-number_member : (n : ℕ) (name : List ℕ) (usual z : ℤ) (ms : Members) → are_ascii name ≡ true → IsWhole z → ArePlain n ms → ArePlain n (with_number name usual z ms)
+pub number_member : (n : ℕ) (name : List ℕ) (usual z : ℤ) (ms : Members) → are_ascii name ≡ true → IsWhole z → ArePlain n ms → ArePlain n (with_number name usual z ms)
 number_member n name usual z ms ascii is rest = either (int_eq z usual) (put_named n name (integer z) ms ascii (integer_plain n z is) rest)
   where
     either : (b : Bool) → ArePlain n (put name (integer z) ms) → ArePlain n (cond b ms (put name (integer z) ms))

@@ -23,7 +23,7 @@ use Rattle.transform_composition.specs.declared.error.ComposeError.{ComposeError
 use Rattle.transform_composition.specs.declared.error.ComposeError.TheVariants as compose
 use Rattle.transform_composition.proofs.TightLemmas.{tight_lower-index, tight_upper-index}
 use Rattle.output_laws.specs.Plain.{IsWhole}
-use Rattle.output_laws.specs.Small.{IsNear, IsSmallDim, IsLed, IsSmallMap, IsSmall, IsSmallInner}
+use Rattle.output_laws.specs.Small.{IsNear, IsSmallDim, IsLed, IsSmallMap, IsSmall, IsSmallInner, IsSmallFault}
 use Rattle.output_laws.proofs.SmallDims.{between_small}
 
 -- ---- lists
@@ -116,14 +116,7 @@ count_closed k (dim ∷ dims) ms = let rest = count_closed (k + 1) dims ms in om
 
 -- ---- compositions
 
--- what it gives is small, and why it gives nothing says a number of an output
-abbrev pub IsSmallFault : ComposeError → Type 0
-IsSmallFault compose.Rank = Unit {0}
-IsSmallFault (compose.Overflow output) = output < 2 ^ 64
-IsSmallFault (compose.Outside output) = output < 2 ^ 64
-IsSmallFault (compose.TooLarge output) = output < 2 ^ 64
-IsSmallFault compose.Memory = Unit {0}
-
+-- what it gives is small, or why it gives nothing
 abbrev pub IsSmallAnswer : Result DomainAndMaps ComposeError → Type 0
 IsSmallAnswer (Ok t) = IsSmall t
 IsSmallAnswer (Err e) = IsSmallFault e

@@ -65,7 +65,7 @@ use Rattle.output_laws.specs.Small.{IsNear, IsSmallDim, IsLed, IsSmallMap, IsSma
 use Rattle.output_laws.proofs.Ranks.{HasRank}
 use Rattle.output_laws.proofs.StepRanks.{AreBelow, fewer, selected_below, after_gives}
 use Rattle.output_laws.proofs.SmallDims.{shifted_small, strided_small, sliced_small}
-use Rattle.output_laws.proofs.SmallMaps.{all_at, map_all, map_of, position_low, joined_small, IsSmallAnswer, IsSmallFault}
+use Rattle.output_laws.proofs.SmallMaps.{all_at, map_all, map_of, position_low, joined_small, IsSmallAnswer}
 
 -- ---- numbers and lists
 

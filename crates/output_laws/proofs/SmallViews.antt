@@ -29,9 +29,9 @@ use Rattle.stack_driver.proofs.Looks.{look-Leaf, look-Cast, look-Stack, own-Leaf
 use Rattle.stack_driver.proofs.StackRules.{length-stacked_dims, length-stacked_labels}
 use Rattle.stack_driver.proofs.Unders.{under-Leaf, under-Cast, under-Stack}
 use Rattle.output_laws.specs.Plain.{IsWhole}
-use Rattle.output_laws.specs.Small.{IsNear, IsSmallDim, IsLed, IsSmallMap, IsSmall}
+use Rattle.output_laws.specs.Small.{IsNear, IsSmallDim, IsLed, IsSmallMap, IsSmall, IsSmallFault}
 use Rattle.output_laws.proofs.SmallDims.{all_around_small}
-use Rattle.output_laws.proofs.SmallMaps.{all_at, map_all, map_of, zero_whole, IsSmallFault, IsSmallAnswer, IsFurther, composed_small}
+use Rattle.output_laws.proofs.SmallMaps.{all_at, map_all, map_of, zero_whole, IsSmallAnswer, IsFurther, composed_small}
 use Rattle.output_laws.proofs.ViewRanks.{own_under}
 
 -- a leaf has at most 32 outputs

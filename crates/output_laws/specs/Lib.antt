@@ -1,6 +1,7 @@
 pub mod Plain
 pub mod Held
 pub mod Small
+pub mod Parts
 pub mod Typed
 pub mod Flat
 pub mod Printed

@@ -6,6 +6,8 @@ use Rattle.index_intervals.specs.Bounds.{Bounds}
 use Rattle.index_transform.specs.Transforms.{DomainAndMaps}
 use Rattle.index_transform.specs.declared.map.OutMap.{OutMap}
 use Rattle.index_transform.specs.declared.map.OutMap.TheVariants.{Constant, Strided, Indexed}
+use Rattle.transform_composition.specs.declared.error.ComposeError.{ComposeError}
+use Rattle.transform_composition.specs.declared.error.ComposeError.TheVariants as compose
 use Rattle.step_forms.specs.Given.{part_for, IsIndexPart}
 use Rattle.step_forms.specs.declared.act.Act.{Act}
 use Rattle.step_forms.specs.declared.act.Act.TheVariants as act
@@ -53,6 +55,14 @@ pub record IsSmallInner (t : DomainAndMaps) : Type 0 where
   pub labels : AllByRecursion IsUtf8 t.domain.labels
   pub maps : AllByRecursion IsLed t.maps
   pub few : length t.domain.dims ≤ 32
+
+-- why transforms don't compose, by the number of an output
+abbrev pub IsSmallFault : ComposeError → Type 0
+IsSmallFault compose.Rank = Unit {0}
+IsSmallFault (compose.Overflow output) = output < 2 ^ 64
+IsSmallFault (compose.Outside output) = output < 2 ^ 64
+IsSmallFault (compose.TooLarge output) = output < 2 ^ 64
+IsSmallFault compose.Memory = Unit {0}
 
 -- entries of 64 bits, and at most 2^63 of them
 pub record IsSmallArray (entries : List ℤ) : Type 0 where

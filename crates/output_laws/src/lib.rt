@@ -7,6 +7,7 @@
 
 ghost use Rattle.output_laws.specs.Flat.{OutputsAreFlat};
 ghost use Rattle.output_laws.specs.Held.{DataIsHeld};
+ghost use Rattle.output_laws.specs.Parts.{SmallAnswersArePrintable};
 ghost use Rattle.output_laws.specs.Printed.{PrintedOutputsAreYes};
 ghost use Rattle.output_laws.specs.Small.{StepsStaySmall};
 
@@ -28,6 +29,11 @@ pub fn data_is_held()
 /// Steps on a transform whose numbers take 64 bits and whose texts are UTF-8 give one, or a cause that says numbers of 64 bits.
 pub fn steps_stay_small()
     ensures { StepsStaySmall }
+{}
+
+/// An answer reads back whose texts are UTF-8 and whose numbers take 64 bits, where its values are along at most 32 dimensions.
+pub fn small_answers_are_printable()
+    ensures { SmallAnswersArePrintable }
 {}
 
 /// What an output prints is answered yes, by as many events as there are, where its answers are those of a program.
