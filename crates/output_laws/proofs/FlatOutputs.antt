@@ -43,16 +43,16 @@ use Rattle.output_laws.proofs.LineRanks.{IsRankBuild, IsRankLine, bytes_rank, ch
 use Rattle.output_laws.proofs.OpenedRanks.{own_are, opened_few}
 
 -- a session's line, None being a blank one
-abbrev Lines : Type 0
+abbrev pub Lines : Type 0
 Lines = List (Option Line)
 
-abbrev AreRankLines : Lines → Type 0
+abbrev pub AreRankLines : Lines → Type 0
 AreRankLines [] = Unit {0}
 AreRankLines (None ∷ lines) = AreRankLines lines
 AreRankLines (Some line ∷ lines) = IsRankLine line × AreRankLines lines
 
 -- each name is bound to a view that has a rank
-abbrev AreRankNames : Names → Type 0
+abbrev pub AreRankNames : Names → Type 0
 AreRankNames names = (name : Text) (view : View) → names name ≡ Some view → HasViewRank view
 
 -- so are the views of an act
@@ -233,9 +233,9 @@ module _ (owner : ℕ) (history : History) (legal : IsLegal finmap.empty history
   fixed = single_store mount
 
   -- behind a row the names are as before it, and its answer is flat
-  record Leaves (names : Names) (answer : Body) : Type 0 where
-    names_are : AreRankNames names
-    flat : IsFlat answer
+  pub record Leaves (names : Names) (answer : Body) : Type 0 where
+    pub names_are : AreRankNames names
+    pub flat : IsFlat answer
 
   module _ (s : SessionState) (line : ℕ) (events : History) (now : IsLegal finmap.empty events) where
     commit_flat : (t : Transaction) (left : Option Transaction) (answer : Body) (os : List Numbered) → IsCommit fixed owner events t left answer os → IsFlat answer
@@ -280,7 +280,7 @@ module _ (owner : ℕ) (history : History) (legal : IsLegal finmap.empty history
     answered_flat asked names left answer os stand refusal checked parts all wanting = record { names_are = all; flat = tt }
     answered_flat asked names left answer os stand refusal checked parts all (done_line {act = act} row) = row_flat act names left answer os stand checked parts all row
 
-  step_flat : (s : SessionState) (line : ℕ) (asked : Line) (next : SessionState) (answer : Body) → IsCheckedLine asked → IsRankLine asked → AreRankNames s.names → SessionStep fixed owner history s line asked next answer → Leaves next.names answer
+  pub step_flat : (s : SessionState) (line : ℕ) (asked : Line) (next : SessionState) (answer : Body) → IsCheckedLine asked → IsRankLine asked → AreRankNames s.names → SessionStep fixed owner history s line asked next answer → Leaves next.names answer
   step_flat s line asked next answer checked parts all step =
       let size = length-take-le next.seen history step.within in
       let rises = step.rises in
@@ -305,7 +305,7 @@ script_ranks (bytes ∷ lines) = by (is_blank bytes) (script_ranks lines)
     by true rest = rest
     by false rest = (bytes_rank bytes, rest)
 
-all_ranks : (scripts : List (List ℕ)) → AllByRecursion AreRankLines (scripts_of scripts)
+pub all_ranks : (scripts : List (List ℕ)) → AllByRecursion AreRankLines (scripts_of scripts)
 all_ranks [] = tt
 all_ranks (script ∷ scripts) = (script_ranks (lines_of script), all_ranks scripts)
 

@@ -1,10 +1,10 @@
 -- What is looked up in data that bytes may hold.
-use Rattle.std.proofs.Common.{◌≡◌, ◌∙◌, ℕ, zero, suc, ◌+◌, ◌*◌, ◌<◌, ◌≤◌, Bool, true, false, cond, not, List, [], ◌∷◌, length, filter, Option, Some, None, option_map, option_and_then, Ordering, Less, Equal, Greater, nat_cmp, IsUtf8, refl, sym, ap, subst, arith}
+use Rattle.std.proofs.Common.{◌≡◌, ℕ, suc, ◌*◌, ◌≤◌, Bool, true, false, cond, not, List, [], ◌∷◌, length, filter, Option, Some, None, option_map, option_and_then, Ordering, Less, Equal, Greater, nat_cmp, IsUtf8, refl, ap, subst, arith}
 use Rattle.std.specs.List.{AllByRecursion}
 use Rattle.std.specs.Ordering.{match_ordering}
 use Rattle.std.specs.Cmp.Lexicographic.{slice_cmp}
 use Rattle.serde_json.specs.Data.{Data, null, boolean, number, string, array, object, Items, no_items, item, Members, no_members, member}
-use Rattle.serde_json.specs.Find.{get, get_member, as_str, as_array}
+use Rattle.serde_json.specs.Find.{get, get_member, as_str}
 use Rattle.json_forms.specs.Lists.{data_list, list_items, all_of}
 use Rattle.json_forms.specs.Members.{names_of, member_names, is_among, lesser, least_name, least_unknown}
 use Rattle.output_laws.specs.Held.{count_of, IsHeld, AreHeld, HaveHeld}

@@ -1,15 +1,15 @@
 -- The steps that data are.
-use Rattle.std.proofs.Common.{◌≡◌, ◌∙◌, ℕ, zero, suc, ◌+◌, ◌*◌, ◌<◌, ◌≤◌, ◌^◌, ◌==◌, ◌&&◌, ℤ, Bool, true, false, cond, not, List, [], ◌∷◌, length, map, codes, Option, Some, None, option_map, option_and_then, Result, Ok, Err, IsUtf8, refl, sym, ap, subst, arith}
+use Rattle.std.proofs.Common.{◌≡◌, ℕ, suc, ◌+◌, ◌*◌, ◌<◌, ◌≤◌, ◌^◌, ℤ, Bool, true, false, cond, not, List, [], ◌∷◌, length, codes, Option, Some, None, option_map, option_and_then, Result, Ok, Err, IsUtf8, refl, ap, arith}
 use Rattle.std.specs.List.{AllByRecursion}
 use Rattle.std.specs.Option.{ForSome}
 use Rattle.std.proofs.lemmas.Int.{ints}
-use Rattle.serde_json.specs.Data.{Data, Members}
-use Rattle.serde_json.specs.Find.{get, as_str, as_bool, as_object}
+use Rattle.serde_json.specs.Data.{Data}
+use Rattle.serde_json.specs.Find.{get, as_str, as_bool}
 use Rattle.json_forms.specs.Lists.{list_items, all_of}
 use Rattle.json_forms.specs.Numbers.{whole_number}
 use Rattle.index_intervals.specs.Bounds.{is_index}
 use Rattle.index_intervals.proofs.Laws.{is_index-true}
-use Rattle.step_forms.specs.Acts.{numbers_of, per_dim_of, texts_of, slices_of, only_true, two_flags, marks_of, act_at, taking_act, act_of}
+use Rattle.step_forms.specs.Acts.{numbers_of, per_dim_of, texts_of, slices_of, only_true, two_flags, marks_of, act_at, act_of}
 use Rattle.step_forms.specs.Forms.{where_so, index_of, list_by, or_null}
 use Rattle.step_forms.specs.Given.{part_for, IsIndexPart}
 use Rattle.step_forms.specs.Steps.{is_newaxis, dims_of, step_on, names_step, step_of_json, before, steps_from, steps_of_json}
@@ -24,7 +24,7 @@ use Rattle.step_forms.proofs.GivenLaws.{slices-given}
 use Rattle.output_laws.specs.Held.{IsHeld}
 use Rattle.output_laws.specs.Plain.{IsWhole}
 use Rattle.output_laws.specs.Small.{IsSmallAct, IsSmallArray, IsSmallStep}
-use Rattle.output_laws.proofs.HeldData.{May, may_some, may_then, may_map, may_so, may_all, get_held, str_held, AreItems, items_held}
+use Rattle.output_laws.proofs.HeldData.{May, may_then, may_map, may_all, get_held, str_held, AreItems, items_held}
 
 abbrev AreTexts : List (List ℕ) → Type 0
 AreTexts labels = AllByRecursion IsUtf8 labels

@@ -1,5 +1,5 @@
 -- The transforms that data are, and the paths at which they are at fault.
-use Rattle.std.proofs.Common.{◌≡◌, ◌∙◌, ℕ, zero, suc, ◌+◌, ◌<◌, ◌≤◌, ◌^◌, ◌==◌, ◌&&◌, nat_le, nat_lt, ltb-true, leb-true, eqb-true, ℤ, pos, Bool, true, false, cond, not, List, [], ◌∷◌, ◌++◌, length, map, filter, replicate, codes, decimal, Option, Some, None, option_map, option_and_then, Result, Ok, Err, IsUtf8, refl, sym, ap, subst, arith}
+use Rattle.std.proofs.Common.{◌≡◌, ℕ, zero, suc, ◌+◌, ◌≤◌, ◌==◌, ◌&&◌, nat_le, ltb-true, leb-true, eqb-true, ℤ, pos, Bool, true, false, cond, not, List, [], ◌∷◌, ◌++◌, length, map, replicate, codes, decimal, Option, Some, None, option_map, option_and_then, Result, Ok, Err, IsUtf8, refl, subst, arith}
 use Rattle.std.specs.Prelude.{find, is_some}
 use Rattle.std.specs.List.{AllByRecursion, list_all, zip, position_from}
 use Rattle.std.specs.Ordering.{int_eq}
@@ -12,7 +12,7 @@ use Rattle.json.proofs.Printed.Utf8.{IsUtf8-are_ascii, are_ascii}
 use Rattle.serde_json.specs.Data.{Data}
 use Rattle.serde_json.specs.Find.{get, as_object, as_str}
 use Rattle.json_forms.specs.Lists.{list_items, all_of}
-use Rattle.json_forms.specs.Members.{member_names, least_name, least_unknown}
+use Rattle.json_forms.specs.Members.{member_names, least_unknown}
 use Rattle.cells.specs.Places.{cell_count}
 use Rattle.index_intervals.specs.Bounds.{Bounds, is_index}
 use Rattle.index_intervals.proofs.Laws.{is_index-true}
@@ -22,21 +22,20 @@ use Rattle.index_transform.specs.declared.domain.Domain.{Domain}
 use Rattle.index_transform.specs.declared.error.TransformError.{TransformError}
 use Rattle.index_transform.specs.declared.map.OutMap.{OutMap}
 use Rattle.index_transform.specs.declared.map.OutMap.TheVariants.{Constant, Strided, Indexed}
-use Rattle.transform_json.specs.Bounds.{lowers_of, given_lowers}
+use Rattle.transform_json.specs.Bounds.{lowers_of}
 use Rattle.transform_json.specs.Faults.{◌>>=◌, found_at, unless_faulty, no_fault}
 use Rattle.transform_json.specs.Input.{rank_of, rank_by, rank_number, rank_of_lists, given_labels, labels_of, domain_of}
 use Rattle.transform_json.specs.Members.{where_so, list_members, has, items_at, items_of_len, first_some}
-use Rattle.transform_json.specs.Output.{array_in, is_good, faulty_member, map_in, map_of, maps_from, maps_of}
+use Rattle.transform_json.specs.Output.{array_in, is_good, faulty_member, map_of, maps_from, maps_of}
 use Rattle.transform_json.specs.Transforms.{transform_members, transform_in, transform_of}
-use Rattle.transform_json.specs.Uppers.{dims_at, dims_of, open_dims, dims_to, upper_name}
+use Rattle.transform_json.specs.Uppers.{dims_of, open_dims}
 use Rattle.transform_json.specs.declared.error.JsonError.{JsonError}
 use Rattle.transform_json.specs.declared.error.JsonError.TheVariants as json
 use Rattle.transform_json.proofs.Accepted.{domain-good, accepted}
-use Rattle.transform_json.proofs.Told as told
 use Rattle.output_laws.specs.Held.{IsHeld}
 use Rattle.output_laws.specs.Plain.{IsWhole}
 use Rattle.output_laws.specs.Small.{IsLed}
-use Rattle.output_laws.proofs.HeldData.{May, may_some, may_then, may_map, may_so, may_all, get_held, str_held, AreItems, items_held, member_names_held, least_text, filter_texts, unknown_held}
+use Rattle.output_laws.proofs.HeldData.{May, may_then, may_map, may_so, may_all, get_held, str_held, AreItems, items_held, member_names_held, least_text, filter_texts, unknown_held}
 use Rattle.output_laws.proofs.SmallMaps.{IsFurther, none_of}
 
 -- ---- what a transform leads from

@@ -1,5 +1,5 @@
 -- The texts of JSON are UTF-8, where its bytes are.
-use Rattle.std.proofs.Common.{◌≡◌, ℕ, zero, suc, ◌+◌, ◌-◌, ◌*◌, ◌<◌, ◌≤◌, Bool, true, false, cond, ◌&&◌, ◌||◌, ◌==◌, nat_lt, nat_le, List, [], ◌∷◌, ◌++◌, length, take, drop, get_or, Option, Some, None, option_and_then, IsUtf8, inl, inr, refl, sym, ap, ◌∙◌, subst, arith, append_assoc, append-nil, ltb-true, leb-true, eqb-true}
+use Rattle.std.proofs.Common.{◌≡◌, ℕ, zero, suc, ◌+◌, ◌*◌, ◌<◌, ◌≤◌, Bool, true, false, cond, ◌&&◌, ◌||◌, ◌==◌, nat_lt, nat_le, List, [], ◌∷◌, ◌++◌, length, drop, get_or, Option, Some, None, option_and_then, IsUtf8, inl, inr, refl, sym, ap, ◌∙◌, subst, arith, append_assoc, append-nil, ltb-true, leb-true, eqb-true}
 use Rattle.std.proofs.lemmas.Bool.{and_parts, cases_lt}
 use Rattle.std.proofs.lemmas.Bool.Decides.{nat_tests}
 use Rattle.std.proofs.lemmas.List.{length-append}
@@ -7,8 +7,7 @@ use Rattle.std.proofs.lemmas.Str.{IsUtf8-append, IsUtf8-nil, IsUtf8-encode, IsUt
 use Rattle.std.specs.Char.{digit_value, is_digit, encode_utf8}
 use lib.Utf8.{scalar, scalars, encode, encodes, low_scalar}
 use lib.Seq.{drop_at}
-use Rattle.json.specs.Text.{code_unit, short_escape, is_high_surrogate, is_low_surrogate, surrogate_pair, Within, plain, after_backslash, after_u, after_high, prepend, content}
-use Rattle.json.proofs.Printed.Utf8.{IsUtf8-are_ascii}
+use Rattle.json.specs.Text.{code_unit, short_escape, is_high_surrogate, is_low_surrogate, surrogate_pair, plain, after_backslash, after_u, after_high, prepend, content}
 
 -- what there is of a text is UTF-8
 abbrev pub IsText : Option (List ℕ) → Type 0
@@ -232,7 +231,7 @@ all_text (suc n) = record { on = λ xs few text. by xs few text.0 text.1.0 text.
             | inr h ↦ h
           ] in
           let size : length (encode c ++ rest) ≡ length (encode c) + length rest = length-append (encode c) rest in
-            let some = encode_some c in
+          let some = encode_some c in
           subst IsText (sym (high_run (encode c) rest high)) (prepend_text (encode c) (content plain rest) (IsUtf8-encode c is) (goes.on rest (omega (arith, size, few, some)) text))
     ]
 

@@ -17,5 +17,16 @@ mod PlanRanks
 mod LineRanks
 mod OpenedRanks
 mod FlatOutputs
+mod TextEvents
+mod OutcomeTexts
+mod SmallLines
+mod SmallOutputs
+mod SmallForms
+mod SmallPlans
 mod Printed
+mod TextOutputs
+mod TextSpecs
+mod WantTexts
+mod SpecTexts
+mod WholeOutputs
 pub mod Laws

@@ -62,14 +62,18 @@ own_are owner seen events within =
     subst (λ h. AllByRecursion (IsEventOf h) (own_events owner (seen + 1) (drop seen events))) (take-append-drop seen events)
     (subst (λ n. AllByRecursion (IsEventOf (take seen events ++ drop seen events)) (own_events owner (n + 1) (drop seen events))) (length-take-le seen events within) (events_from owner (take seen events) (drop seen events)))
 
+-- an array whose opening stands in a history is there behind it
+pub new_there : (events : History) (owner at : ℕ) (info : ArrayInfo) (stands : IsEventOf events (record { number = at + 1; event = opened_event owner info })) → known_after (take (stands.0 + 1) events) info.number ≡ Some (opened_as (take stands.0 events) info)
+new_there events owner at info stands =
+    let n : ℕ = stands.0 in
+    ap (λ h. known_after h info.number) stands.2 ∙ known_after-more (take n events) (opened_event owner info) info.number
+    ∙ ap (λ t. cond t (Some (opened_as (take n events) info)) (known_after (take n events) info.number)) (eq-eqb info.number info.number refl)
+
 -- an array whose opening stands in a legal history
 new_few : (start : Contents) (events : History) (owner at : ℕ) (info : ArrayInfo) → IsLegal start events → IsEventOf events (record { number = at + 1; event = opened_event owner info }) → IsRankRef (new_ref (take at events) info)
 new_few start events owner at info legal stands =
     let n : ℕ = stands.0 in
-    let array = opened_as (take n events) info in
-    known_few start (take (n + 1) events) info.number array (legal_take start events (n + 1) legal)
-    (ap (λ h. known_after h info.number) stands.2 ∙ known_after-more (take n events) (opened_event owner info) info.number
-    ∙ ap (λ t. cond t (Some (opened_as (take n events) info)) (known_after (take n events) info.number)) (eq-eqb info.number info.number refl))
+    known_few start (take (n + 1) events) info.number (opened_as (take n events) info) (legal_take start events (n + 1) legal) (new_there events owner at info stands)
 
 -- the arrays of leaves that were opened
 pub opened_few : {start : Contents} {owner : ℕ} {events : History} {seen : ℕ} {leaves : List SpecLeaf} {refs : List Reference} {own : List Numbered} {now : ℕ} {rest : List SpecLeaf} → IsLegal start events → AreOpened start owner events seen leaves refs own now rest

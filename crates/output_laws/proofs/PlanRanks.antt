@@ -40,18 +40,18 @@ transform_rank d t e =
     let same : record { domain = c.0; maps = map plain_map m.0 } ≡ t = cc in
     subst HasRank same (record { few = good.rank; labels = good.labels })
 
-abbrev ok_as : {A : Type 0} → A → Result A SpecError
+abbrev pub ok_as : {A : Type 0} → A → Result A SpecError
 ok_as a = Ok a
 
 -- the step before a right result was right
-ok-of : {A B : Type 0} (r : Result A SpecError) (f : A → Result B SpecError) (b : B) → (r >>= f) ≡ Ok b → (a : A) × ((r ≡ Ok a) × (f a ≡ Ok b))
+pub ok-of : {A B : Type 0} (r : Result A SpecError) (f : A → Result B SpecError) (b : B) → (r >>= f) ≡ Ok b → (a : A) × ((r ≡ Ok a) × (f a ≡ Ok b))
 ok-of (Ok a) f b e = (a, (refl, e))
 ok-of (Err x) f b e = absurd (let no_such : ⊥ = cc in no_such)
 
-only : {A : Type 0} (a b : A) → ok_as a ≡ Ok b → a ≡ b
+pub only : {A : Type 0} (a b : A) → ok_as a ≡ Ok b → a ≡ b
 only a b e = cc
 
-turn-of : {A : Type 0} (path : List ℕ) (unknown : Option (List ℕ)) (name : List ℕ) (given : Result A SpecError) (a : A) → in_turn path unknown name given ≡ Ok a → given ≡ Ok a
+pub turn-of : {A : Type 0} (path : List ℕ) (unknown : Option (List ℕ)) (name : List ℕ) (given : Result A SpecError) (a : A) → in_turn path unknown name given ≡ Ok a → given ≡ Ok a
 unfolding in_turn
 turn-of path unknown name given a e = (ok-of (none_before path unknown name) (λ _. given) a e).1.1
 
@@ -131,14 +131,14 @@ stack_good read good path unknown leaves d r e =
     let all = layered read good (joined path (codes "layers")) leaves (option_and_then few_layers (option_and_then list_items (get (codes "layers") d))) four.0 (turn-of path unknown (codes "layers") _ four.0 four.1.0) in
     subst (λ (s : Read). Builds s.tree) (only _ r five.1.1) (stack_builds four.0.trees three.0 five.0 path (tail_rank path unknown d five.0 five.1.0) all)
 
-nested-of : (inner : Option Reader) (path : List ℕ) (f : Reader → Result Read SpecError) (r : Read) → nested inner path f ≡ Ok r → (read : Reader) × ((inner ≡ Some read) × (f read ≡ Ok r))
+pub nested-of : (inner : Option Reader) (path : List ℕ) (f : Reader → Result Read SpecError) (r : Read) → nested inner path f ≡ Ok r → (read : Reader) × ((inner ≡ Some read) × (f read ≡ Ok r))
 nested-of None path f r e = absurd (let no_such : ⊥ = cc in no_such)
 nested-of (Some read) path f r e = (read, (refl, e))
 
 abbrev Inner : Option Reader → Type 0
 Inner inner = (read : Reader) → inner ≡ Some read → Good read
 
-either : {A : Type 0} (test : Bool) (x y : A) (P : A → Type 0) → P x → P y → P (cond test x y)
+pub either : {A : Type 0} (test : Bool) (x y : A) (P : A → Type 0) → P x → P y → P (cond test x y)
 either true x y P one other = one
 either false x y P one other = other
 

@@ -30,14 +30,14 @@ flat_body (plain.bad_metadata key why events) flat counted = absurd counted
 flat_body (plain.damaged key cause) flat counted = absurd counted
 flat_body b flat counted = tt
 
-abbrev AreCounted : List plain.Answer → Type 0
+abbrev pub AreCounted : List plain.Answer → Type 0
 AreCounted log = AllByRecursion (λ (a : plain.Answer). IsCounted a.body) log
 
 numbered_counted : (log : List plain.Answer) → AllByRecursion IsNumbered log → AreCounted log
 numbered_counted [] all = tt
 numbered_counted (a ∷ log) all = (all.0.counted, numbered_counted log all.1)
 
-logs_counted : (fixed : Fixed) (history : History) (session : ℕ) (scripts : List (List (Option Line))) (logs : List (List plain.Answer)) → HaveRunAll fixed history session scripts logs → AllByRecursion AreCheckedLines scripts → AreSerial history session scripts logs → AllByRecursion AreCounted logs
+pub logs_counted : (fixed : Fixed) (history : History) (session : ℕ) (scripts : List (List (Option Line))) (logs : List (List plain.Answer)) → HaveRunAll fixed history session scripts logs → AllByRecursion AreCheckedLines scripts → AreSerial history session scripts logs → AllByRecursion AreCounted logs
 logs_counted fixed history session [] [] ran checked serial = tt
 logs_counted fixed history session [] (log ∷ logs) ran checked serial = absurd ran
 logs_counted fixed history session (script ∷ scripts) [] ran checked serial = tt

@@ -1,5 +1,5 @@
 -- An answer reads back whose texts are UTF-8 and whose numbers take 64 bits, where its values are along few dimensions.
-use Rattle.std.proofs.Common.{◌≡◌, ◌<◌, ◌≤◌, ◌^◌, ◌+◌, ℕ, ℤ, pos, negsuc, ◌+ℤ◌, List, [], ◌∷◌, length, map, IsUtf8, refl, arith, Option, Some, None}
+use Rattle.std.proofs.Common.{◌<◌, ◌^◌, pos, ◌+ℤ◌, List, [], ◌∷◌, length, map, refl, arith}
 use Rattle.std.specs.Prelude.{codes}
 use Rattle.std.specs.List.{AllByRecursion}
 use Rattle.std.specs.Ordering.{int_eq}
@@ -23,10 +23,10 @@ use Rattle.transcript_laws.specs.LineCauses.{step_cause, build_cause}
 use Rattle.transcript_laws.specs.Members.{indices_data}
 use Rattle.transcript_laws.specs.Printable.{IsPrintable}
 use Rattle.output_laws.specs.Flat.{IsFlat}
-use Rattle.output_laws.specs.Plain.{IsPlain, IsPlainMember, IsWhole, AreSmall}
+use Rattle.output_laws.specs.Plain.{IsPlain, IsPlainMember, IsWhole}
 use Rattle.output_laws.specs.Typed.{IsFlatBody, IsTypedBody}
-use Rattle.output_laws.specs.Small.{IsNear, IsSmallDim, IsSmallMap, IsSmall, IsSmallFault}
-use Rattle.output_laws.specs.Parts.{AreNumbers, IsSmallDomain, IsSmallStepCause, IsSmallBuildCause, IsSmallBody}
+use Rattle.output_laws.specs.Small.{IsSmallDim, IsSmallMap, IsSmall, IsSmallFault}
+use Rattle.output_laws.specs.Parts.{IsSmallDomain, IsSmallStepCause, IsSmallBuildCause, IsSmallBody}
 use Rattle.output_laws.proofs.Plain.{outer, inner, wider, object_outer, list_plain, natural_plain, integer_plain, text_plain, true_plain, closed_plain, dtype_plain, numbers_plain, indices_plain, cause_plain, bound_plain, no_plain, flagged_plain, put_named, labels_plain, object_plain, either_plain, nested_plain, number_member}
 use Rattle.output_laws.proofs.TypedBodies.{bad_spec_typed, body_typed, store_failed_typed, values_typed}
 

@@ -1,18 +1,17 @@
 -- Bounds stay near under what is done with one dimension.
-use Rattle.std.proofs.Common.{◌≡◌, ◌≢◌, ◌∙◌, ℕ, zero, suc, ◌+◌, ◌<◌, ◌≤◌, ℤ, pos, negsuc, neg_ℤ, ◌+ℤ◌, ◌-ℤ◌, ◌≤ℤ◌, ◌<ℤ◌, Bool, true, false, cond, not, ◌&&◌, ◌||◌, List, [], ◌∷◌, length, fold, Option, Some, None, unwrap_or, Result, Ok, Err, refl, sym, ap, subst, arith, unsigned_abs}
+use Rattle.std.proofs.Common.{◌≡◌, ◌≢◌, ℕ, zero, suc, ℤ, pos, negsuc, neg_ℤ, ◌+ℤ◌, ◌-ℤ◌, ◌≤ℤ◌, ◌<ℤ◌, Bool, true, false, cond, not, ◌&&◌, ◌||◌, List, [], ◌∷◌, fold, Option, Some, None, unwrap_or, Result, Ok, Err, refl, sym, subst, arith, unsigned_abs}
 use Rattle.std.specs.Int.{is_negative}
 use Rattle.std.specs.Int.RustNames.{int_lt}
 use Rattle.std.specs.List.{AllByRecursion}
 use Rattle.std.specs.Option.{ForSome}
 use Rattle.std.specs.Ordering.{int_eq}
-use Rattle.std.proofs.lemmas.Bool.{and_parts}
 use Rattle.std.proofs.lemmas.Int.{ints, clamps}
 use Rattle.index_intervals.specs.Around.{around, around_all}
 use Rattle.index_intervals.specs.Bounds.{Bounds, IsIndex, is_index, minus_infinity, plus_infinity}
 use Rattle.index_intervals.specs.Edges.{interval_of}
 use Rattle.index_intervals.specs.Shift.{moved, shifted}
-use Rattle.index_intervals.specs.Slice.{slice_start, slice_stop, slice_lo, slice_hi, is_open, is_backward, is_inside, kept_part, cut, sliced}
-use Rattle.index_intervals.specs.Stride.{quotient_down, quotient_up, mirrored, contracted, facing, strided}
+use Rattle.index_intervals.specs.Slice.{slice_start, slice_stop, slice_lo, slice_hi, is_open, is_backward, is_inside, kept_part, sliced}
+use Rattle.index_intervals.specs.Stride.{quotient_down, quotient_up, mirrored, facing, strided}
 use Rattle.index_intervals.specs.declared.edge.Edge.{Edge}
 use Rattle.index_intervals.specs.declared.slice.Sliced.{Sliced}
 use Rattle.index_intervals.specs.declared.slice.SliceError.{SliceError}
@@ -21,8 +20,8 @@ use Rattle.index_intervals.proofs.QuotientLemmas.{IsQuotientDown-quotient_down, 
 use Rattle.index_intervals.proofs.StrideLemmas.{IsIndex-up, IsIndex-down}
 use Rattle.index_intervals.proofs.RangeLemmas.{not_negative}
 use Rattle.index_intervals.proofs.SlicedLemmas.{unsigned_abs-int_div, int_eq-true}
-use Rattle.index_intervals.proofs.SlicingLemmas.{first_of, last_of, last_most}
-use Rattle.index_intervals.proofs.KeepingLemmas.{slice_lo-down, slice_hi-down}
+use Rattle.index_intervals.proofs.SlicingLemmas.{last_most}
+use Rattle.index_intervals.proofs.KeepingLemmas.{slice_hi-down}
 use Rattle.output_laws.specs.Small.{IsNear, IsSmallDim}
 
 pub index_near : (x : ℤ) → IsIndex x → IsNear x

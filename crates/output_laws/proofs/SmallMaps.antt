@@ -1,13 +1,12 @@
 -- A composition's numbers may be printed, where those of the outer transform may, and the inner one leads from few dimensions.
-use Rattle.std.proofs.Common.{◌≡◌, ◌∙◌, ◌⊎◌, inl, inr, ℕ, zero, suc, ◌+◌, ◌<◌, ◌≤◌, ◌^◌, ◌==◌, ℤ, pos, negsuc, ◌+ℤ◌, ◌*ℤ◌, ◌≤ℤ◌, ◌<ℤ◌, Bool, true, false, cond, not, ◌&&◌, ◌||◌, nat_le, List, [], ◌∷◌, length, map, get_or, Option, Some, None, Result, Ok, Err, refl, sym, ap, subst, arith}
+use Rattle.std.proofs.Common.{◌≡◌, ℕ, zero, suc, ◌+◌, ◌<◌, ◌≤◌, ◌==◌, ℤ, pos, negsuc, ◌+ℤ◌, ◌*ℤ◌, ◌≤ℤ◌, ◌<ℤ◌, Bool, true, false, cond, not, ◌||◌, List, [], ◌∷◌, length, map, get_or, Option, Some, None, Result, Ok, Err, refl, subst, arith}
 use Rattle.std.specs.List.{AllByRecursion, list_any, position_from, zip}
 use Rattle.std.specs.Str.{IsUtf8}
-use Rattle.std.specs.Option.{ForSome}
 use Rattle.std.specs.Prelude.{int_le, int_lt}
 use Rattle.std.proofs.lemmas.Bool.{and_parts}
 use Rattle.std.proofs.lemmas.Int.{ints}
 use Rattle.std.proofs.lemmas.List.{length-map}
-use Rattle.index_intervals.specs.Bounds.{Bounds, IsIndex}
+use Rattle.index_intervals.specs.Bounds.{Bounds}
 use Rattle.index_intervals.specs.Edges.{interval_of}
 use Rattle.index_transform.specs.Cells.{cells_of}
 use Rattle.index_transform.specs.Maps.{size_of}
@@ -15,15 +14,15 @@ use Rattle.index_transform.specs.Transforms.{DomainAndMaps, on_dims}
 use Rattle.index_transform.specs.Values.{is_word}
 use Rattle.index_transform.specs.declared.map.OutMap.{OutMap}
 use Rattle.index_transform.specs.declared.map.OutMap.TheVariants.{Constant, Strided, Indexed}
-use Rattle.transform_composition.specs.Composing.{nowhere, strided_over, composed_map, passes_over, passes_word, is_too_large, closed, closed_along, closed_dims, joined, unless_passed, unless_large, joined_answer, over_tightened, composed}
+use Rattle.transform_composition.specs.Composing.{nowhere, strided_over, composed_map, passes_over, passes_word, is_too_large, closed, closed_dims, joined, unless_passed, unless_large, joined_answer, over_tightened, composed}
 use Rattle.transform_composition.specs.Inside.{first_outside_by}
-use Rattle.transform_composition.specs.Reading.{has_array_along, point, read_dims, read_sizes, read_entries, entry_over}
-use Rattle.transform_composition.specs.Tightening.{tight_lower, tight_upper, tight_dims, tightened, tighten_answer, on_result, first_overflow_by, unless_overflow_by, unless_outside_by}
+use Rattle.transform_composition.specs.Reading.{has_array_along, point, read_dims, entry_over}
+use Rattle.transform_composition.specs.Tightening.{tight_lower, tight_upper, tight_dims, tightened, on_result, first_overflow_by, unless_overflow_by, unless_outside_by}
 use Rattle.transform_composition.specs.declared.error.ComposeError.{ComposeError}
 use Rattle.transform_composition.specs.declared.error.ComposeError.TheVariants as compose
 use Rattle.transform_composition.proofs.TightLemmas.{tight_lower-index, tight_upper-index}
 use Rattle.output_laws.specs.Plain.{IsWhole}
-use Rattle.output_laws.specs.Small.{IsNear, IsSmallDim, IsLed, IsSmallMap, IsSmall, IsSmallInner, IsSmallFault}
+use Rattle.output_laws.specs.Small.{IsSmallDim, IsLed, IsSmallMap, IsSmall, IsSmallInner, IsSmallFault}
 use Rattle.output_laws.proofs.SmallDims.{between_small}
 
 -- ---- lists

@@ -1,8 +1,7 @@
 -- Steps leave numbers and texts that may be printed, and so are the causes why they aren't done.
-use Rattle.std.proofs.Common.{◌≡◌, ◌∙◌, ◌≢◌, ℕ, zero, suc, ◌+◌, ◌<◌, ◌≤◌, ◌^◌, ◌==◌, ◌&&◌, ◌||◌, nat_le, leb-true, ℤ, pos, negsuc, neg_ℤ, ◌+ℤ◌, ◌-ℤ◌, ◌≤ℤ◌, ◌<ℤ◌, Bool, true, false, cond, List, [], ◌∷◌, ◌++◌, length, map, filter, get_or, Option, Some, None, option_map, option_and_then, unwrap_or, Result, Ok, Err, refl, sym, ap, subst, arith, unsigned_abs}
-use Rattle.std.specs.Prelude.{not, int_le, int_lt, is_none, is_some}
+use Rattle.std.proofs.Common.{◌≡◌, ℕ, zero, suc, ◌+◌, ◌<◌, ◌≤◌, ◌^◌, ◌==◌, ◌&&◌, ◌||◌, nat_le, leb-true, ℤ, pos, neg_ℤ, ◌+ℤ◌, ◌-ℤ◌, Bool, true, false, cond, List, [], ◌∷◌, ◌++◌, length, map, filter, Option, Some, None, option_map, option_and_then, unwrap_or, Result, Ok, Err, refl, subst, arith, unsigned_abs}
+use Rattle.std.specs.Prelude.{not, int_le, int_lt, is_none}
 use Rattle.std.specs.List.{AllByRecursion, range_with_len, enumerate_from, list_any, list_all}
-use Rattle.std.specs.Option.{ForSome}
 use Rattle.std.specs.Ordering.{int_eq}
 use Rattle.std.specs.Str.{IsUtf8}
 use Rattle.std.proofs.lemmas.Bool.{and_parts}
@@ -10,10 +9,10 @@ use Rattle.std.proofs.lemmas.Int.{ints}
 use Rattle.std.proofs.lemmas.List.{length-append, length-map}
 use Rattle.std.proofs.lemmas.Str.{IsUtf8-nil}
 use Rattle.json_forms.specs.Lists.{all_of}
-use Rattle.index_intervals.specs.Bounds.{Bounds, IsIndex, is_index, minus_infinity, plus_infinity}
+use Rattle.index_intervals.specs.Bounds.{Bounds, is_index, minus_infinity, plus_infinity}
 use Rattle.index_intervals.specs.Members.{effective_lo, effective_hi}
 use Rattle.index_intervals.specs.Shift.{shifted}
-use Rattle.index_intervals.specs.Slice.{sliced, cut, is_open, is_backward, is_inside, slice_start, slice_stop, slice_hi, kept_part}
+use Rattle.index_intervals.specs.Slice.{sliced, is_open, is_backward, is_inside, slice_start, slice_stop, slice_hi, kept_part}
 use Rattle.index_intervals.specs.Stride.{strided}
 use Rattle.index_intervals.specs.declared.slice.Sliced.{Sliced}
 use Rattle.index_intervals.specs.declared.slice.SliceError.{SliceError}
@@ -22,7 +21,6 @@ use Rattle.index_intervals.proofs.SlicedLemmas.{int_eq-true}
 use Rattle.index_transform.specs.Maps.{are_labels}
 use Rattle.index_transform.specs.Transforms.{DomainAndMaps}
 use Rattle.index_transform.specs.declared.map.OutMap.{OutMap}
-use Rattle.index_transform.specs.declared.map.OutMap.TheVariants.{Constant, Strided, Indexed}
 use Rattle.transform_composition.specs.Composing.{joined_answer}
 use Rattle.index_transform.specs.Values.{is_effective}
 use Rattle.transform_composition.specs.Reading.{point, depends_on}
@@ -38,8 +36,8 @@ use Rattle.step_forms.specs.declared.act.SlicePart.{SlicePart}
 use Rattle.step_forms.specs.declared.act.Step.{Step}
 use Rattle.step_forms.specs.declared.selection.SelectError.{SelectError}
 use Rattle.step_forms.specs.declared.selection.SelectError.TheVariants as select
-use Rattle.dim_changes.specs.Causes.{earlier, turn_of, with_cause, first_cause, unless_refused, outside_cause, cause_of, or_cause, over}
-use Rattle.dim_changes.specs.CutViews.{cause_at, cut_causes, cut_or_kept, cut_at, cut_map, cut_view, cut_answer}
+use Rattle.dim_changes.specs.Causes.{with_cause, first_cause, unless_refused, or_cause, over}
+use Rattle.dim_changes.specs.CutViews.{cause_at, cut_causes, cut_or_kept, cut_at, cut_view, cut_answer}
 use Rattle.dim_changes.specs.Cuts.{cut_counts, kept, can_move, moved_by, moved_to, moved_back, strided_by, slice_cause, sliced_by, by_number, cut_for}
 use Rattle.dim_changes.specs.Dims.{position_of, spot_in, others, dim_at, label_at}
 use Rattle.dim_changes.specs.Marks.{new_label, new_labels, with_labels, only_labels, marked, marked_dim, with_marks, has_array_on, makes_implicit}
@@ -48,24 +46,23 @@ use Rattle.dim_changes.specs.declared.cause.Cause.TheVariants as cause
 use Rattle.dim_changes.specs.declared.cut.Cut.{Cut}
 use Rattle.dim_changes.proofs.Laws.{range-length, rest_few}
 use Rattle.dim_expressions.specs.Answers.{step_answer}
-use Rattle.dim_expressions.specs.Applying.{select_error, numbered, answer_on, after_step, applied_from, applied}
-use Rattle.dim_expressions.specs.Arrays.{sizes_along, array_map, array_dim, array_at, entries_cause, length_cause, array_cause, array_causes}
+use Rattle.dim_expressions.specs.Applying.{numbered, answer_on, after_step, applied_from, applied}
+use Rattle.dim_expressions.specs.Arrays.{array_map, array_dim, array_at, entries_cause, length_cause, array_cause, array_causes}
 use Rattle.dim_expressions.specs.At.{numbers_count, at_number, at_cause, at_causes, at_map, at_view}
 use Rattle.dim_expressions.specs.Diagonal.{meet_of, selected_dims, diagonal_map, diagonal_view}
-use Rattle.dim_expressions.specs.Left.{all_dims, rank_of, passed, left_by, left_map, without}
+use Rattle.dim_expressions.specs.Left.{all_dims, rank_of, left_by, left_map, without}
 use Rattle.dim_expressions.specs.Newaxis.{new_axis, axis_by, axis_label_by, newaxis_view}
-use Rattle.dim_expressions.specs.Oindex.{dim_by, label_by, map_by, indexed_dim, indexed_label, indexed_map, oindex_view}
-use Rattle.dim_expressions.specs.Transpose.{carried_by, carried, old_dim, new_position, transpose_view, to_targets}
+use Rattle.dim_expressions.specs.Oindex.{dim_by, label_by, map_by, indexed_dim, oindex_view}
+use Rattle.dim_expressions.specs.Transpose.{carried_by, old_dim, transpose_view, to_targets}
 use Rattle.dim_expressions.specs.Vindex.{vindex_map, vindex_view, are_joined}
 use Rattle.dim_expressions.specs.declared.error.ApplyError.{ApplyError}
-use Rattle.dim_expressions.specs.declared.error.ApplyError.TheVariants as apply
 use Rattle.dim_expressions.proofs.MeetLaws.{meet_bounds}
 use Rattle.output_laws.specs.Plain.{IsWhole}
-use Rattle.output_laws.specs.Small.{IsNear, IsSmallDim, IsLed, IsSmallMap, IsSmall, IsSmallInner, IsSmallAct, IsSmallArray, IsSmallCause, IsSmallApplied, IsSmallStep}
+use Rattle.output_laws.specs.Small.{IsNear, IsSmallDim, IsLed, IsSmall, IsSmallInner, IsSmallAct, IsSmallArray, IsSmallCause, IsSmallApplied, IsSmallStep}
 use Rattle.output_laws.proofs.Ranks.{HasRank}
 use Rattle.output_laws.proofs.StepRanks.{AreBelow, fewer, selected_below, after_gives}
 use Rattle.output_laws.proofs.SmallDims.{shifted_small, strided_small, sliced_small}
-use Rattle.output_laws.proofs.SmallMaps.{all_at, map_all, map_of, position_low, joined_small, IsSmallAnswer}
+use Rattle.output_laws.proofs.SmallMaps.{all_at, map_all, position_low, joined_small, IsSmallAnswer}
 
 -- ---- numbers and lists
 
@@ -371,8 +368,7 @@ diagonal_outcome u selected false has small below is =
     let few = fewer u selected has below is in
     let met = meet_bounds (selected_dims u selected) in
     over_small u (diagonal_view u selected) small
-    (without_small u selected (meet_of (selected_dims u selected) ∷ []) diagonal_map small
-    (
+    (without_small u selected (meet_of (selected_dims u selected) ∷ []) diagonal_map small (
       record { lo = record { from_least = omega (arith, ints, met.lo_from); to_greatest = omega (arith, ints, met.lo_below) }; hi = record { from_least = omega (arith, ints, met.hi_above); to_greatest = omega (arith, ints, met.hi_to) } },
       tt,
     )

@@ -1,22 +1,20 @@
 -- Views whose numbers and texts may be printed, and why views aren't made.
-use Rattle.std.proofs.Common.{◌≡◌, ◌∙◌, ◌+◌, ◌-◌, ◌<◌, ◌≤◌, ◌^◌, ℕ, zero, suc, ℤ, pos, negsuc, ◌-ℤ◌, ◌≤ℤ◌, nat_lt, Bool, true, false, cond, List, [], ◌∷◌, ◌++◌, length, map, get_or, codes, Option, Some, None, Result, Ok, Err, IsUtf8, refl, sym, ap, subst, arith}
+use Rattle.std.proofs.Common.{◌≡◌, ◌+◌, ◌<◌, ◌≤◌, ◌^◌, ℕ, ℤ, pos, negsuc, nat_lt, Bool, true, false, cond, List, [], ◌∷◌, length, map, Result, Ok, Err, IsUtf8, refl, sym, ap, subst, arith}
 use Rattle.std.specs.List.{AllByRecursion, list_all}
 use Rattle.std.proofs.lemmas.Int.{ints}
 use Rattle.std.proofs.lemmas.List.{length-map}
-use Rattle.std.proofs.lemmas.Str.{IsUtf8-nil, IsUtf8-append}
-use Rattle.json.proofs.Printed.Utf8.{IsUtf8-are_ascii}
+use Rattle.std.proofs.lemmas.Str.{IsUtf8-nil}
 use Rattle.cells.specs.declared.dtype.Dtype.{Dtype}
 use Rattle.index_intervals.specs.Bounds.{Bounds}
 use Rattle.index_transform.specs.Identity.{identity_maps, identity_over}
 use Rattle.index_transform.specs.Transforms.{DomainAndMaps}
 use Rattle.index_transform.specs.Values.{value_at, map_value}
-use Rattle.index_transform.specs.declared.map.OutMap.{OutMap}
 use Rattle.transform_composition.specs.Composing.{composed}
 use Rattle.transform_composition.specs.declared.error.ComposeError.{ComposeError}
 use Rattle.stack_driver.specs.Arrays.{array_dim, array_domain, whole_view}
 use Rattle.stack_driver.specs.Changes.{under, under_result, moved}
 use Rattle.stack_driver.specs.References.{Reference}
-use Rattle.stack_driver.specs.Stacks.{column, stacked_dims, stacked_labels, has_label, stacked_domain, first_unlike, unless_unlike, stack_answer}
+use Rattle.stack_driver.specs.Stacks.{column, stacked_dims, stacked_labels, has_label, stacked_domain}
 use Rattle.stack_driver.specs.Targets.{Target, before, in_dim, in_shape, has_index}
 use Rattle.stack_driver.specs.Views.{Look, look_of, look_step, leaf_target, cast_target, last_target, own_transform}
 use Rattle.stack_driver.specs.declared.error.TargetError.{TargetError}
@@ -26,10 +24,9 @@ use Rattle.stack_driver.specs.declared.view.View.TheOpen.{View-F}
 use Rattle.stack_driver.specs.declared.view.View.TheVariants as view
 use Rattle.stack_driver.proofs.Layers.{every_layer, every_base}
 use Rattle.stack_driver.proofs.Looks.{look-Leaf, look-Cast, look-Stack, own-Leaf, own-Cast, own-Stack, own_dims}
-use Rattle.stack_driver.proofs.StackRules.{length-stacked_dims, length-stacked_labels}
+use Rattle.stack_driver.proofs.StackRules.{length-stacked_dims}
 use Rattle.stack_driver.proofs.Unders.{under-Leaf, under-Cast, under-Stack}
-use Rattle.output_laws.specs.Plain.{IsWhole}
-use Rattle.output_laws.specs.Small.{IsNear, IsSmallDim, IsLed, IsSmallMap, IsSmall, IsSmallFault}
+use Rattle.output_laws.specs.Small.{IsSmallDim, IsSmallMap, IsSmall, IsSmallFault}
 use Rattle.output_laws.proofs.SmallDims.{all_around_small}
 use Rattle.output_laws.proofs.SmallMaps.{all_at, map_all, map_of, zero_whole, IsSmallAnswer, IsFurther, composed_small}
 use Rattle.output_laws.proofs.ViewRanks.{own_under}
@@ -210,12 +207,12 @@ whole_small r is =
     let outputs = count_identity 0 dims in
     record {
       own = subst IsSmall (sym (own-Leaf r t)) (record {
-            dims = map_of (λ size. size < 2 ^ 63) IsSmallDim (array_dim r.local) r.shape (array_small r.local) is.sizes;
-            labels = map_all IsUtf8 (λ (size : ℕ). []) r.shape (λ size. IsUtf8-nil);
-            maps = identity_small 0 dims (omega (arith, count, is.few));
-            few = omega (arith, count, is.few);
-            outputs = omega (arith, outputs, count, is.few);
-          });
+        dims = map_of (λ size. size < 2 ^ 63) IsSmallDim (array_dim r.local) r.shape (array_small r.local) is.sizes;
+        labels = map_all IsUtf8 (λ (size : ℕ). []) r.shape (λ size. IsUtf8-nil);
+        maps = identity_small 0 dims (omega (arith, count, is.few));
+        few = omega (arith, count, is.few);
+        outputs = omega (arith, outputs, count, is.few);
+      });
       few = leaf_few r t (omega (arith, outputs, count, is.few));
     }
 

@@ -1,8 +1,7 @@
 -- The arrays that sessions open lie at texts of UTF-8, where their lines ask for such.
-use Rattle.std.proofs.Common.{◌≡◌, ◌∙◌, ℕ, zero, suc, ◌+◌, ◌<◌, ◌≤◌, ◌^◌, List, [], ◌∷◌, ◌++◌, length, take, drop, map, filter, Bool, true, false, cond, codes, decimal, Option, Some, None, Result, Ok, Err, IsUtf8, refl, sym, ap, subst, arith, append_assoc, append-nil, length-append, length-drop, eq-eqb, eqb-true}
-use Rattle.std.specs.Prelude.{◌==◌, filter_map, option_map}
-use Rattle.std.specs.FinMap as finmap
-use Rattle.std.specs.List.{AllByRecursion}
+use Rattle.std.proofs.Common.{◌≡◌, ◌∙◌, ℕ, zero, suc, ◌+◌, ◌<◌, ◌≤◌, ◌^◌, List, [], ◌∷◌, ◌++◌, length, take, drop, filter, Bool, true, false, cond, Option, Some, None, IsUtf8, refl, sym, ap, subst, arith, length-drop, eq-eqb}
+use Rattle.std.specs.Prelude.{◌==◌, filter_map}
+use Rattle.std.specs.List.{AllByRecursion, cons_option}
 use Rattle.std.specs.Ordering.{is_lt, nat_cmp}
 use Rattle.std.specs.Cmp.Lexicographic.{slice_cmp}
 use Rattle.std.proofs.lemmas.List.{take-append-drop, drop-append-le, length-take-le}
@@ -20,7 +19,7 @@ use Rattle.history.specs.declared.event.Kind.{Kind}
 use Rattle.history.specs.declared.event.Kind.TheVariants.{Opened, Done, Resized, Fault}
 use Rattle.history.specs.declared.event.Op.{Op}
 use Rattle.history.specs.Acts.{Act, opens, binds, reads, stages, writes, begins, commits, aborts, resizes, resolves, Asked}
-use Rattle.history.specs.Answers.{Body, Text, Answer}
+use Rattle.history.specs.Answers.{Body}
 use Rattle.history.specs.Arrays.{Known, known_after, known_step, known_reshaped}
 use Rattle.history.specs.Commit.{Key, Fixed, Transaction, done_each, commit_events, kept_ops, changed_keys, stored_keys, are_together}
 use Rattle.history.specs.CommitRows.{IsCommit, is_done, conflicts, is_failed, is_split, is_shrunk, is_damaged, is_wanting, own_after}
@@ -29,7 +28,7 @@ use Rattle.history.specs.Leaves.{Leaf}
 use Rattle.history.specs.Lines.{SpecLeaf, given, stored}
 use Rattle.history.specs.OpenRows.{AreOpened, no_leaf, known_leaf, new_leaf, given_leaf}
 use Rattle.history.specs.Outcomes.{home_of}
-use Rattle.history.specs.Own.{Numbered, numbered, own_events, fault_at}
+use Rattle.history.specs.Own.{Numbered, numbered, own_events}
 use Rattle.history.specs.Places.{location, location_of, locations, arrays_of, opened_array, lesser, least, taken, clashes}
 use Rattle.history.specs.Sessions.{Names, SessionState}
 use Rattle.history.specs.Steps.{IsRow, open_done, open_refused, open_unbuilt, open_failed, open_wanting, view_done, read_done, read_shrunk, read_damaged, read_failed, write_staged, write_done, begin_done, commit_done, abort_done, resize_done, resize_many, resize_split, resize_damaged, resize_failed, resolve_done, resolve_refused, IsAnswered, refused_line, wanting, done_line}
@@ -56,7 +55,7 @@ IsTextKind (Fault mount) = Unit {0}
 abbrev pub AreTextEvents : History → Type 0
 AreTextEvents events = AllByRecursion (λ (e : Event). IsTextKind e.kind) events
 
-abbrev AreTextOwn : List Numbered → Type 0
+abbrev pub AreTextOwn : List Numbered → Type 0
 AreTextOwn os = AllByRecursion (λ (o : Numbered). IsTextKind o.event.kind) os
 
 -- what a line asks to be opened lies so

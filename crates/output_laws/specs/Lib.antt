@@ -4,7 +4,9 @@ pub mod Small
 pub mod Parts
 pub mod Typed
 pub mod Flat
+pub mod TextSpecs
 pub mod Printed
+pub mod Whole
 -- names of crates below, given on to those above
 pub use Rattle.transcript_laws.specs.Outputs
 pub use Rattle.transcript_laws.specs.Transcript

@@ -1,5 +1,5 @@
 -- Answers whose texts are UTF-8 and whose numbers take 64 bits, part by part.
-use Rattle.std.specs.Prelude.{◌<◌, ◌^◌, ℕ, ℤ, List, Option, Some, None}
+use Rattle.std.specs.Prelude.{◌<◌, ◌^◌, ℕ, List}
 use Rattle.std.specs.List.{AllByRecursion}
 use Rattle.std.specs.Str.{IsUtf8}
 use Rattle.index_transform.specs.declared.domain.Domain.{Domain}
@@ -39,7 +39,8 @@ abbrev pub IsSmallBuildCause : BuildCause → Type 0
 IsSmallBuildCause (answer.by_transform cause) = IsSmallFault cause
 IsSmallBuildCause answer.layers = Unit {0}
 
--- each text is UTF-8, and each number takes 64 bits; no log of checked scripts over a store that was empty has the answers of which this is never so
+-- each text is UTF-8, and each number takes 64 bits; no log of checked scripts over a store that was empty has the
+-- answers of which this is never so
 abbrev pub IsSmallBody : Body → Type 0
 IsSmallBody (answer.opened name dtype domain events) = IsUtf8 name × IsSmallDomain domain × AreNumbers events
 IsSmallBody (answer.viewed name dtype transform) = IsUtf8 name × IsSmall transform
@@ -83,6 +84,8 @@ IsSmallBody (answer.store_failed event done events) = (event < 2 ^ 64) × AreNum
 IsSmallBody (answer.damaged key cause) = ⊥
 IsSmallBody answer.memory = Unit {0}
 
--- an answer at a line of 64 bits reads back, where its texts are UTF-8, its numbers take 64 bits, and its values are along at most 32 dimensions
+-- an answer at a line of 64 bits reads back, where its texts are UTF-8, its numbers take 64 bits, and its values are
+-- along at most 32 dimensions
 abbrev pub SmallAnswersArePrintable : Type 0
-SmallAnswersArePrintable = (a : Answer) → a.line < 2 ^ 64 → IsFlat a.body → IsSmallBody a.body → IsPrintable (answer_of a)
+SmallAnswersArePrintable = (a : Answer)
+    → a.line < 2 ^ 64 → IsFlat a.body → IsSmallBody a.body → IsPrintable (answer_of a)

@@ -39,7 +39,8 @@ IsLed (Indexed offset stride sizes entries) = (length sizes ≤ 32) × AllByRecu
 abbrev pub IsSmallMap : OutMap → Type 0
 IsSmallMap (Constant offset) = IsWhole offset
 IsSmallMap (Strided offset stride dim) = IsWhole offset × IsWhole stride × (dim < 2 ^ 64)
-IsSmallMap (Indexed offset stride sizes entries) = IsWhole offset × IsWhole stride × (length sizes ≤ 32) × AllByRecursion IsWhole entries
+IsSmallMap (Indexed offset stride sizes entries) =
+    IsWhole offset × IsWhole stride × (length sizes ≤ 32) × AllByRecursion IsWhole entries
 
 -- at most 32 dimensions and outputs, the numbers of both take 64 bits, and labels are UTF-8
 pub record IsSmall (t : DomainAndMaps) : Type 0 where
@@ -113,4 +114,5 @@ IsSmallApplied n (Err apply.Memory) = Unit {0}
 -- steps on a transform of small numbers give one, or a small cause; each dimension has a label
 abbrev pub StepsStaySmall : Type 0
 StepsStaySmall = (u : DomainAndMaps) (steps : List Step)
-    → length u.domain.labels ≡ length u.domain.dims → IsSmall u → AllByRecursion IsSmallStep steps → IsSmallApplied (length steps) (applied u steps)
+    → length u.domain.labels ≡ length u.domain.dims → IsSmall u → AllByRecursion IsSmallStep steps
+    → IsSmallApplied (length steps) (applied u steps)

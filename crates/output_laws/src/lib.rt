@@ -10,6 +10,9 @@ ghost use Rattle.output_laws.specs.Held.{DataIsHeld};
 ghost use Rattle.output_laws.specs.Parts.{SmallAnswersArePrintable};
 ghost use Rattle.output_laws.specs.Printed.{PrintedOutputsAreYes};
 ghost use Rattle.output_laws.specs.Small.{StepsStaySmall};
+ghost use Rattle.output_laws.specs.Whole.{FewOutputsAreYes};
+ghost use Rattle.transcript_laws.specs.Outputs.{OutputsArePrintable, OutputsFit};
+ghost use Rattle.output_laws.specs.TextSpecs.{SpecsAreTexts};
 
 mod bodies;
 mod causes;
@@ -34,6 +37,26 @@ pub fn steps_stay_small()
 /// An answer reads back whose texts are UTF-8 and whose numbers take 64 bits, where its values are along at most 32 dimensions.
 pub fn small_answers_are_printable()
     ensures { SmallAnswersArePrintable }
+{}
+
+/// A Spec whose texts are UTF-8 asks for arrays at mounts and paths of UTF-8. Where it has no plan, it is refused by a text of UTF-8.
+pub fn specs_are_texts()
+    ensures { SpecsAreTexts }
+{}
+
+/// The answers of an output read back, whoever printed them.
+pub fn outputs_are_printable()
+    ensures { OutputsArePrintable }
+{}
+
+/// An output fits, whoever printed it.
+pub fn outputs_fit()
+    ensures { OutputsFit }
+{}
+
+/// What an output prints is answered yes, whoever printed it.
+pub fn few_outputs_are_yes()
+    ensures { FewOutputsAreYes }
 {}
 
 /// What an output prints is answered yes, by as many events as there are, where its answers are those of a program.
