@@ -12,4 +12,4 @@ pub use Rattle.chunk_fetches.proofs.LooksLaws.{no_piece}
 pub use Rattle.chunk_fetches.proofs.FetchLaws.{IsNamed, if_ok_map, if_err_map, passed_turned, passed_twice, prefix_on}
 -- laws of crates below, given on to those above
 pub use Rattle.shared_state.proofs.Laws.{good_in, known-outline}
-pub use Rattle.transaction_cells.proofs.Laws.{IsSiteIn, alike_in, can_stage, count_of, found-insert, inside_in_chunk, known_sites, leaves_among, named_cells, needs_unwritten, outside_of_view, same_chunk, staged_cell, staged_later}
+pub use Rattle.transaction_cells.proofs.Laws.{IsSiteIn, alike_in, can_stage, count_of, found-insert, inside_in_chunk, known_sites, leaves_among, named_cells, needs_unwritten, none_staged, outside_of_view, same_chunk, staged_cell, staged_later}

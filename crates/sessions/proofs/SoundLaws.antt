@@ -7,7 +7,7 @@ use Rattle.history.specs.Legal.{IsLegal}
 use Rattle.sessions.specs.Commits.{HasSoundTxn}
 use Rattle.session_turns.specs.Agreement.{Opening}
 use Rattle.session_turns.specs.Outline.{outline}
-use Rattle.transaction_cells.proofs.Laws.{none_staged}
+use Rattle.session_turns.proofs.Laws.{none_staged}
 use Rattle.session_turns.specs.Txn.{TxnSeen, transaction_of}
 use Rattle.session_turns.proofs.Laws.{recorded_begun}
 

@@ -25,7 +25,7 @@ use Rattle.stack_driver.specs.Conditions.{IsView}
 use Rattle.stack_driver.specs.declared.view.View.{View}
 use Rattle.session_turns.specs.Agreement.{Opening}
 use Rattle.session_turns.specs.Outline.{outline}
-use Rattle.transaction_cells.proofs.Laws.{none_staged}
+use Rattle.session_turns.proofs.Laws.{none_staged}
 use Rattle.session_turns.specs.Committing.{HasCommitted}
 use Rattle.session_turns.specs.Conditions.{IsTxnIn}
 use Rattle.session_turns.specs.Recording.{IsRecorded}

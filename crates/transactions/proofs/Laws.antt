@@ -6,5 +6,7 @@ pub use Rattle.transactions.proofs.TxnLaws.{txn_later}
 pub use Rattle.transactions.proofs.RecordLaws.{recorded_begun, recorded_written, recorded_read, recorded_later}
 -- behind a turn a pass rests, and has seen events that may have happened
 pub use Rattle.chunk_fetches.proofs.Laws.{has_turned, past_of}
+-- by no operations nothing is staged
+pub use Rattle.chunk_fetches.proofs.Laws.{none_staged}
 -- what a commit may add is no failed call
 pub use Rattle.commits.proofs.Laws.{IsCalm, may_calm}
