@@ -44,17 +44,17 @@ pub fn specs_are_texts()
     ensures { SpecsAreTexts }
 {}
 
-/// The answers of an output read back, whoever printed them.
+/// The answers of an output read back, whoever printed them, where events, and bytes a script, are fewer than 2^64.
 pub fn outputs_are_printable()
     ensures { OutputsArePrintable }
 {}
 
-/// An output fits, whoever printed it.
+/// Such an output fits, whoever printed it.
 pub fn outputs_fit()
     ensures { OutputsFit }
 {}
 
-/// What an output prints is answered yes, whoever printed it.
+/// What such an output prints is answered yes, by as many events as there are, whoever printed it.
 pub fn few_outputs_are_yes()
     ensures { FewOutputsAreYes }
 {}
