@@ -25,7 +25,9 @@ pub use limits::{
     GREATEST_INDEX, INFINITY, LARGEST_RANK, LARGEST_SIZE, LONGEST_LABEL, MOST_CELLS,
     MOST_CHUNK_CELLS, MOST_ENTRIES,
 };
-pub use list_types::{Boxed, Index, List, Name, Sizes, Words, copy_name, copy_sizes};
+pub use list_types::{
+    Boxed, Index, List, Name, SeenWords, Sizes, Words, WrittenWords, copy_name, copy_sizes,
+};
 pub use order::Order;
 pub use places::{count_cells, divided, index_of, place};
 pub use run::Run;

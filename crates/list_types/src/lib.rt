@@ -9,9 +9,11 @@ mod copies;
 mod list;
 mod name;
 mod words;
+mod written;
 
 pub use boxed::Boxed;
 pub use copies::{copy_name, copy_sizes};
 pub use list::List;
 pub use name::Name;
 pub use words::{Index, Sizes, Words};
+pub use written::{SeenWords, WrittenWords};
