@@ -1,6 +1,6 @@
 -- Values that fit give a word of the dtype to each cell.
-use Rattle.std.proofs.Common.{◌≡◌, ℕ, ◌+◌, ◌*◌, List, [], ◌∷◌, ◌++◌, length, replicate, Bool, true, false, ℤ, Option, Some, None, Result, Ok, Err, Vec, Global, cond, eqb, rules, tests, refl, ◌∙◌, subst, arith}
-use Rattle.std.specs.Prelude.{All, IfOk, int_le, ◌&&◌}
+use Rattle.std.proofs.Common.{◌≡◌, ℕ, ◌+◌, ◌*◌, List, [], ◌∷◌, ◌++◌, length, replicate, Bool, true, false, ℤ, Option, Some, None, Result, Ok, Err, cond, eqb, rules, tests, refl, ◌∙◌, subst, arith}
+use Rattle.std.specs.Prelude.{All, int_le, ◌&&◌}
 use Rattle.std.proofs.lemmas.Bool.{eqb-true}
 use Rattle.std.proofs.lemmas.Int.{ints}
 use Rattle.std.proofs.lemmas.List.{length-append, length-replicate}
@@ -86,11 +86,3 @@ single_or_nested-are dtype shape d None words e = nested_words-are dtype shape d
 -- so does everything that values may be
 pub words_of-are : (dtype : Dtype) (shape : List ℕ) (d : Data) (words : List ℕ) → words_of dtype shape d ≡ Ok words → AreWords dtype (cell_count shape) words
 words_of-are dtype shape d words e = single_or_nested-are dtype shape d (whole_number d) words e
-
-pub full-from_given : {E : Type 0} (dtype : Dtype) (shape : List ℕ) (d : Data) (r : Result (Vec ℕ Global) E) → IfOk r (λ words. nested_words dtype shape d ≡ Ok words.items) → IfOk r (λ words. length words.items ≡ cell_count shape)
-full-from_given dtype shape d (Ok words) e = (nested_words-are dtype shape d words.items e).full
-full-from_given dtype shape d (Err cause) e = tt
-
-pub of_dtype-from_given : {E : Type 0} (dtype : Dtype) (shape : List ℕ) (d : Data) (r : Result (Vec ℕ Global) E) → IfOk r (λ words. nested_words dtype shape d ≡ Ok words.items) → IfOk r (λ words. All (IsWord dtype) words.items)
-of_dtype-from_given dtype shape d (Ok words) e = (nested_words-are dtype shape d words.items e).of_dtype
-of_dtype-from_given dtype shape d (Err cause) e = tt

@@ -8,4 +8,4 @@ mod cutting;
 mod words;
 
 pub use cutting::{cut, is_blank};
-pub use words::{ValuesError, words_of_values};
+pub use words::{ValuesError, nested_words, words_of_values};

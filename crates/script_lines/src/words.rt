@@ -6,7 +6,7 @@ ghost use Rattle.json_forms.specs.Numbers.{whole_number};
 ghost use Rattle.json_forms.specs.Lists.{list_items};
 ghost use Rattle.script_lines.specs.NestedWords.{Path, onto, repeated, one_word, sized, nested_words, words_of};
 
-use cells::{Dtype, List, count_cells};
+use cells::{Dtype, List, WrittenWords, count_cells};
 use json_forms::{list_items, whole_number};
 use serde_json::Value;
 use std::alloc::{AllocError, Global};
@@ -34,7 +34,7 @@ impl From<AllocError> for ValuesError {
 }
 
 /// The words, in C order, that values give to the cells of a shape: one whole number in the dtype's range for all cells,
-/// or lists that are nested as the shape says, with such numbers in the innermost.
+/// or lists that are nested as the shape says, with such numbers in the innermost. One number takes no memory.
 ///
 /// # Errors
 /// `Bad` where the values are neither, and `Memory` where an allocation failed.
@@ -43,21 +43,31 @@ pub fn words_of_values(
     dtype: Dtype,
     shape: &[u64],
     values: &Value,
-) -> Result<Vec<u64>, ValuesError>
+) -> Result<WrittenWords, ValuesError>
     requires { cell_count shape.now ≤ 2 ^ 22 }
-    ensures ok { IfOk result (λ words. words_of dtype shape.now (view values.now) ≡ Ok words.items) }
+    ensures ok { IfOk result (λ words. words_of dtype shape.now (view values.now) ≡ Ok words) }
     ensures bad { (path : Path) → result ≡ Err (ValuesError.Bad path)
         → words_of dtype shape.now (view values.now) ≡ Err path }
-    ensures full { IfOk result (λ words. length words.items ≡ cell_count shape.now) }
-    ensures of_dtype { IfOk result (λ words. All (IsWord dtype) words.items) }
+    ensures full { IfOk result (λ words. length words ≡ cell_count shape.now) }
+    ensures of_dtype { IfOk result (λ words. All (IsWord dtype) words) }
+{
+    match whole_number(values) {
+        Some(number) => repeated(alloc, dtype, cells_of(shape), number),
+        None => match nested_words(alloc, dtype, shape, values) {
+            Ok(words) => Ok(WrittenWords::each(words)),
+            Err(e) => Err(e),
+        },
+    }
+}
+
+fn cells_of(shape: &[u64]) -> usize
+    requires { cell_count shape.now ≤ 2 ^ 22 }
+    ensures { result ≡ cell_count shape.now }
 {
     let Some(count) = count_cells(shape, 1 << 22) else {
         unreachable!();
     };
-    match whole_number(values) {
-        Some(number) => repeated(alloc, dtype, count as usize, number),
-        None => nested_words(alloc, dtype, shape, count as usize, values),
-    }
+    count as usize
 }
 
 fn repeated(
@@ -65,29 +75,34 @@ fn repeated(
     dtype: Dtype,
     count: usize,
     number: i128,
-) -> Result<Vec<u64>, ValuesError>
-    ensures ok { IfOk result (λ words. repeated dtype count number ≡ Ok words.items) }
+) -> Result<WrittenWords, ValuesError>
+    ensures ok { IfOk result (λ words. repeated dtype count number ≡ Ok words) }
     ensures bad { (path : Path) → result ≡ Err (ValuesError.Bad path) → repeated dtype count number ≡ Err path }
 {
     if dtype.holds(number) {
-        Ok(vec![in alloc; dtype.word(number); count]?)
+        Ok(WrittenWords::one(dtype.word(number), count))
     } else {
         Err(bad_here(alloc))
     }
 }
 
-fn nested_words(
+/// The words, in C order, that lists give to the cells of a shape, which are nested as the shape says, with whole numbers in the dtype's range in the
+/// innermost.
+///
+/// # Errors
+/// `Bad` where the values are no such lists, and `Memory` where an allocation failed.
+pub fn nested_words(
     alloc: Global,
     dtype: Dtype,
     shape: &[u64],
-    count: usize,
     values: &Value,
 ) -> Result<Vec<u64>, ValuesError>
+    requires { cell_count shape.now ≤ 2 ^ 22 }
     ensures ok { IfOk result (λ words. nested_words dtype shape.now (view values.now) ≡ Ok words.items) }
     ensures bad { (path : Path) → result ≡ Err (ValuesError.Bad path)
         → nested_words dtype shape.now (view values.now) ≡ Err path }
 {
-    let mut words = Vec::with_capacity(alloc, count)?;
+    let mut words = Vec::with_capacity(alloc, cells_of(shape))?;
     push_nested(alloc, dtype, shape, values, &mut words)?;
     Ok(words)
 }

@@ -14,45 +14,6 @@ use Rattle.serde_json.specs.Data.{Data, null, boolean, number, string, array, ob
 use Rattle.stack_driver.specs.Views.{look_of}
 use Rattle.stack_driver.specs.declared.view.View.{View}
 use Rattle.transcript_cut.specs.Standings.{words_given}
-use Rattle.stated_arrays.specs.ToldWords.{lacks_list}
-
--- a list is no number
-number_none : (d : Data) (items : List Data) → list_items d ≡ Some items → whole_number d ≡ None
-number_none null items is = let no : ⊥ = cc in absurd no
-number_none (boolean b) items is = let no : ⊥ = cc in absurd no
-number_none (number n) items is = let no : ⊥ = cc in absurd no
-number_none (string s) items is = let no : ⊥ = cc in absurd no
-number_none (array ds) items is = refl
-number_none (object ms) items is = let no : ⊥ = cc in absurd no
-
--- where a list stands, or none is wanted, the words are those of nested lists
-pub words_listed : (dtype : Dtype) (shape : List ℕ) (d : Data) → lacks_list shape d ≡ false → words_of dtype shape d ≡ nested_words dtype shape d
-words_listed dtype [] d has = by (whole_number d) refl
-  where
-    by : (o : Option ℤ) → whole_number d ≡ o → single_or_nested dtype [] d (whole_number d) ≡ one_word dtype (whole_number d)
-    by None is = ap (single_or_nested dtype [] d) is
-    by (Some n) is = ap (single_or_nested dtype [] d) is ∙ sym (ap (one_word dtype) is)
-words_listed dtype (size ∷ shape) d has = by (list_items d) refl
-  where
-    by : (o : Option (List Data)) → list_items d ≡ o → single_or_nested dtype (size ∷ shape) d (whole_number d) ≡ nested_words dtype (size ∷ shape) d
-    by None is = let no : true ≡ false = sym (ap (λ o. not (is_some o)) is) ∙ has in absurd (let never : ⊥ = cc in never)
-    by (Some items) is = ap (single_or_nested dtype (size ∷ shape) d) (number_none d items is)
-
--- where none stands, there are no words
-pub words_unlisted : (dtype : Dtype) (shape : List ℕ) (d : Data) → lacks_list shape d ≡ true → words_given (nested_words dtype shape d) ≡ []
-words_unlisted dtype [] d lacks = let no : ⊥ = cc in absurd no
-words_unlisted dtype (size ∷ shape) d lacks = by (list_items d) refl
-  where
-    by : (o : Option (List Data)) → list_items d ≡ o → words_given (from_list (nested_words dtype shape) (sized size (list_items d))) ≡ []
-    by None is = ap (λ o. words_given (from_list (nested_words dtype shape) (sized size o))) is
-    by (Some items) is = let no : false ≡ true = sym (ap (λ o. not (is_some o)) is) ∙ lacks in absurd (let never : ⊥ = cc in never)
-
--- so where the words of values are told
-pub words_given_so : (dtype : Dtype) (shape : List ℕ) (d : Data) (words : List ℕ) → lacks_list shape d ≡ false → words_of dtype shape d ≡ Ok words → words ≡ words_given (nested_words dtype shape d)
-words_given_so dtype shape d words has is = sym (ap words_given (sym (words_listed dtype shape d has) ∙ is))
-
-pub none_given_so : (dtype : Dtype) (shape : List ℕ) (d : Data) (path : List ℕ) → lacks_list shape d ≡ false → words_of dtype shape d ≡ Err path → [] ≡ words_given (nested_words dtype shape d)
-none_given_so dtype shape d path has is = sym (ap words_given (sym (words_listed dtype shape d has) ∙ is))
 
 -- a view whose cells are counted has few of them
 counted_small : (product dim n : ℕ) (sizes : List ℕ) → product ≤ 4194304 → counted_from product dim sizes ≡ Ok n → n ≤ 4194304

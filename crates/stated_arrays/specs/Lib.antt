@@ -7,7 +7,6 @@ pub mod Served
 pub mod Stating
 pub mod Openings
 pub mod Outcomes
-pub mod ToldWords
 pub mod OpenedViews
 -- names of crates below, given on to those above
 pub use Rattle.transcript_cut.specs.Claimed

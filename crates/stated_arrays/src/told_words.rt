@@ -6,13 +6,11 @@ ghost use Rattle.index_transform.specs.Cells.{cells_of, count_answer};
 ghost use Rattle.script_lines.specs.NestedWords.{nested_words};
 ghost use Rattle.serde_json.specs.View.{view as data_in};
 ghost use Rattle.stack_driver.specs.Views.{look_of};
-ghost use Rattle.stated_arrays.specs.ToldWords.{lacks_list};
 ghost use Rattle.transcript_cut.specs.Standings.{words_given};
 
 use cells::{Dtype, Words};
 use index_transform::size_of;
-use json_forms::list_items;
-use script_lines::{ValuesError, words_of_values};
+use script_lines::{ValuesError, nested_words};
 use serde_json::Value;
 use stack_driver::{View, dtype, transform_of};
 use std::alloc::{AllocError, Global};
@@ -57,19 +55,9 @@ fn nested(
     requires { cell_count shape.now ≤ 2 ^ 22 }
     ensures { IfOk result (λ words. words.items ≡ words_given (nested_words dtype shape.now (data_in values.now))) }
 {
-    if is_number_for_all(shape, values) {
-        return Ok(Vec::new(alloc));
-    }
-    match words_of_values(alloc, dtype, shape, values) {
+    match nested_words(alloc, dtype, shape, values) {
         Ok(words) => Ok(words),
         Err(ValuesError::Bad { .. }) => Ok(Vec::new(alloc)),
         Err(ValuesError::Memory) => Err(AllocError),
     }
-}
-
-// Whether there is no list where the shape has dimensions.
-fn is_number_for_all(shape: &[u64], values: &Value) -> bool
-    ensures { result ≡ lacks_list shape.now (data_in values.now) }
-{
-    !shape.is_empty() && list_items(values).is_none()
 }
