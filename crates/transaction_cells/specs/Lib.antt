@@ -1,3 +1,4 @@
+pub mod CellLeaves
 pub mod Sites
 pub mod Lanes
 pub mod Found

@@ -15,6 +15,7 @@ ghost use Rattle.transaction_cells.specs.Operations.{HasSites};
 ghost use Rattle.transaction_cells.specs.Pieces.{AreCells};
 ghost use Rattle.transaction_cells.specs.Sites.{sites_of};
 
+use crate::cell_leaves::CellLeaves;
 use crate::lanes::lanes_of;
 use crate::view_cells::{Piece, ViewCells};
 use cells::{List, MOST_CHUNK_CELLS, Sizes, count_cells};
@@ -48,7 +49,7 @@ pub(crate) fn along_runs(alloc: Global, v: &View, array: &ArrayRef) -> Result<Vi
 {
     let transform = transform_of(v);
     let lanes = lanes_of(alloc, v)?;
-    let leaves = first_leaves(alloc, transform)?;
+    let leaves = first_leaves(transform)?;
     Ok(ViewCells {
         leaves,
         lanes,
@@ -57,13 +58,13 @@ pub(crate) fn along_runs(alloc: Global, v: &View, array: &ArrayRef) -> Result<Vi
 }
 
 // The number of the first leaf for each cell.
-fn first_leaves(alloc: Global, transform: &Transform) -> Result<List<u32>, AllocError>
+fn first_leaves(transform: &Transform) -> Result<CellLeaves, AllocError>
     ensures { IfOk result (λ leaves. leaves ≡ replicate (length (cells_of transform.now.domain.dims)) 0) }
 {
     let Ok(count) = transform.count() else {
         return Err(AllocError);
     };
-    Ok(List::wrap(vec![in alloc; 0; count as usize]?))
+    Ok(CellLeaves::first(count as usize))
 }
 
 fn pieces_along(

@@ -48,7 +48,7 @@ impl Staging {
             → AreStaged events ops self.now → AreTypedChunks events cells.now.pieces chunks.now
             → AllByRecursion (IsWord (look_of v).dtype) words.items) }
     {
-        let mut words = vec![in alloc; 0; cells.leaves.items().len()]?;
+        let mut words = vec![in alloc; 0; cells.leaves.len()]?;
         show(self, cells, chunks, &mut words);
         Ok(words)
     }

@@ -5,6 +5,7 @@
 #![tactic(auto)]
 
 mod along_runs;
+mod cell_leaves;
 mod cuts;
 mod gathering;
 mod lane;
@@ -15,6 +16,7 @@ mod staged_words;
 mod staging;
 mod view_cells;
 
+pub use cell_leaves::CellLeaves;
 pub use lane::Lane;
 pub use locating::locate;
 pub use staging::Staging;

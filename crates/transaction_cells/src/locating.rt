@@ -17,6 +17,7 @@ ghost use Rattle.transaction_cells.specs.Pieces.{AreCells, ArePieces};
 ghost use Rattle.transaction_cells.specs.Sites.{Site, sites_of, site_by, told_sites, AreTold, IsLanded};
 
 use crate::along_runs::{along_runs, array_within};
+use crate::cell_leaves::CellLeaves;
 use crate::cuts::{Cuts, pieces_of, put};
 use crate::lane::Lane;
 use crate::lanes::lanes_of;
@@ -64,7 +65,7 @@ fn cell_by_cell(alloc: Global, v: &View) -> Result<ViewCells, TargetsError>
     let t = targets(alloc, v)?;
     let (lanes, pieces) = cut(alloc, v, &t)?;
     Ok(ViewCells {
-        leaves: t.leaves,
+        leaves: CellLeaves::each(t.leaves),
         lanes,
         pieces,
     })

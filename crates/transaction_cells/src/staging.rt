@@ -1,4 +1,4 @@
-ghost use Rattle.std.specs.Prelude.{◌≡◌, ◌∷◌, ◌++◌, [], ℕ, List, Option, length, map, slice_index, slice_index_or, ◌<◌, ◌≤◌, ◌^◌, pos, ◌≤ℤ◌, ◌<ℤ◌, IsTrue, OnOk, OnErr};
+ghost use Rattle.std.specs.Prelude.{◌≡◌, ◌∷◌, ◌++◌, [], ℕ, List, Option, length, map, slice_index, slice_index_or, ◌<◌, ◌≤◌, ◌^◌, pos, ◌≤ℤ◌, ◌<ℤ◌, IsTrue, OnOk, OnErr, replicate};
 ghost use Rattle.std.specs.List.{AllByRecursion, IsDistinct, list_any};
 ghost use Rattle.std.specs.Map.Iter.{ShowsInOrder, deref_pair};
 ghost use Rattle.std.specs.Str.{bytes_eq};
@@ -21,10 +21,11 @@ ghost use Rattle.transaction_cells.specs.declared.view_cells.Piece.{Piece};
 ghost use Rattle.transaction_cells.specs.Pieces.{AreCells};
 ghost use Rattle.transaction_cells.specs.Sites.{Site, sites_of, id_of};
 ghost use Rattle.transaction_cells.specs.Staging.{StagedChunk, chunks_of, staged_of, word_in, written_at, CanStage};
+ghost use Rattle.cells.specs.Written.{words_seen};
 ghost use Rattle.transaction_cells.specs.Tables.{prepared, HasSameWords, MayWrite, pieces_written, runs_written};
 
 use crate::view_cells::{Piece, ViewCells};
-use cells::Run;
+use cells::{Run, SeenWords, WrittenWords};
 use rebase_writes::Staged;
 use std::alloc::{AllocError, Global};
 use std::collections::BTreeMap;
@@ -68,7 +69,7 @@ impl Staging {
         &mut self,
         alloc: Global,
         cells: &ViewCells,
-        words: &[u64],
+        words: &WrittenWords,
     ) -> Result<(), AllocError>
         requires { CanStage self.old cells.now (length words.now) }
         ensures ok { OnOk result ((sites : List Site) → AreCells sites cells.now → (id : List ℕ)
@@ -80,11 +81,11 @@ impl Staging {
         ensures err { OnErr result ((id : List ℕ) (place : ℕ) → word_in self.new id place ≡ word_in self.old id place) }
     {
         if cells.is_plain() {
-            self.stage_kept(alloc, cells, words)?;
+            self.stage_kept(alloc, cells, words.seen())?;
             return Ok(());
         }
         let kept = cells.back(alloc, words)?;
-        self.stage_kept(alloc, cells, &kept)?;
+        self.stage_kept(alloc, cells, SeenWords::Each { words: &kept })?;
         Ok(())
     }
 
@@ -93,17 +94,17 @@ impl Staging {
         &mut self,
         alloc: Global,
         cells: &ViewCells,
-        kept: &[u64],
+        kept: SeenWords<'_>,
     ) -> Result<(), AllocError>
-        requires { CanStage self.old cells.now (length kept.now) }
+        requires { CanStage self.old cells.now (length (words_seen kept)) }
         ensures ok { OnOk result ((sites : List Site) → AreCells sites cells.now → (words : List ℕ)
-            → kept.now ≡ taken_back cells.now.lanes cells.now.leaves words → length words ≡ length kept.now
+            → words_seen kept.entry ≡ taken_back cells.now.lanes cells.now.leaves words → length words ≡ length (words_seen kept.entry)
             → (id : List ℕ) → staged_of self.new id ≡ written_at id sites words (staged_of self.old id)) }
         ensures err { OnErr result ((id : List ℕ) (place : ℕ) → word_in self.new id place ≡ word_in self.old id place) }
     {
         let pieces = cells.pieces.items();
         prepare(alloc, &mut self.table, pieces)?;
-        write(&mut self.table, pieces, kept, is_one(kept));
+        write(&mut self.table, pieces, looked_at(kept));
         Ok(())
     }
 
@@ -203,10 +204,34 @@ fn add(alloc: Global, table: &mut Table, piece: &Piece) -> Result<(), AllocError
 // Fewer words aren't looked at.
 const FEW_WORDS: usize = 64;
 
+// The same words, as one where there are many and all of them are the same.
+fn looked_at(words: SeenWords<'_>) -> SeenWords<'_>
+    ensures { words_seen result ≡ words_seen words.entry }
+{
+    match words {
+        SeenWords::Each { words } => one_or_each(words),
+        SeenWords::One { word, count } => SeenWords::One { word, count },
+    }
+}
+
+fn one_or_each(words: &[u64]) -> SeenWords<'_>
+    ensures { words_seen result ≡ words.now }
+{
+    if is_one(words) {
+        SeenWords::One {
+            word: words[0],
+            count: words.len(),
+        }
+    } else {
+        SeenWords::Each { words }
+    }
+}
+
 // Whether there are many words, all of them the same. Where the last isn't the first, the others aren't looked at; else all are, so that the loop takes
 // several at a time.
 fn is_one(words: &[u64]) -> bool
-    ensures { IsTrue result → (k : ℕ) → k < length words.now → slice_index words.now k ≡ slice_index words.now 0 }
+    ensures many { IsTrue result → 0 < length words.now }
+    ensures same { IsTrue result → (k : ℕ) → k < length words.now → slice_index words.now k ≡ slice_index words.now 0 }
 {
     if words.len() < FEW_WORDS {
         return false;
@@ -224,52 +249,55 @@ fn is_one(words: &[u64]) -> bool
     same
 }
 
-// Writes the words of each piece along its runs. `one` tells that they are all the same.
-fn write(table: &mut Table, pieces: &[Piece], words: &[u64], one: bool)
-    requires may { (id : List ℕ) → MayWrite pieces.now id (length words.now) (found table.old.entries id) }
-    requires one { IsTrue one → (k : ℕ) → k < length words.now → slice_index words.now k ≡ slice_index words.now 0 }
+// Writes the words of each piece along its runs.
+fn write(table: &mut Table, pieces: &[Piece], words: SeenWords<'_>)
+    requires { (id : List ℕ) → MayWrite pieces.now id (length (words_seen words)) (found table.old.entries id) }
     ensures { (id : List ℕ) → found table.new.entries id
-        ≡ pieces_written pieces.now id words.now (found table.old.entries id) }
+        ≡ pieces_written pieces.now id (words_seen words.entry) (found table.old.entries id) }
 {
     for piece in pieces {
-        write_piece(table, piece, words, one);
+        write_piece(table, piece, words);
     }
 }
 
-fn write_piece(table: &mut Table, piece: &Piece, words: &[u64], one: bool)
-    requires may { (id : List ℕ) → MayWrite (piece.now ∷ []) id (length words.now) (found table.old.entries id) }
-    requires one { IsTrue one → (k : ℕ) → k < length words.now → slice_index words.now k ≡ slice_index words.now 0 }
+fn write_piece(table: &mut Table, piece: &Piece, words: SeenWords<'_>)
+    requires { (id : List ℕ) → MayWrite (piece.now ∷ []) id (length (words_seen words)) (found table.old.entries id) }
     ensures { (id : List ℕ) → found table.new.entries id
-        ≡ pieces_written (piece.now ∷ []) id words.now (found table.old.entries id) }
+        ≡ pieces_written (piece.now ∷ []) id (words_seen words.entry) (found table.old.entries id) }
 {
     let Some(staged) = table.get_mut(piece.id.items()) else {
         unreachable!();
     };
-    write_runs(staged, piece.runs.items(), words, one);
+    write_runs(staged, piece.runs.items(), words);
 }
 
-fn write_runs(staged: &mut Staged, runs: &[Run], words: &[u64], one: bool)
-    requires inside { AllByRecursion (λ run. IsRunInside run (length words.now) (length staged.old)) runs.now }
-    requires one { IsTrue one → (k : ℕ) → k < length words.now → slice_index words.now k ≡ slice_index words.now 0 }
-    ensures { staged.new ≡ runs_written runs.now words.now staged.old }
+fn write_runs(staged: &mut Staged, runs: &[Run], words: SeenWords<'_>)
+    requires { AllByRecursion (λ run. IsRunInside run (length (words_seen words)) (length staged.old)) runs.now }
+    ensures { staged.new ≡ runs_written runs.now (words_seen words.entry) staged.old }
 {
     for run in runs {
-        write_run(staged, *run, words, one);
+        write_run(staged, *run, words);
     }
 }
 
-// Where the words are all the same, the first of them stands for each, so that no other is read again.
-fn write_run(staged: &mut Staged, run: Run, words: &[u64], one: bool)
-    requires inside { IsRunInside run (length words.now) (length staged.old) }
-    requires one { IsTrue one → (k : ℕ) → k < length words.now → slice_index words.now k ≡ slice_index words.now 0 }
-    ensures { staged.new ≡ pairs_written (pairs_of run) words.now staged.old }
+fn write_run(staged: &mut Staged, run: Run, words: SeenWords<'_>)
+    requires { IsRunInside run (length (words_seen words)) (length staged.old) }
+    ensures { staged.new ≡ pairs_written (pairs_of run) (words_seen words.entry) staged.old }
 {
-    if one {
-        let mut first = run;
-        first.view = 0;
-        first.view_step = 0;
-        staged.write_run(&first, words);
-        return;
+    match words {
+        SeenWords::Each { words } => staged.write_run(&run, words),
+        SeenWords::One { word, count: _ } => write_one(staged, run, word),
     }
-    staged.write_run(&run, words);
+}
+
+// Writes one word for each pair of a run.
+fn write_one(staged: &mut Staged, run: Run, word: u64)
+    requires { (count : ℕ) × IsRunInside run count (length staged.old) }
+    ensures { (count : ℕ) → IsRunInside run count (length staged.old)
+        → staged.new ≡ pairs_written (pairs_of run) (replicate count word) staged.old }
+{
+    let mut first = run;
+    first.view = 0;
+    first.view_step = 0;
+    staged.write_run(&first, &[word]);
 }

@@ -1,10 +1,11 @@
-ghost use Rattle.std.specs.Prelude.{◌≡◌, length, IfOk, IsTrue};
+ghost use Rattle.std.specs.Prelude.{◌≡◌, length, replicate, IfOk, IsTrue};
 ghost use Rattle.std.specs.List.{AllByRecursion};
 ghost use Rattle.transaction_cells.specs.Casting.{ArePlain, HasLane, taken_back};
 ghost use Rattle.transaction_cells.specs.Gathered.{taken_out};
 
+use crate::cell_leaves::CellLeaves;
 use crate::lane::Lane;
-use cells::{List, Run, Sizes};
+use cells::{List, Run, SeenWords, Sizes, WrittenWords};
 use std::alloc::{AllocError, Global};
 
 /// A chunk that a view touches, and the view's cells in it.
@@ -22,7 +23,7 @@ pub struct Piece {
 #[derive(Debug, Drop)]
 pub struct ViewCells {
     /// For each cell in C order the number of its leaf.
-    pub leaves: List<u32>,
+    pub leaves: CellLeaves,
     /// What each leaf tells.
     pub lanes: List<Lane>,
     /// The chunks that the view touches: arrays in the order of their numbers, and the chunks of one in lexical order.
@@ -41,12 +42,21 @@ impl ViewCells {
     ///
     /// # Errors
     /// Want of memory alone.
-    pub fn back(&self, alloc: Global, words: &[u64]) -> Result<Vec<u64>, AllocError>
+    pub fn back(&self, alloc: Global, words: &WrittenWords) -> Result<Vec<u64>, AllocError>
         requires count { length words.now ≡ length self.now.leaves }
         requires lanes { AllByRecursion (HasLane self.now.lanes) self.now.leaves }
         ensures { IfOk result (λ kept. kept.items ≡ taken_back self.now.lanes self.now.leaves words.now) }
     {
-        back(alloc, self.lanes.items(), self.leaves.items(), words)
+        match words.seen() {
+            SeenWords::Each { words } => { back(alloc, self.lanes.items(), &self.leaves, words) }
+            SeenWords::One { word, count } => one_back(
+                alloc,
+                self.lanes.items(),
+                &self.leaves,
+                word,
+                count,
+            ),
+        }
     }
 
     /// Takes the words that are kept of a view's cells outwards, each through the casts of its leaf.
@@ -55,14 +65,14 @@ impl ViewCells {
         requires lanes { AllByRecursion (HasLane self.now.lanes) self.now.leaves }
         ensures { words.new ≡ taken_out self.now.lanes self.now.leaves words.old }
     {
-        out(self.lanes.items(), self.leaves.items(), words);
+        out(self.lanes.items(), &self.leaves, words);
     }
 }
 
 fn back(
     alloc: Global,
     lanes: &[Lane],
-    leaves: &[u32],
+    leaves: &CellLeaves,
     words: &[u64],
 ) -> Result<Vec<u64>, AllocError>
     requires count { length words.now ≡ length leaves.now }
@@ -73,6 +83,25 @@ fn back(
         return Ok(Vec::from_slice(alloc, words)?);
     }
     cast_back(alloc, lanes, leaves, words)
+}
+
+// The same of one word for all cells.
+fn one_back(
+    alloc: Global,
+    lanes: &[Lane],
+    leaves: &CellLeaves,
+    word: u64,
+    count: usize,
+) -> Result<Vec<u64>, AllocError>
+    requires count { count ≡ length leaves.now }
+    requires lanes { AllByRecursion (HasLane lanes.now) leaves.now }
+    ensures { IfOk result (λ kept. kept.items ≡ taken_back lanes.now leaves.now (replicate count word)) }
+{
+    let words = vec![in alloc; word; count]?;
+    if are_plain(lanes) {
+        return Ok(words);
+    }
+    cast_back(alloc, lanes, leaves, &words)
 }
 
 // Whether no leaf has a cast, so that each word is kept as it is shown.
@@ -90,7 +119,7 @@ fn are_plain(lanes: &[Lane]) -> bool
 fn cast_back(
     alloc: Global,
     lanes: &[Lane],
-    leaves: &[u32],
+    leaves: &CellLeaves,
     words: &[u64],
 ) -> Result<Vec<u64>, AllocError>
     requires count { length words.now ≡ length leaves.now }
@@ -98,14 +127,14 @@ fn cast_back(
     ensures { IfOk result (λ kept. kept.items ≡ taken_back lanes.now leaves.now words.now) }
 {
     let mut kept = Vec::with_capacity(alloc, words.len())?;
-    for (cell, leaf) in leaves.iter().enumerate() {
-        let lane = &lanes[*leaf as usize];
+    for cell in 0..leaves.len() {
+        let lane = &lanes[leaves.leaf(cell) as usize];
         kept.push(lane.casts.back(words[cell]))?;
     }
     Ok(kept)
 }
 
-fn out(lanes: &[Lane], leaves: &[u32], words: &mut [u64])
+fn out(lanes: &[Lane], leaves: &CellLeaves, words: &mut [u64])
     requires count { length words.old ≡ length leaves.now }
     requires lanes { AllByRecursion (HasLane lanes.now) leaves.now }
     ensures { words.new ≡ taken_out lanes.now leaves.now words.old }
@@ -115,13 +144,13 @@ fn out(lanes: &[Lane], leaves: &[u32], words: &mut [u64])
     }
 }
 
-fn cast_out(lanes: &[Lane], leaves: &[u32], words: &mut [u64])
+fn cast_out(lanes: &[Lane], leaves: &CellLeaves, words: &mut [u64])
     requires count { length words.old ≡ length leaves.now }
     requires lanes { AllByRecursion (HasLane lanes.now) leaves.now }
     ensures { words.new ≡ taken_out lanes.now leaves.now words.old }
 {
-    for (cell, leaf) in leaves.iter().enumerate() {
-        let lane = &lanes[*leaf as usize];
+    for cell in 0..leaves.len() {
+        let lane = &lanes[leaves.leaf(cell) as usize];
         words[cell] = lane.casts.out(words[cell]);
     }
 }

@@ -4,6 +4,7 @@ use Rattle.std.specs.List.{AllByRecursion}
 use Rattle.std.specs.Str.{bytes_eq}
 use Rattle.cells.specs.declared.run.Run.{Run}
 use Rattle.cells.specs.Runs.{IsRunInside}
+use Rattle.cells.specs.Written.{words_seen}
 use Rattle.transaction_cells.specs.Found.{found}
 use Rattle.transaction_cells.specs.Tables.{HasRoom, runs_written}
 use Rattle.transaction_cells.proofs.TableLaws.{found-set}
@@ -14,22 +15,22 @@ pub unreachable-requires : goal.unreachable-requires
 unreachable-requires c =
     let old = c.args.table.now.entries in
     let p = c.args.piece.now in
-    no_room p (length c.args.words.now) (found old p.id) ((c.requires.may p.id).0 refl) (ap (λ xs. found old xs) (sym c.items.ensures) ∙ sym c.in_default.ensures.value)
+    no_room p (length (words_seen c.args.words)) (found old p.id) ((c.requires p.id).0 refl) (ap (λ xs. found old xs) (sym c.items.ensures) ∙ sym c.in_default.ensures.value)
 
-pub write_runs-requires-clause-inside : goal.write_runs-requires-clause-inside
-write_runs-requires-clause-inside c =
+pub write_runs-requires : goal.write_runs-requires
+write_runs-requires c =
     let old = c.args.table.now.entries in
     let p = c.args.piece.now in
     let there : found old p.id ≡ Some c.in-Some.staged.now = ap (λ xs. found old xs) (sym c.items.ensures) ∙ sym c.in-Some.ensures.value in
-    let room : HasRoom p.runs (length c.args.words.now) (Some c.in-Some.staged.now) = subst (HasRoom p.runs (length c.args.words.now)) there ((c.requires.may p.id).0 refl) in
-    subst (λ (rs : List Run). AllByRecursion (λ run. IsRunInside run (length c.args.words.now) (length c.in-Some.staged.now)) rs) (sym c.items-2.ensures) room
+    let room : HasRoom p.runs (length (words_seen c.args.words)) (Some c.in-Some.staged.now) = subst (HasRoom p.runs (length (words_seen c.args.words))) there ((c.requires p.id).0 refl) in
+    subst (λ (rs : List Run). AllByRecursion (λ run. IsRunInside run (length (words_seen c.args.words)) (length c.in-Some.staged.now)) rs) (sym c.items-2.ensures) room
 
 pub returns : goal.returns
 returns c id =
     let old = c.args.table.now.entries in
     let p = c.args.piece.now in
     let q = c.items.result.now in
-    let words = c.args.words.now in
+    let words = words_seen c.args.words in
     let cells = c.in-Some.staged.now in
     let w = c.write_runs.new.staged in
     let there : found old p.id ≡ Some cells = ap (λ xs. found old xs) (sym c.items.ensures) ∙ sym c.in-Some.ensures.value in

@@ -10,7 +10,7 @@ returns-then-is_plain-clause-ok c sites are id =
     let cells = c.args.cells.now in
     let words = c.args.words.now in
     let long : length words ≡ length cells.leaves = c.requires.counted ∙ count_of c.requires.sites cells.lanes cells.leaves c.requires.are.casts in
-    c.in_ok-stage_kept.ensures.ok sites are words (sym (plain_back cells.lanes cells.leaves words (c.if-is_plain.ensures refl) long)) refl id
+    c.in_ok-stage_kept.ensures.ok sites are words (c.seen.ensures ∙ sym (plain_back cells.lanes cells.leaves words (c.if-is_plain.ensures refl) long)) (sym (ap (λ (xs : List ℕ). length xs) c.seen.ensures)) id
 
 pub returns-then-is_plain-clause-history : goal.returns-then-is_plain-clause-history
 returns-then-is_plain-clause-history c events v ops leaves has are words h =
