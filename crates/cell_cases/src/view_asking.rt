@@ -4,7 +4,7 @@ ghost use Rattle.stack_driver.specs.Conditions.{IsView};
 use crate::refused::Refused;
 use crate::view_downs::downsampled;
 use case_lines::{look, member, number, numbers_of};
-use cells::{List, Words};
+use cells::{List, WrittenWords};
 use history::{Op, Ops};
 use serde_json::Value;
 use stack_driver::{
@@ -82,7 +82,7 @@ fn one_write(alloc: Global, view: &View) -> Result<Ops, Refused> {
     let mut ops = Vec::with_capacity(alloc, 1)?;
     ops.push(Op::Write {
         view: copy(alloc, view)?,
-        words: Words::wrap(Vec::new(alloc)),
+        words: WrittenWords::each(Vec::new(alloc)),
     })?;
     Ok(Ops::wrap(alloc, List::wrap(ops))?)
 }

@@ -3,7 +3,7 @@ ghost use Rattle.std.specs.Prelude.{◌≡◌, ◌++◌, ◌∷◌, [], IfOk, On
 ghost use Rattle.history.specs.Commit.{is_write};
 ghost use Rattle.history.specs.declared.event.Op.{Op as OpOf};
 
-use cells::{List, Words};
+use cells::List;
 use history::{Op, Ops};
 use stack_driver::copy;
 use std::alloc::{AllocError, Global};
@@ -35,11 +35,8 @@ fn add_write(alloc: Global, list: &mut Vec<Op>, op: &Op) -> Result<(), AllocErro
 {
     if let Op::Write { view, words } = op {
         let view = copy(alloc, view)?;
-        let words = Vec::from_slice(alloc, words.items())?;
-        list.push(Op::Write {
-            view,
-            words: Words::wrap(words),
-        })?;
+        let words = words.copy(alloc)?;
+        list.push(Op::Write { view, words })?;
     }
     Ok(())
 }

@@ -26,7 +26,7 @@ use crate::cell_faults::counted;
 use crate::changing::seen;
 use crate::names::Names;
 use crate::values::shape_of;
-use cells::{Dtype, Words};
+use cells::{Dtype, WrittenWords};
 use line_meanings::Body;
 use script_lines::{ValuesError, words_of_values};
 use serde_json::Value;
@@ -38,7 +38,7 @@ use step_forms::Step;
 #[derive(Drop)]
 pub struct Worded {
     pub view: View,
-    pub words: Words,
+    pub words: WrittenWords,
 }
 
 /// The view and the words of a write, or the answer to what refuses it before its cells are looked for. The values are dropped as soon as there
@@ -107,21 +107,18 @@ fn with_words(alloc: Global, view: View, values: &Value) -> Result<Worded, Body>
         (with_values (words_of (look_of view).dtype (sizes_of view) (data_in values.now)) next)) b) }
 {
     match words_for(alloc, &view, values) {
-        Ok(words) => Ok(Worded {
-            view,
-            words: Words::wrap(words),
-        }),
+        Ok(words) => Ok(Worded { view, words }),
         Err(body) => Err(body),
     }
 }
 
 // A word for each cell of a view, or the answer to what refuses the view or the values.
-fn words_for(alloc: Global, v: &View, values: &Value) -> Result<Vec<u64>, Body>
-    ensures count { IfOk result (λ words. count_answer (look_of v.now).dims ≡ Ok (length words.items)) }
-    ensures typed { IfOk result (λ words. AllByRecursion (IsWord (look_of v.now).dtype) words.items) }
+fn words_for(alloc: Global, v: &View, values: &Value) -> Result<WrittenWords, Body>
+    ensures count { IfOk result (λ words. count_answer (look_of v.now).dims ≡ Ok (length words)) }
+    ensures typed { IfOk result (λ words. AllByRecursion (IsWord (look_of v.now).dtype) words) }
     ensures value { IfOk result (λ words. (next : List ℕ → Asked)
         → without (view_fault v.now) (with_values
-        (words_of (look_of v.now).dtype (sizes_of v.now) (data_in values.now)) next) ≡ next words.items) }
+        (words_of (look_of v.now).dtype (sizes_of v.now) (data_in values.now)) next) ≡ next words) }
     ensures err { IfErr result (λ b. (next : List ℕ → Asked)
         → IsAnswerTo (without (view_fault v.now)
         (with_values (words_of (look_of v.now).dtype (sizes_of v.now) (data_in values.now)) next)) b) }
@@ -132,12 +129,12 @@ fn words_for(alloc: Global, v: &View, values: &Value) -> Result<Vec<u64>, Body>
     }
 }
 
-fn fitted(alloc: Global, v: &View, values: &Value) -> Result<Vec<u64>, Body>
+fn fitted(alloc: Global, v: &View, values: &Value) -> Result<WrittenWords, Body>
     requires { count_answer (look_of v.now).dims ≡ Ok (length (cells_of (look_of v.now).dims)) }
-    ensures count { IfOk result (λ words. count_answer (look_of v.now).dims ≡ Ok (length words.items)) }
-    ensures typed { IfOk result (λ words. AllByRecursion (IsWord (look_of v.now).dtype) words.items) }
+    ensures count { IfOk result (λ words. count_answer (look_of v.now).dims ≡ Ok (length words)) }
+    ensures typed { IfOk result (λ words. AllByRecursion (IsWord (look_of v.now).dtype) words) }
     ensures value { IfOk result (λ words. words_of (look_of v.now).dtype (sizes_of v.now) (data_in values.now)
-        ≡ Ok words.items) }
+        ≡ Ok words) }
     ensures err { IfErr result (λ b. (next : List ℕ → Asked)
         → IsAnswerTo (with_values (words_of (look_of v.now).dtype (sizes_of v.now) (data_in values.now)) next) b) }
 {
@@ -147,11 +144,16 @@ fn fitted(alloc: Global, v: &View, values: &Value) -> Result<Vec<u64>, Body>
     }
 }
 
-fn words_in(alloc: Global, dtype: Dtype, shape: &[u64], values: &Value) -> Result<Vec<u64>, Body>
+fn words_in(
+    alloc: Global,
+    dtype: Dtype,
+    shape: &[u64],
+    values: &Value,
+) -> Result<WrittenWords, Body>
     requires { cell_count shape.now ≤ 2 ^ 22 }
-    ensures value { IfOk result (λ words. words_of dtype shape.now (data_in values.now) ≡ Ok words.items) }
-    ensures full { IfOk result (λ words. length words.items ≡ cell_count shape.now) }
-    ensures of_dtype { IfOk result (λ words. All (IsWord dtype) words.items) }
+    ensures value { IfOk result (λ words. words_of dtype shape.now (data_in values.now) ≡ Ok words) }
+    ensures full { IfOk result (λ words. length words ≡ cell_count shape.now) }
+    ensures of_dtype { IfOk result (λ words. All (IsWord dtype) words) }
     ensures err { IfErr result (λ b. (next : List ℕ → Asked)
         → IsAnswerTo (with_values (words_of dtype shape.now (data_in values.now)) next) b) }
 {

@@ -34,6 +34,7 @@ use Rattle.std.below.std_collections.proofs.btree.node.Node.TheSendSync as std_n
 use Rattle.std.proofs.vec.Vec.TheSendSync as std_vec
 use Rattle.index_transform.proofs.transform.Transform.TheSendSync as transform
 use Rattle.cells.proofs.Words.TheSendSync as words
+use Rattle.cells.proofs.WrittenWords.TheSendSync as written
 use Rattle.zarr3_chunks.proofs.metadata.Zarr3Meta.TheSendSync as zarr3meta
 use Rattle.zarr_chunks.proofs.metadata.ZarrMeta.TheSendSync as zarrmeta
 use Rattle.indexmap.proofs.map.IndexMap.TheSendSync as indexmap
@@ -67,7 +68,7 @@ event_send : IsSend event.the_row
 event_send = first_of (
   search (crosses, knot.crosses, sendable) depth 60 fits 20000,
   search (crosses, knot.crosses_both, sendable) depth 60 fits 20000,
-  search (dense.the_send, dense.the_sync, dtype.the_field_send, dtype.the_send, dtype.the_field_sync, dtype.the_sync, name.the_send, name.the_sync, order.the_field_send, order.the_send, order.the_field_sync, order.the_sync, index.the_send, index.the_sync, sizes.the_send, sizes.the_sync, words.the_send, words.the_sync, std_memory.the_field_send, std_memory.the_send, std_memory.the_field_sync, std_memory.the_sync, arrayinfo.the_field_send, arrayinfo.the_send, arrayinfo.the_field_sync, arrayinfo.the_sync, home.the_field_send, home.the_send, home.the_field_sync, home.the_sync, mode.the_field_send, mode.the_send, mode.the_field_sync, mode.the_sync, interval.the_send, interval.the_sync, domain.the_field_send, domain.the_send, domain.the_field_sync, domain.the_sync, outmap.the_field_send, outmap.the_send, outmap.the_field_sync, outmap.the_sync, transform.the_send, transform.the_sync, n5meta.the_send, n5meta.the_sync, arrayref.the_send, arrayref.the_sync, std_box.the_sync, std_vec.the_sync, std_global.the_field_send, std_global.the_send, std_global.the_field_sync, std_global.the_sync, zarr3meta.the_send, zarr3meta.the_sync, zarrmeta.the_send, zarrmeta.the_sync, crosses, knot.crosses, sendable) depth 60 fits 20000,
+  search (dense.the_send, dense.the_sync, dtype.the_field_send, dtype.the_send, dtype.the_field_sync, dtype.the_sync, name.the_send, name.the_sync, order.the_field_send, order.the_send, order.the_field_sync, order.the_sync, index.the_send, index.the_sync, sizes.the_send, sizes.the_sync, words.the_send, words.the_sync, written.the_send, written.the_sync, std_memory.the_field_send, std_memory.the_send, std_memory.the_field_sync, std_memory.the_sync, arrayinfo.the_field_send, arrayinfo.the_send, arrayinfo.the_field_sync, arrayinfo.the_sync, home.the_field_send, home.the_send, home.the_field_sync, home.the_sync, mode.the_field_send, mode.the_send, mode.the_field_sync, mode.the_sync, interval.the_send, interval.the_sync, domain.the_field_send, domain.the_send, domain.the_field_sync, domain.the_sync, outmap.the_field_send, outmap.the_send, outmap.the_field_sync, outmap.the_sync, transform.the_send, transform.the_sync, n5meta.the_send, n5meta.the_sync, arrayref.the_send, arrayref.the_sync, std_box.the_sync, std_vec.the_sync, std_global.the_field_send, std_global.the_send, std_global.the_field_sync, std_global.the_sync, zarr3meta.the_send, zarr3meta.the_sync, zarrmeta.the_send, zarrmeta.the_sync, crosses, knot.crosses, sendable) depth 60 fits 20000,
 )
 
 -- what a run keeps of its events
@@ -89,7 +90,7 @@ txn_send : IsSend txn.the_row
 txn_send = first_of (
   search (crosses, knot.crosses, sendable) depth 60 fits 20000,
   search (crosses, knot.crosses_both, sendable) depth 60 fits 20000,
-  search (dense.the_send, dense.the_sync, dtype.the_field_send, dtype.the_send, dtype.the_field_sync, dtype.the_sync, name.the_send, name.the_sync, index.the_send, index.the_sync, sizes.the_send, sizes.the_sync, words.the_send, words.the_sync, snapshot.the_send, snapshot.the_sync, std_memory.the_field_send, std_memory.the_send, std_memory.the_field_sync, std_memory.the_sync, mode.the_field_send, mode.the_send, mode.the_field_sync, mode.the_sync, interval.the_send, interval.the_sync, domain.the_field_send, domain.the_send, domain.the_field_sync, domain.the_sync, outmap.the_field_send, outmap.the_send, outmap.the_field_sync, outmap.the_sync, transform.the_send, transform.the_sync, staged.the_send, staged.the_sync, arrayref.the_send, arrayref.the_sync, bounds.the_field_send, bounds.the_send, bounds.the_field_sync, bounds.the_sync, std_box.the_sync, std_vec.the_sync, std_node.the_sync, std_global.the_field_send, std_global.the_send, std_global.the_field_sync, std_global.the_sync, staging.the_send, staging.the_sync, kept.the_field_send, kept.the_send, kept.the_field_sync, kept.the_sync, maps.crosses, crosses, knot.crosses, sendable) depth 60 fits 20000,
+  search (dense.the_send, dense.the_sync, dtype.the_field_send, dtype.the_send, dtype.the_field_sync, dtype.the_sync, name.the_send, name.the_sync, index.the_send, index.the_sync, sizes.the_send, sizes.the_sync, words.the_send, words.the_sync, written.the_send, written.the_sync, snapshot.the_send, snapshot.the_sync, std_memory.the_field_send, std_memory.the_send, std_memory.the_field_sync, std_memory.the_sync, mode.the_field_send, mode.the_send, mode.the_field_sync, mode.the_sync, interval.the_send, interval.the_sync, domain.the_field_send, domain.the_send, domain.the_field_sync, domain.the_sync, outmap.the_field_send, outmap.the_send, outmap.the_field_sync, outmap.the_sync, transform.the_send, transform.the_sync, staged.the_send, staged.the_sync, arrayref.the_send, arrayref.the_sync, bounds.the_field_send, bounds.the_send, bounds.the_field_sync, bounds.the_sync, std_box.the_sync, std_vec.the_sync, std_node.the_sync, std_global.the_field_send, std_global.the_send, std_global.the_field_sync, std_global.the_sync, staging.the_send, staging.the_sync, kept.the_field_send, kept.the_send, kept.the_field_sync, kept.the_sync, maps.crosses, crosses, knot.crosses, sendable) depth 60 fits 20000,
 )
 
 -- a state, where its store may

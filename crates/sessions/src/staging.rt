@@ -109,7 +109,7 @@ fn staged(alloc: Global, t: &mut Txn, w: Worded) -> Body
         → HasSoundTxn opening events (Some t.old) → result ≢ printed.Memory → HasSoundTxn opening events (Some t.new) }
 {
     let Worded { view, words } = w;
-    let cells = words.items().len() as u64;
+    let cells = words.len() as u64;
     match t.write_owned(alloc, &view, words) {
         Ok(()) => Body::Staged { cells },
         Err(e) => unwritten(alloc, &view, e),

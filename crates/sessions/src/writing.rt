@@ -99,7 +99,7 @@ fn written<K: KvStore, R: Wait, G: Gate>(
     ensures failures { TellsFailures (added_by pass.old pass.new) result }
     ensures passed { HasPassed book.now pass.old pass.new }
 {
-    let cells = w.words.items().len() as u64;
+    let cells = w.words.len() as u64;
     match begun(alloc, line, w) {
         Ok(t) => committed(alloc, rt, book, pass, t, cells, gate),
         Err(body) => body,

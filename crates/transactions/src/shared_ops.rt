@@ -70,7 +70,7 @@ fn copy_op(alloc: Global, op: &Op) -> Result<Op, AllocError>
 {
     match op {
         Op::Write { view, words } => {
-            let words = copy_words(alloc, words)?;
+            let words = words.copy(alloc)?;
             let view = copy(alloc, view)?;
             Ok(Op::Write { view, words })
         }

@@ -20,7 +20,7 @@ ghost use Rattle.transactions.specs.declared.error.WriteError.TheVariants as wri
 
 use crate::error::WriteError;
 use crate::located::located;
-use cells::Words;
+use cells::WrittenWords;
 use chunk_fetches::{Kept, Staging, ViewCells};
 use history::{Mode, Op, Ops};
 use stack_driver::{View, copy};
@@ -96,7 +96,7 @@ impl Txn {
         ensures words { OnErr result ((id : List ℕ) (place : ℕ)
             → word_in self.new.staged id place ≡ word_in self.old.staged id place) }
     {
-        let words = Words::wrap(Vec::from_slice(alloc, words)?);
+        let words = WrittenWords::each(Vec::from_slice(alloc, words)?);
         self.write_owned(alloc, v, words)
     }
 
@@ -104,7 +104,12 @@ impl Txn {
     ///
     /// # Errors
     /// Those of `write`.
-    pub fn write_owned(&mut self, alloc: Global, v: &View, words: Words) -> Result<(), WriteError>
+    pub fn write_owned(
+        &mut self,
+        alloc: Global,
+        v: &View,
+        words: WrittenWords,
+    ) -> Result<(), WriteError>
         requires view { IsView v.now }
         requires txn { MayUse v.now self.old }
         requires words { (n : ℕ) → count_answer (look_of v.now).dims ≡ Ok n → length words ≡ n }
@@ -135,7 +140,7 @@ impl Txn {
         alloc: Global,
         v: &View,
         cells: &ViewCells,
-        words: Words,
+        words: WrittenWords,
     ) -> Result<(), WriteError>
         requires view { IsView v.now }
         requires cells { CanStage self.old.staged cells.now (length words) }
@@ -153,7 +158,7 @@ impl Txn {
     {
         let view = copy(alloc, v)?;
         self.ops.reserve(1)?;
-        self.staging.stage(alloc, cells, words.items())?;
+        self.staging.stage(alloc, cells, &words)?;
         self.ops.push_reserved(Op::Write { view, words });
         Ok(())
     }

@@ -31,7 +31,7 @@ returns-in-Ok-clause-count c =
 pub returns-in-Ok-clause-typed : goal.returns-in-Ok-clause-typed
 returns-in-Ok-clause-typed c =
     if_ok_map c.words_in.result c.words_in.ensures.of_dtype
-    (λ words all. subst (λ (d : Dtype). AllByRecursion (IsWord d) words.items) c.dtype.ensures (recursion_from_All (IsWord c.dtype.result) words.items all))
+    (λ words all. subst (λ (d : Dtype). AllByRecursion (IsWord d) words) c.dtype.ensures (recursion_from_All (IsWord c.dtype.result) words all))
 
 pub returns-in-Ok-clause-err : goal.returns-in-Ok-clause-err
 returns-in-Ok-clause-err c =

@@ -1,4 +1,4 @@
-use Rattle.std.proofs.Common.{◌≡◌, ℕ, List, Ok, Some, length, refl, sym, ap, subst}
+use Rattle.std.proofs.Common.{◌≡◌, ℕ, Ok, Some, refl, sym, ap, subst}
 use Rattle.session_turns.specs.declared.Body.TheVariants.{Staged}
 use Rattle.history.specs.Acts.{Asked, stages}
 use Rattle.sessions.specs.Commits.{HasSoundTxn}
@@ -13,7 +13,7 @@ use Rattle.session_turns.specs.declared.WriteError.TheVariants as write
 pub returns-in-Ok-clause-told : goal.returns-in-Ok-clause-told
 returns-in-Ok-clause-told c names seen line asked act =
     let v = c.args.w.view in
-    subst (λ (ws : List ℕ). IsToldAlone (session_state names seen (Some c.args.t.now)) line asked names (Some (transaction_of c.write_owned.new.self)) (Staged (length ws))) (sym c.items.ensures)
+    subst (λ (n : ℕ). IsToldAlone (session_state names seen (Some c.args.t.now)) line asked names (Some (transaction_of c.write_owned.new.self)) (Staged n)) (sym c.len-cells.ensures)
     (staged_told c.args.t.now c.write_owned.new.self v c.args.w.words c.args.w.words refl c.in-Ok.ensures.ok names seen line asked (found_all v c.in-Ok.ensures.whole.targets) act)
 
 pub returns-in-Ok-clause-txn : goal.returns-in-Ok-clause-txn

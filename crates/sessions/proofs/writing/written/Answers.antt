@@ -1,4 +1,4 @@
-use Rattle.std.proofs.Common.{ℕ, List, None, Ok, length, sym, subst}
+use Rattle.std.proofs.Common.{ℕ, None, Ok, length, sym, subst}
 use Rattle.history.specs.Acts.{Asked, writes}
 use Rattle.session_turns.specs.Standing.{session_state}
 use Rattle.session_turns.specs.Told.{IsAnswerTo}
@@ -16,7 +16,7 @@ committed-requires-clause-sound g c = c.in-Ok.ensures.sound c.args.book.now.fixe
 pub returns-in-Ok-clause-told : goal.returns-in-Ok-clause-told
 returns-in-Ok-clause-told g c names asked act =
     written_told c.args.book.now c.args.pass.now c.committed.new.pass c.args.line c.args.w.view c.args.w.words c.in-Ok.t c.in-Ok.ensures.alone c.committed.result c.requires.pass
-    (subst (λ (ws : List ℕ). IsWrittenAs c.args.book.now c.args.pass.now c.committed.new.pass (transaction_of c.in-Ok.t) (length ws) c.committed.result) c.items.ensures c.committed.ensures) names asked c.in-Ok.ensures.found act
+    (subst (λ (n : ℕ). IsWrittenAs c.args.book.now c.args.pass.now c.committed.new.pass (transaction_of c.in-Ok.t) n c.committed.result) c.len-cells.ensures c.committed.ensures) names asked c.in-Ok.ensures.found act
 
 pub returns-in-Err-clause-told : goal.returns-in-Err-clause-told
 returns-in-Err-clause-told g c names asked act =

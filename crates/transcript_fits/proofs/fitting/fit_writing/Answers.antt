@@ -1,4 +1,4 @@
-use Rattle.std.proofs.Common.{length, ap}
+use Rattle.std.proofs.Common.{ap}
 use Rattle.std.proofs.lemmas.Result.{IfOk-weaker}
 use Rattle.stated_history.specs.Standings.{standing_of, transaction_in}
 use Rattle.transcript_fits.proofs.FaceLaws.{staged_fits, write_in, alone_fits}
@@ -16,7 +16,7 @@ returns-in-Some-clause-fits c =
     let s = standing_of c.args.stand.now.walk.standing in
     IfOk-weaker c.fit_one.result _ _
     (λ fit tells place asked faced.
-    staged_fits c.args.judge.now c.args.line place s c.args.stand.now.own asked c.args.view.now c.args.words.now (length c.items.result.now) _ fit (ap transaction_in c.in-Some.is) (ap length c.items.ensures) faced tells)
+    staged_fits c.args.judge.now c.args.line place s c.args.stand.now.own asked c.args.view.now c.args.words.now c.len-cells.result _ fit (ap transaction_in c.in-Some.is) c.len-cells.ensures faced tells)
     c.fit_one.ensures.fits
 
 pub returns-in-None-clause-fits : goal.returns-in-None-clause-fits
@@ -24,5 +24,5 @@ returns-in-None-clause-fits c =
     let s = standing_of c.args.stand.now.walk.standing in
     IfOk-weaker c.fit_write.result _ _
     (λ fit may place asked faced.
-    alone_fits c.args.judge.now c.args.line place s c.args.stand.now.own asked c.requires.judge c.args.view.now c.args.words.now (length c.items.result.now) fit (ap transaction_in c.in-None.is) (ap length c.items.ensures) faced may)
+    alone_fits c.args.judge.now c.args.line place s c.args.stand.now.own asked c.requires.judge c.args.view.now c.args.words.now c.len-cells.result fit (ap transaction_in c.in-None.is) c.len-cells.ensures faced may)
     c.fit_write.ensures.fits

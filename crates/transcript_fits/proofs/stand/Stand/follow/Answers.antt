@@ -1,6 +1,5 @@
-use Rattle.std.proofs.Common.{◌≡◌, ℕ, List, sym, subst}
 use Rattle.std.proofs.lemmas.Result.{on_ok_weaker}
-use Rattle.stated_history.specs.declared.Act.TheVariants.{Commits, Writes}
+use Rattle.stated_history.specs.declared.Act.TheVariants.{Commits}
 use Rattle.transcript_fits.proofs.Follows.{follow_begin, follow_other, follow_write}
 use Rattle.transcript_fits.proofs.stand.Stand.follow.Goals as goal
 
@@ -8,7 +7,7 @@ pub returns-in-Writes : goal.returns-in-Writes
 returns-in-Writes c =
     on_ok_weaker c.write.result
     (λ kept. λ h asked following.
-    follow_write h c.args.self.now c.args.line asked c.args.act.now following c.write.new.self c.args.place c.write.ensures.upto c.write.ensures.walk c.in-Writes.view c.items.result.now (subst (λ (ws : List ℕ). c.args.act.now ≡ Writes c.in-Writes.view ws) (sym c.items.ensures) c.in-Writes.is) c.write.ensures.begun (kept h))
+    follow_write h c.args.self.now c.args.line asked c.args.act.now following c.write.new.self c.args.place c.write.ensures.upto c.write.ensures.walk c.in-Writes.view c.in-Writes.words c.in-Writes.is c.write.ensures.begun (kept h))
     c.write.ensures.kept
 
 pub returns-in-Begins : goal.returns-in-Begins
