@@ -74,7 +74,7 @@ fn asked_piece(
 {
     let piece = piece_at(cells.pieces.items(), at);
     let own = staging.words_at(alloc, cells, at)?;
-    let asked = asked_cells(alloc, piece.runs.items(), cells.leaves.items(), words)?;
+    let asked = asked_cells(alloc, piece.runs.items(), &cells.leaves, words)?;
     match bare_cells(alloc, cells.lanes.items(), &asked, &own)? {
         Some(asked) => {
             let id = copy_sizes(alloc, piece.id.items())?;

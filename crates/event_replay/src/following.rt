@@ -62,7 +62,7 @@ fn may_follow(alloc: Global, opened: u64, op: &Op) -> Result<bool, AllocError>
         → IsOpIn events op.now → IsTrue may ↔ IsLegalOp before op.now) }
 {
     match op {
-        Op::Write { view, words } => has_cells(alloc, opened, view, words.items().len()),
+        Op::Write { view, words } => has_cells(alloc, opened, view, words.len()),
         Op::Read { view, words } => has_cells(alloc, opened, view, words.items().len()),
     }
 }
@@ -74,7 +74,7 @@ fn has_cells(alloc: Global, opened: u64, view: &View, words: usize) -> Result<bo
         → IsViewIn events view.now → IsTrue has ↔ HasCells before view.now words) }
 {
     let cells = located(alloc, view)?;
-    let count = cells.leaves.items().len();
+    let count = cells.leaves.len();
     if count != words {
         return Ok(false);
     }

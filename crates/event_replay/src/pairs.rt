@@ -8,7 +8,7 @@ ghost use Rattle.event_replay.specs.Placed.{placed_word, asked_cell};
 
 use cells::Run;
 use std::alloc::{AllocError, Global};
-use transaction_cells::Piece;
+use transaction_cells::{CellLeaves, Piece};
 use version_store::{AskedCell, PlacedWord};
 
 /// A view's words of one chunk, each at its place there.
@@ -43,7 +43,7 @@ fn place_run(placed: &mut Vec<PlacedWord>, run: Run, words: &[u64]) -> Result<()
 pub(crate) fn asked_cells(
     alloc: Global,
     runs: &[Run],
-    leaves: &[u32],
+    leaves: &CellLeaves,
     words: &[u64],
 ) -> Result<Vec<AskedCell>, AllocError>
     requires runs { AllByRecursion (λ run. IsRunInside run (length words.now) (2 ^ 24)) runs.now }
@@ -60,7 +60,7 @@ pub(crate) fn asked_cells(
 fn ask_run(
     asked: &mut Vec<AskedCell>,
     run: Run,
-    leaves: &[u32],
+    leaves: &CellLeaves,
     words: &[u64],
 ) -> Result<(), AllocError>
     requires run { IsRunInside run (length words.now) (2 ^ 24) }
@@ -69,7 +69,7 @@ fn ask_run(
 {
     for k in 0..run.len {
         let (view, place) = pair_at(run, k);
-        let (leaf, word) = (leaves[view], words[view]);
+        let (leaf, word) = (leaves.leaf(view), words[view]);
         asked.push(AskedCell { place, leaf, word })?;
     }
     Ok(())

@@ -16,7 +16,7 @@ use crate::pairs::{asked_cells, piece_at};
 use cast_driver::Chain;
 use stack_driver::View;
 use std::alloc::{AllocError, Global};
-use transaction_cells::{Piece, ViewCells};
+use transaction_cells::{CellLeaves, Piece, ViewCells};
 use version_store::VersionStore;
 
 /// Whether the cells of a view show these words, one for each.
@@ -37,7 +37,7 @@ pub(crate) fn has_words(
         pieces,
     } = located(alloc, view)?;
     let chains = chains_of(alloc, lanes)?;
-    show_pieces(alloc, store, pieces.items(), &chains, leaves.items(), words)
+    show_pieces(alloc, store, pieces.items(), &chains, &leaves, words)
 }
 
 fn show_pieces(
@@ -45,7 +45,7 @@ fn show_pieces(
     store: &VersionStore,
     pieces: &[Piece],
     casts: &[Chain],
-    leaves: &[u32],
+    leaves: &CellLeaves,
     words: &[u64],
 ) -> Result<bool, AllocError>
     requires { (history : History) × (puts : List Put) × (v : ViewOf)
@@ -67,7 +67,7 @@ fn show_piece(
     store: &VersionStore,
     piece: &Piece,
     casts: &[Chain],
-    leaves: &[u32],
+    leaves: &CellLeaves,
     words: &[u64],
 ) -> Result<bool, AllocError>
     requires { (history : History) × (puts : List Put) × (v : ViewOf)

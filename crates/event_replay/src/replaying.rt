@@ -51,7 +51,7 @@ fn replay_op(
 {
     match op {
         Op::Write { view, words } => {
-            put_write(alloc, store, number, view, words.items())?;
+            put_write(alloc, store, number, view, words)?;
             Ok(true)
         }
         Op::Read { view, words } => has_words(alloc, store, view, words.items()),

@@ -11,6 +11,7 @@ ghost use Rattle.event_replay.specs.Replays.{MayFollow, IsBehind, CanGoOn};
 
 use crate::locating::located;
 use crate::pairs::{piece_at, placed_words};
+use cells::WrittenWords;
 use stack_driver::View;
 use std::alloc::{AllocError, Global};
 use transaction_cells::Piece;
@@ -22,7 +23,7 @@ pub(crate) fn put_write(
     store: &mut VersionStore,
     number: u64,
     view: &View,
-    words: &[u64],
+    words: &WrittenWords,
 ) -> Result<(), AllocError>
     requires { CanGoOn number store.old (op.Write view.now words.now) }
     ensures { OnOk result ((history : History) (done : List Op) → IsBehind history number done store.old

@@ -16,6 +16,7 @@ ghost use Rattle.transaction_cells.specs.declared.view_cells.Piece.{Piece as Pie
 ghost use Rattle.read_fits.specs.Owned.{AreOwn, Id as IdOf, IsThere, has_id, is_needed};
 
 use crate::reads::located;
+use cells::WrittenWords;
 use indexmap::IndexSet;
 use stack_driver::View;
 use std::alloc::{AllocError, Global};
@@ -68,7 +69,12 @@ impl Own {
     ///
     /// # Errors
     /// `AllocError` where memory is wanting; what there is is of no use then.
-    pub fn write(&mut self, alloc: Global, view: &View, words: &[u64]) -> Result<(), AllocError>
+    pub fn write(
+        &mut self,
+        alloc: Global,
+        view: &View,
+        words: &WrittenWords,
+    ) -> Result<(), AllocError>
         requires own { (history : History) × (upto : ℕ) × (ops : List OpOf) × IsThere history upto view.now
             × AreOwn history upto ops self.old.staging self.old.reads.set.keys }
         requires count { length words.now ≡ length (cells_of (look_of view.now).dims) }

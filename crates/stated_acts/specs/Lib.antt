@@ -31,7 +31,6 @@ pub use Rattle.stated_arrays.specs.Asked
 pub use Rattle.stated_arrays.specs.Lines
 pub use Rattle.stated_arrays.specs.Still
 pub use Rattle.stated_arrays.specs.StatedCommits
-pub use Rattle.stated_arrays.specs.ToldWords
 pub use Rattle.stated_arrays.specs.OpenedViews
 pub use Rattle.stated_arrays.specs.Fitting
 pub use Rattle.stated_arrays.specs.Verdicts

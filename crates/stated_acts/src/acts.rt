@@ -24,7 +24,7 @@ ghost use Rattle.step_forms.specs.Given.{IsGiven};
 
 use crate::cell_faults::check_cells;
 use crate::standing::Standing;
-use cells::{List, Name, Words};
+use cells::{List, Name, WrittenWords};
 use history::Mode;
 use index_transform::Transform;
 use line_acts::{Body, DownWant, Names, Worded, asked_read, refusal, taken_write, viewed};
@@ -46,7 +46,7 @@ pub enum Act {
     /// It reads the view.
     Reads { view: View },
     /// It writes the words to the view: in the transaction that stands, and as one of its own where none does.
-    Writes { view: View, words: Words },
+    Writes { view: View, words: WrittenWords },
     Begins { mode: Mode },
     Commits,
     Aborts,

@@ -4,7 +4,7 @@ ghost use Rattle.stated_acts.specs.Acts.{kept_act};
 ghost use Rattle.stated_acts.specs.declared.acts.Act.TheVariants.{Binds, Reads, Writes};
 
 use crate::acts::Act;
-use cells::{Name, Words, copy_name};
+use cells::{Name, WrittenWords, copy_name};
 use stack_driver::{View, copy};
 use std::alloc::{AllocError, Global};
 
@@ -48,10 +48,10 @@ fn copy_read(alloc: Global, view: &View) -> Result<Option<Act>, AllocError>
     }
 }
 
-fn copy_write(alloc: Global, view: &View, words: &Words) -> Result<Option<Act>, AllocError>
+fn copy_write(alloc: Global, view: &View, words: &WrittenWords) -> Result<Option<Act>, AllocError>
     ensures { IfOk result (λ act. act ≡ Some (Writes view.now words.now)) }
 {
-    let words = Words::wrap(Vec::from_slice(alloc, words.items())?);
+    let words = words.copy(alloc)?;
     match copy(alloc, view) {
         Ok(view) => Ok(Some(Act::Writes { view, words })),
         Err(e) => Err(e),

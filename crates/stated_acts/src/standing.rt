@@ -21,7 +21,7 @@ ghost use Rattle.stated_arrays.specs.Standings.{first_standing, names_opened, wo
 ghost use Rattle.stated_arrays.specs.ToldNumbers.{single};
 
 use crate::acts::Act;
-use cells::{Name, Words};
+use cells::{Name, WrittenWords};
 use history::{Mode, Op};
 use indexmap::IndexMap;
 use line_acts::{Body, Names, bind};
@@ -194,7 +194,7 @@ impl Standing {
     }
 
     // A write line.
-    fn keep_write(&mut self, view: View, words: Words) -> Result<Option<Ongoing>, AllocError>
+    fn keep_write(&mut self, view: View, words: WrittenWords) -> Result<Option<Ongoing>, AllocError>
         ensures transaction { OnOk result (transaction_in self.new.transaction
             ≡ written_in (transaction_in self.old.transaction) view words) }
         ensures names { self.new.names ≡ self.old.names }
@@ -259,7 +259,7 @@ impl Standing {
     }
 
     // Keeps a write, where a transaction stands.
-    fn write(&mut self, view: View, words: Words) -> Result<(), AllocError>
+    fn write(&mut self, view: View, words: WrittenWords) -> Result<(), AllocError>
         ensures transaction { OnOk result (transaction_in self.new.transaction
             ≡ written_in (transaction_in self.old.transaction) view words) }
         ensures names { self.new.names ≡ self.old.names }
@@ -331,7 +331,7 @@ fn with_read(
 fn with_write(
     transaction: Option<Ongoing>,
     view: View,
-    words: Words,
+    words: WrittenWords,
 ) -> Result<Option<Ongoing>, AllocError>
     ensures { IfOk result (λ t. transaction_in t ≡ written_in (transaction_in transaction) view words) }
 {
@@ -359,7 +359,7 @@ impl Ongoing {
     }
 
     // With a write.
-    fn with_write(self, view: View, words: Words) -> Result<Ongoing, AllocError>
+    fn with_write(self, view: View, words: WrittenWords) -> Result<Ongoing, AllocError>
         ensures { IfOk result (λ t. transaction_of t ≡ with_write (transaction_of self) view words) }
     {
         self.extended(Op::Write { view, words })

@@ -16,7 +16,7 @@ ghost use Rattle.stated_acts.specs.AnswerNumbers.{PrintsNumbers};
 ghost use Rattle.stated_acts.specs.ToldStandings.{first_standing, standing_asked};
 
 use crate::putting::Commit;
-use cells::Words;
+use cells::WrittenWords;
 use history::{Mode, Op};
 use serde_json::Value;
 use stack_driver::View;
@@ -96,7 +96,7 @@ impl Walk {
         said: &Said,
         answer: &Value,
         view: View,
-        words: Words,
+        words: WrittenWords,
     ) -> Result<Option<Commit>, AllocError>
         requires sound { IsSoundStanding self.old.standing }
         requires act { IsSoundAct (Writes view words) }
@@ -169,7 +169,7 @@ impl Walk {
 }
 
 // The commit of a write outside of a transaction.
-fn write_of(alloc: Global, line: u64, view: View, words: Words) -> Result<Commit, AllocError>
+fn write_of(alloc: Global, line: u64, view: View, words: WrittenWords) -> Result<Commit, AllocError>
     ensures { IfOk result (λ c. kind_in c ≡ commit_of (write_alone line view words)) }
 {
     let mut ops = Vec::with_capacity(alloc, 1)?;

@@ -17,7 +17,7 @@ use crate::one_answer::fit_one;
 use crate::opening::fit_opening;
 use crate::reading::fit_reading;
 use crate::stand::Stand;
-use cells::Words;
+use cells::WrittenWords;
 use stack_driver::View;
 use stated_history::{Act, Body, viewed_body};
 use std::alloc::{AllocError, Global};
@@ -81,7 +81,7 @@ fn fit_writing(
     stand: &Stand,
     line: ToldLine,
     view: &View,
-    words: &Words,
+    words: &WrittenWords,
 ) -> Result<LineFit, AllocError>
     requires judge { IsJudge judge.now }
     requires faced { (place : ℕ) × (asked : Asked)
@@ -92,7 +92,7 @@ fn fit_writing(
         (IsAnsweredSo (history_of judge.now) line.entry (standing_of stand.now.walk.standing).transaction asked) fit) }
     ensures plain { IfOk result IsPlainFit }
 {
-    let cells = words.items().len() as u64;
+    let cells = words.len() as u64;
     match &stand.walk.standing.transaction {
         Some(_) => fit_one(alloc, line, Body::Staged { cells }),
         None => fit_write(alloc, judge, line, view, cells),

@@ -17,6 +17,7 @@ ghost use Rattle.transcript_fits.specs.Stands.{AreOwnBehind, HasPassed, HasReadO
 use crate::acts::act_before;
 use crate::judge::Judge;
 use crate::line_fit::ToldLine;
+use cells::WrittenWords;
 use open_fits::Own;
 use serde_json::Value;
 use stack_driver::View;
@@ -109,7 +110,7 @@ impl Stand {
     {
         match act {
             Act::Reads { view } => self.read(alloc, line.answer, view),
-            Act::Writes { view, words } => self.write(alloc, view, words.items()),
+            Act::Writes { view, words } => self.write(alloc, view, words),
             Act::Begins { mode: _ } => {
                 self.begin(alloc, place);
                 Ok(())
@@ -180,7 +181,7 @@ impl Stand {
     }
 
     // A Write joins the transaction that stands.
-    fn write(&mut self, alloc: Global, view: &View, words: &[u64]) -> Result<(), AllocError>
+    fn write(&mut self, alloc: Global, view: &View, words: &WrittenWords) -> Result<(), AllocError>
         requires { (history : History) × IsWritingOf history self.old view.now words.now }
         ensures kept { OnOk result ((history : History) → IsWritingOf history self.old view.now words.now
             → HasWrittenOf history self.old self.new view.now words.now) }

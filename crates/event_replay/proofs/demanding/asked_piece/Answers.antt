@@ -46,7 +46,7 @@ asked_cells-requires-clause-runs c =
 pub asked_cells-requires-clause-leaves : goal.asked_cells-requires-clause-leaves
 asked_cells-requires-clause-leaves c =
     let read = c.requires.read.3 in
-    ap (λ (ls : List ℕ). length ls) c.items-3.ensures ∙ leaf_count c.requires.read.2 c.args.cells.now read.cut ∙ sym read.count
+    leaf_count c.requires.read.2 c.args.cells.now read.cut ∙ sym read.count
 
 pub bare_cells-requires-clause-same : goal.bare_cells-requires-clause-same
 bare_cells-requires-clause-same c =
@@ -54,7 +54,7 @@ bare_cells-requires-clause-same c =
     let is : p ≡ get_or c.args.cells.now.pieces c.args.at p = c.piece_at-piece.ensures p ∙ ap (λ (ps : List Piece). get_or ps c.args.at p) c.items.ensures in
     let own : c.deref-2.result.now ≡ staged_words c.args.staging.now p = c.deref-2.ensures.value ∙ c.in_ok-own.ensures p ∙ ap (staged_words c.args.staging.now) (sym is) in
     let asked : c.deref.result.now ≡ map (asked_cell c.args.cells.now.leaves c.args.words.now) (flat_map pairs_of p.runs) =
-    c.deref.ensures.value ∙ c.in_ok-asked.ensures ∙ (λ i. map (asked_cell (c.items-3.ensures i) c.args.words.now) (flat_map pairs_of (c.items-2.ensures i))) in
+    c.deref.ensures.value ∙ c.in_ok-asked.ensures ∙ (λ i. map (asked_cell c.args.cells.now.leaves c.args.words.now) (flat_map pairs_of (c.items-2.ensures i))) in
     ap (λ (os : List (Option ℕ)). length os) own ∙ length-map (flat_map pairs_of p.runs) _ ∙ sym (length-map (flat_map pairs_of p.runs) _) ∙ sym (ap (λ (ass : List AskedCell). length ass) asked)
 
 pub bare_cells-requires-clause-lanes : goal.bare_cells-requires-clause-lanes
@@ -65,9 +65,9 @@ bare_cells-requires-clause-lanes c =
     let is : p ≡ get_or c.args.cells.now.pieces c.args.at p = c.piece_at-piece.ensures p ∙ ap (λ (ps : List Piece). get_or ps c.args.at p) c.items.ensures in
     let piece = piece_of_all (sites_of v) c.args.cells.now.pieces c.args.at p read.cut.pieces.each c.requires.at is in
     let asked : c.deref.result.now ≡ asked_there c.requires.read.0 c.requires.read.1 v c.args.words.now c.args.cells.now c.args.staging.now read p piece =
-    c.deref.ensures.value ∙ c.in_ok-asked.ensures ∙ (λ i. map (asked_cell (c.items-3.ensures i) c.args.words.now) (flat_map pairs_of (c.items-2.ensures i))) in
-    subst (λ (cells : List AskedCell). All (λ (a : AskedCell). a.leaf < length c.items-4.result.now) cells) (sym asked)
-    (subst (λ (lanes : List LaneSeen). All (λ (a : AskedCell). a.leaf < length lanes) (asked_there c.requires.read.0 c.requires.read.1 v c.args.words.now c.args.cells.now c.args.staging.now read p piece)) (sym c.items-4.ensures)
+    c.deref.ensures.value ∙ c.in_ok-asked.ensures ∙ (λ i. map (asked_cell c.args.cells.now.leaves c.args.words.now) (flat_map pairs_of (c.items-2.ensures i))) in
+    subst (λ (cells : List AskedCell). All (λ (a : AskedCell). a.leaf < length c.items-3.result.now) cells) (sym asked)
+    (subst (λ (lanes : List LaneSeen). All (λ (a : AskedCell). a.leaf < length lanes) (asked_there c.requires.read.0 c.requires.read.1 v c.args.words.now c.args.cells.now c.args.staging.now read p piece)) (sym c.items-3.ensures)
     (asked_lanes c.requires.read.0 c.requires.read.1 v c.args.words.now c.args.cells.now c.args.staging.now read p piece))
 
 pub returns-in-Some : goal.returns-in-Some
@@ -77,11 +77,11 @@ returns-in-Some c = λ d.
     let same : p ≡ get_or c.args.cells.now.pieces c.args.at d = is ∙ get_or_default c.args.cells.now.pieces c.args.at p d c.requires.at in
     let own : c.deref-2.result.now ≡ staged_words c.args.staging.now p = c.deref-2.ensures.value ∙ c.in_ok-own.ensures p ∙ ap (staged_words c.args.staging.now) (sym is) in
     let asked : c.deref.result.now ≡ map (asked_cell c.args.cells.now.leaves c.args.words.now) (flat_map pairs_of p.runs) =
-    c.deref.ensures.value ∙ c.in_ok-asked.ensures ∙ (λ i. map (asked_cell (c.items-3.ensures i) c.args.words.now) (flat_map pairs_of (c.items-2.ensures i))) in
-    let told = subst (λ (found : Option (Vec AskedCell)). IsBareOf (map (λ (lane : LaneSeen). lane.casts) c.items-4.result.now) c.deref.result.now c.deref-2.result.now found) c.in-Some.is c.in_ok-asked-2.ensures in
-    let rest = subst (λ (lanes : List LaneSeen). IsBareOf (map (λ (lane : LaneSeen). lane.casts) lanes) (map (asked_cell c.args.cells.now.leaves c.args.words.now) (flat_map pairs_of p.runs)) (staged_words c.args.staging.now p) (Some c.in-Some.asked)) c.items-4.ensures
-    (subst (λ (ass : List AskedCell). IsBareOf (map (λ (lane : LaneSeen). lane.casts) c.items-4.result.now) ass (staged_words c.args.staging.now p) (Some c.in-Some.asked)) asked
-    (subst (λ (os : List (Option ℕ)). IsBareOf (map (λ (lane : LaneSeen). lane.casts) c.items-4.result.now) c.deref.result.now os (Some c.in-Some.asked)) own told)) in
+    c.deref.ensures.value ∙ c.in_ok-asked.ensures ∙ (λ i. map (asked_cell c.args.cells.now.leaves c.args.words.now) (flat_map pairs_of (c.items-2.ensures i))) in
+    let told = subst (λ (found : Option (Vec AskedCell)). IsBareOf (map (λ (lane : LaneSeen). lane.casts) c.items-3.result.now) c.deref.result.now c.deref-2.result.now found) c.in-Some.is c.in_ok-asked-2.ensures in
+    let rest = subst (λ (lanes : List LaneSeen). IsBareOf (map (λ (lane : LaneSeen). lane.casts) lanes) (map (asked_cell c.args.cells.now.leaves c.args.words.now) (flat_map pairs_of p.runs)) (staged_words c.args.staging.now p) (Some c.in-Some.asked)) c.items-3.ensures
+    (subst (λ (ass : List AskedCell). IsBareOf (map (λ (lane : LaneSeen). lane.casts) c.items-3.result.now) ass (staged_words c.args.staging.now p) (Some c.in-Some.asked)) asked
+    (subst (λ (os : List (Option ℕ)). IsBareOf (map (λ (lane : LaneSeen). lane.casts) c.items-3.result.now) c.deref.result.now os (Some c.in-Some.asked)) own told)) in
     let id = c.in_ok-id-in-Some.ensures ∙ c.items-in-Some.ensures in
     subst (λ (q : Piece). IsTellingPiece c.args.cells.now c.args.staging.now c.args.words.now q.id (Some (record { id = c.in_ok-id-in-Some.id; asked = c.in-Some.asked }))) same (
       id,
@@ -105,10 +105,10 @@ returns c = λ d h ops v read all.
     let same : p ≡ get_or c.args.cells.now.pieces c.args.at d = is ∙ get_or_default c.args.cells.now.pieces c.args.at p d c.requires.at in
     let own : c.deref-2.result.now ≡ staged_words c.args.staging.now p = c.deref-2.ensures.value ∙ c.in_ok-own.ensures p ∙ ap (staged_words c.args.staging.now) (sym is) in
     let asked : c.deref.result.now ≡ map (asked_cell c.args.cells.now.leaves c.args.words.now) (flat_map pairs_of p.runs) =
-    c.deref.ensures.value ∙ c.in_ok-asked.ensures ∙ (λ i. map (asked_cell (c.items-3.ensures i) c.args.words.now) (flat_map pairs_of (c.items-2.ensures i))) in
-    let told = subst (λ (found : Option (Vec AskedCell)). IsBareOf (map (λ (lane : LaneSeen). lane.casts) c.items-4.result.now) c.deref.result.now c.deref-2.result.now found) c.in-None.is c.in_ok-asked-2.ensures in
-    let rest = subst (λ (lanes : List LaneSeen). ¬ AreCovered (map (λ (lane : LaneSeen). lane.casts) lanes) (map (asked_cell c.args.cells.now.leaves c.args.words.now) (flat_map pairs_of p.runs)) (staged_words c.args.staging.now p)) c.items-4.ensures
-    (subst (λ (ass : List AskedCell). ¬ AreCovered (map (λ (lane : LaneSeen). lane.casts) c.items-4.result.now) ass (staged_words c.args.staging.now p)) asked
-    (subst (λ (os : List (Option ℕ)). ¬ AreCovered (map (λ (lane : LaneSeen). lane.casts) c.items-4.result.now) c.deref.result.now os) own told)) in
+    c.deref.ensures.value ∙ c.in_ok-asked.ensures ∙ (λ i. map (asked_cell c.args.cells.now.leaves c.args.words.now) (flat_map pairs_of (c.items-2.ensures i))) in
+    let told = subst (λ (found : Option (Vec AskedCell)). IsBareOf (map (λ (lane : LaneSeen). lane.casts) c.items-3.result.now) c.deref.result.now c.deref-2.result.now found) c.in-None.is c.in_ok-asked-2.ensures in
+    let rest = subst (λ (lanes : List LaneSeen). ¬ AreCovered (map (λ (lane : LaneSeen). lane.casts) lanes) (map (asked_cell c.args.cells.now.leaves c.args.words.now) (flat_map pairs_of p.runs)) (staged_words c.args.staging.now p)) c.items-3.ensures
+    (subst (λ (ass : List AskedCell). ¬ AreCovered (map (λ (lane : LaneSeen). lane.casts) c.items-3.result.now) ass (staged_words c.args.staging.now p)) asked
+    (subst (λ (os : List (Option ℕ)). ¬ AreCovered (map (λ (lane : LaneSeen). lane.casts) c.items-3.result.now) c.deref.result.now os) own told)) in
     let piece = piece_of_all (sites_of v) c.args.cells.now.pieces c.args.at p read.cut.pieces.each c.requires.at is in
     rest ((covered_own h ops v c.args.words.now c.args.cells.now c.args.staging.now read p piece).1 (subst (λ (q : Piece). AreOwnIn c.args.staging.now q.id (sites_of v) c.args.words.now) (sym same) all))

@@ -11,7 +11,7 @@ located-requires c = can_locate_view c.requires.0 c.requires.1 c.args.opened c.r
 pub returns-then-count-words : goal.returns-then-count-words
 returns-then-count-words c = λ events before front is.
     let cells = c.in_ok-cells.cells in
-    let count : length c.items-count.result.now ≡ length cells.leaves = ap (λ (ls : List ℕ). length ls) c.items-count.ensures in (
+    let count = c.len-count.ensures in (
       λ so. absurd (let clash : false ≡ true = so in cc),
       λ has.
           let same = cells_count events before c.args.opened front c.args.view.now is c.in_ok-cells.ensures.sites cells c.in_ok-cells.ensures.cells c.args.words has in
@@ -22,7 +22,7 @@ returns-then-count-words c = λ events before front is.
 pub returns : goal.returns
 returns c = λ events before front is.
     let cells = c.in_ok-cells.cells in
-    let long : length c.items-count.result.now ≡ length cells.leaves = ap (λ (ls : List ℕ). length ls) c.items-count.ensures in
+    let long = c.len-count.ensures in
     let test = c.if-count-words.false in
     let count : length cells.leaves ≡ c.args.words = omega (arith, long, test) in
     let told = cells_told events before c.args.opened front c.args.view.now is c.in_ok-cells.ensures.sites cells c.in_ok-cells.ensures.cells c.args.words count in

@@ -31,10 +31,9 @@ show_pieces-requires c =
       h,
       puts,
       v,
-      subst (λ (ls : List ℕ). AreAskedIn h puts v words ls c.deref.result.now c.items.result.now s) (sym c.items-2.ensures)
-          (subst (λ (cs : List (List Cast)). AreAskedIn h puts v words cells.leaves cs c.items.result.now s) (sym c.deref.ensures.value)
+      subst (λ (cs : List (List Cast)). AreAskedIn h puts v words cells.leaves cs c.items.result.now s) (sym c.deref.ensures.value)
           (subst (λ (ps : List Piece). AreAskedIn h puts v words cells.leaves c.in_ok-chains.chains.items ps s) (sym c.items.ensures)
-          (read_asked h c.requires.0 c.requires.1.1 v words c.in_ok-chains.chains.items cells s c.requires.1.2 c.requires.1.3 c.in_ok-leaves.ensures.sites c.in_ok-leaves.ensures.cells c.in_ok-chains.ensures))),
+          (read_asked h c.requires.0 c.requires.1.1 v words c.in_ok-chains.chains.items cells s c.requires.1.2 c.requires.1.3 c.in_ok-leaves.ensures.sites c.in_ok-leaves.ensures.cells c.in_ok-chains.ensures)),
     )
 
 pub returns : goal.returns
@@ -44,13 +43,12 @@ returns c =
     let s = c.args.store.now in
     let cells = c.in_ok-leaves.field-0 in
     IfOk-weaker c.show_pieces.result
-    (λ has. (history : History) (puts : List Put) (u : View) → AreAskedIn history puts u words c.items-2.result.now c.deref.result.now c.items.result.now s → IsTrue has ↔ AreShown (content_with history puts) (sites_of u) words)
+    (λ has. (history : History) (puts : List Put) (u : View) → AreAskedIn history puts u words cells.leaves c.deref.result.now c.items.result.now s → IsTrue has ↔ AreShown (content_with history puts) (sites_of u) words)
     (λ has. (history : History) (number : ℕ) (done : List Op) → IsBehind history number done s → MayFollow history (Read v words) → IsTrue has ↔ HasWords history done v words)
     (λ answer tells. λ h number done behind may.
-    let are = subst (λ (ls : List ℕ). AreAskedIn h (puts_of done) v words ls c.deref.result.now c.items.result.now s) (sym c.items-2.ensures)
-    (subst (λ (cs : List (List Cast)). AreAskedIn h (puts_of done) v words cells.leaves cs c.items.result.now s) (sym c.deref.ensures.value)
+    let are = subst (λ (cs : List (List Cast)). AreAskedIn h (puts_of done) v words cells.leaves cs c.items.result.now s) (sym c.deref.ensures.value)
     (subst (λ (ps : List Piece). AreAskedIn h (puts_of done) v words cells.leaves c.in_ok-chains.chains.items ps s) (sym c.items.ensures)
-    (read_asked h number done v words c.in_ok-chains.chains.items cells s behind may c.in_ok-leaves.ensures.sites c.in_ok-leaves.ensures.cells c.in_ok-chains.ensures))) in
+    (read_asked h number done v words c.in_ok-chains.chains.items cells s behind may c.in_ok-leaves.ensures.sites c.in_ok-leaves.ensures.cells c.in_ok-chains.ensures)) in
     let one = tells h (puts_of done) v are in
     let other = read_words h done v words may c.in_ok-leaves.ensures.sites in
     (λ so. other.1 (one.0 so), λ is. one.1 (other.0 is))) c.show_pieces.ensures
