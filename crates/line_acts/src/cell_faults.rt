@@ -5,6 +5,7 @@ ghost use Rattle.history.specs.Acts.{Asked, without};
 ghost use Rattle.history.specs.Viewing.{view_fault, cell_fault};
 ghost use Rattle.index_transform.specs.Cells.{cells_of, count_answer, is_finite};
 ghost use Rattle.line_acts.specs.Refused.{IsAnswerTo};
+ghost use Rattle.line_meanings.specs.declared.Body.TheVariants.{Memory};
 ghost use Rattle.stack_driver.specs.Views.{look_of};
 ghost use Rattle.stack_targets.specs.Buffers.{all_targets};
 
@@ -15,11 +16,12 @@ use stack_driver::{View, transform_of};
 use stack_targets::TargetsError;
 use std::alloc::{AllocError, Global};
 
-/// How many cells a view has, or the answer that there are too many.
+/// How many cells a view has, or the answer that there are too many. It takes no memory.
 pub fn counted(v: &View) -> Result<u64, Body>
     ensures count { IfOk result (λ n. count_answer (look_of v.now).dims ≡ Ok n) }
     ensures cells { IfOk result (λ n. n ≡ length (cells_of (look_of v.now).dims)) }
     ensures err { IfErr result (λ b. (next : Asked) → IsAnswerTo (without (view_fault v.now) next) b) }
+    ensures told { IfErr result (λ b. b ≢ Memory) }
 {
     match transform_of(v).count() {
         Ok(n) => Ok(n),
