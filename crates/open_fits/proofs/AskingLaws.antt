@@ -16,7 +16,7 @@ use Rattle.history.specs.History.{History}
 use Rattle.history.specs.Legal.{IsLegal}
 use Rattle.history.specs.Places.{IsTable}
 use Rattle.history.proofs.Laws.{legal_take, known-longer, opened_itself, as_opened, table_none}
-use Rattle.read_fits.specs.Still.{IsStill, AreStill}
+use Rattle.read_fits.specs.Still.{AreStill}
 use Rattle.history.proofs.Tests.{equal_or_not}
 use Rattle.read_fits.specs.Outcomes.{AreKeptOf}
 use Rattle.open_fits.specs.Asking.{moment_of_question}
@@ -128,9 +128,6 @@ pub table_next : (events : History) (places : Located) (n : ℕ) (e : Event) →
 table_next events places n e at table =
     let same : suc n ≡ n + 1 = omega arith in
     subst (λ m. IsTable (take m events) places) same (subst (λ h. IsTable h places) (sym (take_front events n e at)) table)
-
-pub still_at : (events : History) (n : ℕ) (e : Event) → slice_get events n ≡ Some e → AreStill events → IsStill e.kind
-still_at events n e at still = all_at (λ (f : Event). IsStill f.kind) events n e at still
 
 -- no event yet
 pub none_yet : (events : History) (places : Located) → places ≡ finmap.empty → IsTable (take 0 events) places

@@ -9,7 +9,7 @@ ghost use Rattle.read_fits.specs.AnswerLines.{IsAnswerText};
 ghost use Rattle.history.specs.Answers.{store_failed};
 ghost use Rattle.history.specs.Places.{IsTable};
 ghost use Rattle.read_fits.specs.Outline.{outline};
-ghost use Rattle.read_fits.specs.Outcomes.{AreKeptOf, AreStill};
+ghost use Rattle.read_fits.specs.Outcomes.{AreKeptOf};
 ghost use Rattle.open_fits.specs.Built.{IsPrintedAs};
 ghost use Rattle.open_fits.specs.Opens.{IsQuestion, IsRefusedAt, IsRefusedFor, IsRefusedFrom};
 ghost use Rattle.open_fits.specs.Opened.{OpenedIsUnrefused};
@@ -92,7 +92,6 @@ fn place_until(
 ) -> Result<(), AllocError>
     requires order { from ≤ upto }
     requires within { upto ≤ length events.now }
-    requires still { AreStill events.now }
     requires table { IsTable (take from events.now) places.old }
     ensures { OnOk result (IsTable (take upto events.now) places.new) }
 {

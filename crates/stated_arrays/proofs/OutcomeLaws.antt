@@ -216,11 +216,11 @@ next_placed e info old new opens placed h table = by (location info.home) refl p
     by None lies is = subst (IsTable (h ++ e ∷ [])) (sym is) (subst (λ (f : Event). IsTable (h ++ f ∷ []) old) same (table_same h (opened_event e.owner info) old lies table))
     by (Some here) lies is = subst (IsTable (h ++ e ∷ [])) (sym is) (table_opened h e info here old opens lies table)
 
-pub next_same : (e : Event) (old new : Located) → IsStill e.kind → ((info : ArrayInfo) → e.kind ≡ Opened info → ⊥) → new ≡ old → (h : History) → IsTable h old → IsTable (h ++ e ∷ []) new
-next_same e old new still never is h table = subst (IsTable (h ++ e ∷ [])) (sym is) (by e.kind refl)
+pub next_same : (e : Event) (old new : Located) → ((info : ArrayInfo) → e.kind ≡ Opened info → ⊥) → new ≡ old → (h : History) → IsTable h old → IsTable (h ++ e ∷ []) new
+next_same e old new never is h table = subst (IsTable (h ++ e ∷ [])) (sym is) (by e.kind refl)
   where
     by : (kind : Kind) → e.kind ≡ kind → IsTable (h ++ e ∷ []) old
     by (Opened info) opens = absurd (never info opens)
     by (Done line mode ops key) kind = subst (λ (f : Event). IsTable (h ++ f ∷ []) old) (ap (λ (k : Kind). record { owner = e.owner; kind = k }) (sym kind)) (table_same h (record { owner = e.owner; kind = Done line mode ops key }) old tt table)
-    by (Resized a shape) kind = let no : ⊥ = subst IsStill kind still in absurd no
+    by (Resized a shape) kind = subst (λ (f : Event). IsTable (h ++ f ∷ []) old) (ap (λ (k : Kind). record { owner = e.owner; kind = k }) (sym kind)) (table_same h (record { owner = e.owner; kind = Resized a shape }) old tt table)
     by (Fault mount) kind = subst (λ (f : Event). IsTable (h ++ f ∷ []) old) (ap (λ (k : Kind). record { owner = e.owner; kind = k }) (sym kind)) (table_same h (record { owner = e.owner; kind = Fault mount }) old tt table)

@@ -11,7 +11,7 @@ ghost use Rattle.history.specs.Outcomes.{opening_outcome, outcome_at, outcome_in
 ghost use Rattle.history.specs.Places.{IsTable, location, array_at};
 ghost use Rattle.history.specs.declared.array.ArrayInfo.{ArrayInfo as InfoOf};
 ghost use Rattle.stated_arrays.specs.Asked.{leaf_asked};
-ghost use Rattle.stated_arrays.specs.Outcomes.{IsStill, AreKeptOf, IsOpenedAt, IsOpenedAs, IsArrayAt, IsToldAs, placed_by};
+ghost use Rattle.stated_arrays.specs.Outcomes.{AreKeptOf, IsOpenedAt, IsOpenedAs, IsArrayAt, IsToldAs, placed_by};
 
 use crate::asked::{Asked, location_of};
 use cells::Name;
@@ -172,7 +172,7 @@ fn made_new(alloc: Global, asked: &Asked) -> Result<LeafOutcome, AllocError>
 /// # Errors
 /// An allocation failed.
 pub fn place_next(alloc: Global, places: &mut Locations, event: &Event) -> Result<(), AllocError>
-    ensures { OnOk result ((events : History) → IsStill event.now.kind → IsTable events places.old
+    ensures { OnOk result ((events : History) → IsTable events places.old
         → IsTable (events ++ event.now ∷ []) places.new) }
 {
     match &event.kind {

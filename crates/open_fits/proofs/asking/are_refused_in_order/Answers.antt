@@ -1,7 +1,6 @@
 use Rattle.std.proofs.Common.{◌≡◌, ◌<◌, length, take, refl, sym, ap, subst, arith}
 use Rattle.std.proofs.lemmas.Option.{slice_get_read}
 use Rattle.history.specs.Places.{IsTable}
-use Rattle.read_fits.specs.Still.{AreStill}
 use Rattle.open_fits.specs.Opens.{IsQuestion}
 use Rattle.open_fits.proofs.AskingLaws.{all_at, in_order, moment_then, one_unrefused, all_refused, all_next, none_yet}
 use Rattle.open_fits.proofs.asking.are_refused_in_order.Goals as goal
@@ -31,9 +30,6 @@ place_until-requires-clause-within c =
     let within = (all_at (IsQuestion c.args.openings.now.events) qs i q (slice_get_read qs (length qs) i q refl low c.question-item.is) c.requires.questions).within in
     let size = ap length c.items-events.ensures in
     omega (arith, within, size)
-
-pub place_until-requires-clause-still : goal.place_until-requires-clause-still
-place_until-requires-clause-still c = subst AreStill (sym c.items-events.ensures) c.requires.openings.still
 
 pub place_until-requires-clause-table : goal.place_until-requires-clause-table
 place_until-requires-clause-table c = subst (λ h. IsTable (take c.loop-question.seen h) c.loop-question.places) (sym c.items-events.ensures) c.loop-question.invariant.table

@@ -1,7 +1,7 @@
 use Rattle.std.proofs.Common.{◌≡◌, ◌<◌, length, take, refl, subst, arith}
 use Rattle.std.proofs.lemmas.Option.{slice_get_read}
 use Rattle.history.specs.Places.{IsTable}
-use Rattle.open_fits.proofs.AskingLaws.{table_next, still_at}
+use Rattle.open_fits.proofs.AskingLaws.{table_next}
 use Rattle.open_fits.proofs.asking.place_until.Goals as goal
 
 pub loop-n-init : goal.loop-n-init
@@ -15,7 +15,7 @@ loop-n-preserved c =
     let within = c.requires.within in
     let low : n < length events = omega (arith, within) in
     let at = slice_get_read events (length events) n event refl low c.index-events-n.is in
-    table_next events c.place_next.new.places n event at (c.in_ok-place_next.ensures (take n events) (still_at events n event at c.requires.still) c.loop-n.invariant)
+    table_next events c.place_next.new.places n event at (c.in_ok-place_next.ensures (take n events) c.loop-n.invariant)
 
 pub returns : goal.returns
 returns c =

@@ -4,5 +4,5 @@ use Rattle.stated_arrays.proofs.outcomes.place_next.Goals as goal
 pub returns-in-Opened : goal.returns-in-Opened
 returns-in-Opened c =
     on_ok c.place_array.result
-    (λ same events still table. next_placed c.args.event.now c.in-Opened.array c.args.places.now c.place_array.new.places c.in-Opened.is same events table)
+    (λ same events table. next_placed c.args.event.now c.in-Opened.array c.args.places.now c.place_array.new.places c.in-Opened.is same events table)
     c.place_array.ensures
