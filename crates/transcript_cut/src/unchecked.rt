@@ -16,8 +16,8 @@ use transcript_laws::{Command, LineError, OpenPlan, SpecLeaf, read_command};
 /// What the lines of scripts ask for.
 #[derive(Drop)]
 pub enum Asking {
-    /// All are checked. Of each that isn't blank this is kept: the command that it is, so that it need not be read again. Nothing is kept of a line
-    /// that opens something or is refused.
+    /// All are checked. Of each that isn't blank there is the command that it is, so that it need not be read again, or nothing: always nothing of
+    /// a line that opens something or is refused.
     Checked { commands: List<Option<Command>> },
     /// This line isn't checked, the first: a resize, a resolve, an open whose Spec has a node of the driver zarr3, a downsampled read, or a
     /// joined view. A line that has no such form is checked.
