@@ -1,6 +1,6 @@
 // What other types hold: chunks of numbers, lists, texts.
 use case_lines::{Fault, dtype, member, number, numbers_of, sizes, text, told, word_of};
-use cells::{Boxed, Dense, Index, List, Name, Sizes, Words, count_cells};
+use cells::{Boxed, Dense, Index, List, Name, Sizes, Words, WrittenWords, count_cells};
 use serde_json::Value;
 use std::alloc::Global;
 
@@ -16,6 +16,8 @@ pub(crate) fn answer(alloc: Global, call: &str, v: &Value) -> Result<String, Fau
         "index" => index(alloc, member(v, "items")?),
         "box" => told(alloc, &Boxed::new(alloc, number(v, "item")?)?.into_inner()),
         "before" => before(alloc, v),
+        "written" => written(alloc, &WrittenWords::each(sizes(alloc, v, "items")?)),
+        "written_alike" => written_alike(alloc, number(v, "item")?, number(v, "count")?),
         _ => Err(Fault::Line),
     }
 }
@@ -77,6 +79,20 @@ fn is_before(alloc: Global, one: &Name, v: &Value) -> Result<String, Fault> {
     let other = name(alloc, v, "other")?;
     let is_before = *one < other;
     told(alloc, &is_before)
+}
+
+// A word for each of so many cells.
+fn written_alike(alloc: Global, word: u64, count: u64) -> Result<String, Fault> {
+    if count > MOST {
+        return Err(Fault::Line);
+    }
+    written(alloc, &WrittenWords::one(word, count as usize))
+}
+
+// How many words of a write there are, and each of them, of a copy.
+fn written(alloc: Global, words: &WrittenWords) -> Result<String, Fault> {
+    let again = words.copy(alloc)?;
+    told(alloc, &(again.len(), again.to_vec(alloc)?.as_slice()))
 }
 
 fn name(alloc: Global, v: &Value, of: &str) -> Result<Name, Fault> {
