@@ -75,7 +75,7 @@ pub record IsSerialOutcome (contents : Option Contents) (words : List (List ℕ)
   pub serial : IsSerialRun scripts old new outcome.history outcome.logs
   -- each line that isn't blank has its answer, up to one that is want of memory, but where memory was wanting for an answer
   pub whole : outcome.status ≢ 5 → AreWhole (names_of old) scripts outcome.logs
-  -- one script alone, where no call of the store failed and all answers were written, gives what the single session gives
+  -- one script alone, where the stores' counts of faults stayed and all answers were written, gives what the single session gives
   pub single : HasAnswers outcome.status → (mount script : List ℕ) → names_of old ≡ mount ∷ [] → scripts ≡ script ∷ [] → faults_of new ≡ faults_of old → IsSingleOutcome mount script outcome
 
 -- over one store that is called `memory`, the right verdict on what the logs print is yes, by as many events as there are, where nothing ended in want of

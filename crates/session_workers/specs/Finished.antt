@@ -58,5 +58,5 @@ pub record IsRun (scripts : List (List ℕ)) (old new : List Part) (history : Hi
   pub told : (start : Contents) → union_of old ≡ Some start → IsPrintedRun start scripts old new history logs
   -- over one empty mount that makes all its changes together, its transactions are serial
   pub serial : IsEmptyMount old → IsSerialRun scripts old new history logs
-  -- one script alone over such a mount, of which no call failed, gives what the single session gives
+  -- one script alone over such a mount, whose count of faults stayed, gives what the single session gives
   pub single : (mount script : List ℕ) → IsEmptyMount old → names_of old ≡ mount ∷ [] → scripts ≡ script ∷ [] → faults_of new ≡ faults_of old → IsSingleRun mount script history logs

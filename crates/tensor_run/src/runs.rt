@@ -5,7 +5,7 @@ ghost use Rattle.kv_mounts.specs.Parts.{AreMounts};
 ghost use Rattle.script_runner.specs.Parts.{parts_of};
 ghost use Rattle.script_runner.specs.Words.{mount_words, names_folder};
 ghost use Rattle.script_runner.specs.Asked.{AreRefused};
-ghost use Rattle.script_runner.specs.Promises.{HasRun, IsSerialOutcome};
+ghost use Rattle.script_runner.specs.Promises.{HasRun, IsSerialOutcome, IsYesOutcome};
 
 use crate::said::{say, say_unfinished};
 use script_runner::{FileScripts, Mount, OpenGate, Outcome, StdoutSink, Store, mounts_by, run};
@@ -56,6 +56,9 @@ fn ran<R: Threads + Wait + Sync>(
     ensures serial { names_folder (map string_bytes words.now) ≡ false → result.logs ≢ []
         → (contents : Option Contents) × IsSerialOutcome contents (map string_bytes words.now)
         (parts_of false) mounts.new.items result }
+    // What it prints then is what a check answers yes.
+    ensures fits { names_folder (map string_bytes words.now) ≡ false → result.logs ≢ []
+        → (contents : Option Contents) × IsYesOutcome contents (map string_bytes words.now) (parts_of false) result }
     // With a folder or without, the words behind those that are about the mounts are run over the mounts that those ask for.
     ensures refused { result.status ≡ 2 ↔ AreRefused (drop (mount_words (map string_bytes words.now)) (map string_bytes words.now)) }
     ensures started { result.logs ≢ [] → (contents : Option Contents)

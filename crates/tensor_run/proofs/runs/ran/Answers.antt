@@ -3,7 +3,7 @@ use Rattle.std.specs.Prelude.{◌↔◌, map, string_bytes, if◌then◌else◌}
 use Rattle.std.proofs.lemmas.List.{drop-map, take_rest}
 use Rattle.script_runner.specs.Asked.{AreRefused}
 use Rattle.script_runner.specs.Parts.{memory_part, parts_of}
-use Rattle.script_runner.specs.Promises.{HasRun, IsEmptyMount, IsSerialOutcome}
+use Rattle.script_runner.specs.Promises.{HasRun, IsEmptyMount, IsSerialOutcome, IsYesOutcome}
 use Rattle.script_runner.specs.Words.{mount_words}
 use Rattle.tensor_run.proofs.Together.{all_together}
 use Rattle.tensor_run.proofs.runs.ran.Goals as goal
@@ -24,6 +24,15 @@ returns g c =
             None,
             subst (λ ms. IsSerialOutcome None (map string_bytes words) ms c.run.new.mounts.items c.run.result) parts
                 (subst (λ ws. IsSerialOutcome None ws c.args.mounts.now.items c.run.new.mounts.items c.run.result) same (c.run.ensures.serial some empty)),
+          );
+      fits = λ no some.
+          let none : first ≡ 0 = c.requires.first ∙ ap (λ b. if b then 2 else 0) no in
+          let same : map string_bytes (take (length words - first) (drop first words)) ≡ map string_bytes words =
+          ap (λ n. map string_bytes (take (length words - n) (drop n words))) none ∙ ap (map string_bytes) (take_rest words 0) in
+          let parts : c.args.mounts.now.items ≡ parts_of false = c.requires.parts ∙ ap parts_of no in
+          let empty : IsEmptyMount c.args.mounts.now.items = subst IsEmptyMount (sym parts) (record { part = memory_part; alone = refl; empty = refl; together = all_together }) in (
+            None,
+            subst (λ ms. IsYesOutcome None (map string_bytes words) ms c.run.result) parts (subst (λ ws. IsYesOutcome None ws c.args.mounts.now.items c.run.result) same (c.run.ensures.fits some empty)),
           );
       refused = subst (λ ws. (c.run.result.status ≡ 2) ↔ AreRefused ws) rest c.run.ensures.refused;
       started = λ some.
