@@ -1,6 +1,6 @@
 -- Which operations of a stated history may follow its first events.
 use Rattle.std.proofs.Common.{◌≡◌, ◌∙◌, ◌<◌, ℕ, zero, suc, List, [], ◌∷◌, length, map, get_or, true, false, Option, Some, None, Ok, refl, sym, ap, subst, arith}
-use Rattle.std.specs.Prelude.{◌↔◌, Bool, Contains, IsTrue}
+use Rattle.std.specs.Prelude.{◌↔◌, Contains}
 use Rattle.std.specs.List.{AllByRecursion}
 use Rattle.std.proofs.lemmas.List.{length-map}
 use Rattle.std.proofs.lemmas.List.Elements.{All-get_or, All-from_recursion}
@@ -130,11 +130,6 @@ op_told events before op in_history = (
     by (Write view words) is = is.writes.1
     by (Read view words) is = tt
 
-pub op_answer : (events before : History) (op : Op) (answer : Bool) → IsOpIn events op → IsTrue answer ↔ HasCells before (viewed op) (length (words_of op)) → IsTrue answer ↔ IsLegalOp before op
-op_answer events before op answer in_history told =
-    let may = op_told events before op in_history in
-    (λ so. may.0 (told.0 so), λ legal. told.1 (may.1 legal))
-
 pub may_of : (events before : History) (opened : ℕ) (op : Op) → IsFront events before opened → IsOpIn events op → IsLegalOp before op → MayFollow before op
 may_of events before opened op front in_history legal = record {
   legal = legal;
@@ -143,9 +138,9 @@ may_of events before opened op front in_history legal = record {
   leaves = record { later = events; keeps = keeps events before opened front; each = leaves_whole events before opened front (viewed op) in_history.view };
 }
 
-pub all_may : (events before : History) (opened : ℕ) (ops : List Op) → IsFront events before opened → AllByRecursion (IsOpIn events) ops → AllByRecursion (IsLegalOp before) ops → AllByRecursion (MayFollow before) ops
-all_may events before opened [] front each legal = tt
-all_may events before opened (op ∷ ops) front each legal = (may_of events before opened op front each.0 legal.0, all_may events before opened ops front each.1 legal.1)
+-- so may one whose cells are there
+pub may_next : (events before : History) (opened : ℕ) (op : Op) → IsFront events before opened → IsOpIn events op → HasCells before (viewed op) (length (words_of op)) → MayFollow before op
+may_next events before opened op front in_history has = may_of events before opened op front in_history ((op_told events before op in_history).0 has)
 
 -- one of several
 pub one_of : {X : Type 0} (P : X → Type 0) (xs : List X) (i : ℕ) (x : X) → AllByRecursion P xs → i < length xs → x ≡ get_or xs i x → P x

@@ -12,17 +12,16 @@ use Rattle.history.specs.declared.event.Kind.TheVariants.{Opened, Done}
 use Rattle.history.specs.declared.event.Mode.{Mode}
 use Rattle.history.specs.declared.event.Op.{Op}
 use Rattle.history.specs.History.{History}
-use Rattle.history.specs.Legal.{IsLegal, IsLegalDone, IsLegalKind, IsLegalOp, is_opening}
+use Rattle.history.specs.Legal.{IsLegal, IsLegalKind, is_opening}
 use Rattle.history.proofs.Laws.{legal_step, legal_more, IsLegal-front}
 use Rattle.version_store.specs.Opened.{IsOpened}
 use Rattle.version_store.specs.Stores.{IsStoreOf}
 use Rattle.version_store.specs.declared.store.VersionStore.{VersionStore}
 use Rattle.version_store.proofs.Laws.{store_begun, store_done}
 use Rattle.version_store.proofs.Stores.{count_more}
-use Rattle.event_replay.specs.Replays.{CanReplay, IsBehind, TellsReads}
+use Rattle.event_replay.specs.Replays.{IsBehind}
 use Rattle.event_replay.specs.Sweeps.{AreMetAt, AreMetBefore, IsMetIn, IsNext, IsNextDone, IsStated, IsStatedKind, IsSwept, IsWaitingIn}
 use Rattle.event_replay.specs.declared.waiting.Waiting.{Waiting}
-use Rattle.event_replay.proofs.FollowLaws.{all_may}
 use Rattle.event_replay.proofs.Fronts.{event_here, front_at, opening_next, stated_next}
 
 -- the event behind the first ones
@@ -67,16 +66,6 @@ module _ (events before : History) (opened number : ℕ) (e : Event) (s : Versio
 
   pub done_kept : (line : ℕ) (mode : Mode) (ops : List Op) (key : Option (List ℕ)) (t : VersionStore) → e.kind ≡ Done line mode ops key → IsBehind before number ops t → IsStoreOf (before ++ e ∷ []) t
   done_kept line mode ops key t is behind = store_done before e line mode ops t (is ∙ ap (λ (k : Option (List ℕ)). Done line mode ops k) (done_next line mode ops key is).1) behind.kept
-
--- a commit whose operations may follow one by one may follow where its Reads are right
-module _ (events before : History) (opened number : ℕ) (ops : List Op) (s : VersionStore) (next : IsNextDone events before opened number ops s) (each : AllByRecursion (IsLegalOp before) ops) where
-  pub can_replay : CanReplay number s ops
-  can_replay = (before, next.behind, all_may events before opened ops next.front next.each each)
-
-  pub done_told : (answer : Bool) → TellsReads number s ops answer → IsTrue answer ↔ IsLegalDone finmap.empty before ops
-  done_told answer tells =
-      let told = tells before next.behind (all_may events before opened ops next.front next.each each) in
-      (λ so. record { each = each; reads = told.0 so }, λ legal. told.1 legal.reads)
 
 -- the windows that end at one number more
 module _ (events : History) (waiting : List Waiting) where

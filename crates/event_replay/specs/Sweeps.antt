@@ -9,7 +9,7 @@ use Rattle.history.specs.declared.event.Kind.TheVariants.{Opened, Done, Resized,
 use Rattle.history.specs.declared.event.Op.{Op}
 use Rattle.history.specs.declared.event.Op.TheVariants.{Write, Read}
 use Rattle.history.specs.History.{History}
-use Rattle.history.specs.Legal.{IsLegal, HasTarget, is_opening, viewed}
+use Rattle.history.specs.Legal.{IsLegal, IsLegalOp, HasTarget, is_opening, viewed}
 use Rattle.history.specs.Refs.{HasKnownRefs}
 use Rattle.index_transform.specs.Cells.{cells_of, is_finite}
 use Rattle.stack_driver.specs.Conditions.{IsView}
@@ -19,7 +19,7 @@ use Rattle.state_laws.specs.Outline.{outline}
 use Rattle.version_store.specs.Stores.{IsStoreOf}
 use Rattle.version_store.specs.declared.store.VersionStore.{VersionStore}
 use Rattle.event_replay.specs.Demands.{IsDemandIn, AreMetFrom}
-use Rattle.event_replay.specs.Replays.{IsBehind}
+use Rattle.event_replay.specs.Replays.{IsBehind, HasItsWords}
 use Rattle.event_replay.specs.declared.waiting.Waiting.{Waiting}
 
 -- a view of arrays that the history opens, of at most 2 ^ 22 cells, each in its array's shape
@@ -83,6 +83,17 @@ pub record IsNextDone (events before : History) (opened number : ℕ) (ops : Lis
   pub front : IsFront events before opened
   pub each : AllByRecursion (IsOpIn events) ops
   pub behind : IsBehind before number [] s
+
+-- of one of its operations, behind these
+pub record IsNextOp (events before : History) (opened number : ℕ) (done : List Op) (op : Op) (s : VersionStore) : Type 0 where
+  pub front : IsFront events before opened
+  pub in_history : IsOpIn events op
+  pub behind : IsBehind before number done s
+
+-- it may follow, and has the words that are there if it is a Read
+pub record IsRightOp (before : History) (done : List Op) (op : Op) : Type 0 where
+  pub legal : IsLegalOp before op
+  pub has : HasItsWords before done op
 
 -- so many words are one for each cell of a view, and each cell lies in an array that is there
 pub record HasCells (before : History) (v : View) (words : ℕ) : Type 0 where

@@ -1,20 +1,28 @@
 // Whether a commit may follow.
-ghost use Rattle.std.specs.Prelude.{◌≡◌, ◌<◌, ◌↔◌, get_or, IfOk, IsTrue};
+ghost use Rattle.std.specs.Prelude.{◌≡◌, ◌<◌, ◌↔◌, ◌∷◌, ◌++◌, [], ℕ, List, get_or, IfOk, IsTrue};
 ghost use Rattle.std.specs.FinMap as finmap;
 ghost use Rattle.std.specs.List.{AllByRecursion};
 ghost use Rattle.history.specs.History.{History};
-ghost use Rattle.history.specs.Legal.{IsLegalOp, IsLegalDone};
+ghost use Rattle.history.specs.Legal.{IsLegalDone};
+ghost use Rattle.history.specs.declared.event.Op.{Op as OpOf};
+ghost use Rattle.history.specs.declared.event.Op.TheVariants as op;
+ghost use Rattle.stack_driver.specs.declared.view.View.{View as ViewOf};
+ghost use Rattle.transaction_cells.specs.Operations.{HasSites};
+ghost use Rattle.transaction_cells.specs.Pieces.{AreCells};
+ghost use Rattle.transaction_cells.specs.Sites.{sites_of};
 ghost use Rattle.transaction_cells.specs.declared.view_cells.Piece.{Piece as PieceOf};
 ghost use Rattle.event_replay.specs.Replays.{IsBehind};
-ghost use Rattle.event_replay.specs.Sweeps.{IsViewIn, IsOpIn, IsFront, IsNextDone, HasCells};
+ghost use Rattle.event_replay.specs.Sweeps.{IsViewIn, IsFront, IsNextDone, IsNextOp, IsRightOp, HasCells};
 
 use crate::locating::located;
 use crate::pairs::piece_at;
-use crate::replaying::replay;
+use crate::reading::show_cells;
+use crate::writing::put_cells;
+use cells::WrittenWords;
 use history::Op;
 use stack_driver::View;
 use std::alloc::{AllocError, Global};
-use transaction_cells::Piece;
+use transaction_cells::{Piece, ViewCells};
 use version_store::VersionStore;
 
 /// Puts the operations of a commit, the event of this number, into what is kept of all chunks, where the commit may follow the events
@@ -36,49 +44,91 @@ pub(crate) fn commit(
     ensures kept { IfOk result (λ may. IsTrue may → (events : History) (before : History)
         → IsNextDone events before opened number ops.now store.old → IsBehind before number ops.now store.new) }
 {
-    if !may_all_follow(alloc, opened, ops)? {
-        return Ok(false);
-    }
-    replay(alloc, store, number, ops)
-}
-
-// Whether each operation has as many words as its view has cells, each in an array that is there.
-fn may_all_follow(alloc: Global, opened: u64, ops: &[Op]) -> Result<bool, AllocError>
-    requires { (events : History) × (before : History) × IsFront events before opened × AllByRecursion (IsOpIn events) ops.now }
-    ensures { IfOk result (λ may. (events : History) (before : History) → IsFront events before opened
-        → AllByRecursion (IsOpIn events) ops.now → IsTrue may ↔ AllByRecursion (IsLegalOp before) ops.now) }
-{
     for i in 0..ops.len() {
-        if !may_follow(alloc, opened, &ops[i])? {
+        if !follow(alloc, store, opened, number, &ops[i])? {
             return Ok(false);
         }
     }
     Ok(true)
 }
 
-fn may_follow(alloc: Global, opened: u64, op: &Op) -> Result<bool, AllocError>
-    requires { (events : History) × (before : History) × IsFront events before opened × IsOpIn events op.now }
-    ensures { IfOk result (λ may. (events : History) (before : History) → IsFront events before opened
-        → IsOpIn events op.now → IsTrue may ↔ IsLegalOp before op.now) }
+// The same of one operation, behind those before it.
+fn follow(
+    alloc: Global,
+    store: &mut VersionStore,
+    opened: u64,
+    number: u64,
+    op: &Op,
+) -> Result<bool, AllocError>
+    requires { (events : History) × (before : History) × (done : List OpOf) × IsNextOp events before opened number done op.now store.old }
+    ensures legal { IfOk result (λ may. (events : History) (before : History) (done : List OpOf)
+        → IsNextOp events before opened number done op.now store.old → IsTrue may ↔ IsRightOp before done op.now) }
+    ensures kept { IfOk result (λ may. IsTrue may → (events : History) (before : History) (done : List OpOf)
+        → IsNextOp events before opened number done op.now store.old → IsBehind before number (done ++ op.now ∷ []) store.new) }
 {
     match op {
-        Op::Write { view, words } => has_cells(alloc, opened, view, words.len()),
-        Op::Read { view, words } => has_cells(alloc, opened, view, words.items().len()),
+        Op::Write { view, words } => follow_write(alloc, store, opened, number, view, words),
+        Op::Read { view, words } => follow_read(alloc, store, opened, view, words.items()),
     }
 }
 
-// Whether a view has so many cells, each in one of the arrays that were opened. An array in which no cell lies doesn't count.
-fn has_cells(alloc: Global, opened: u64, view: &View, words: usize) -> Result<bool, AllocError>
-    requires { (events : History) × (before : History) × IsFront events before opened × IsViewIn events view.now }
-    ensures { IfOk result (λ has. (events : History) (before : History) → IsFront events before opened
-        → IsViewIn events view.now → IsTrue has ↔ HasCells before view.now words) }
+fn follow_write(
+    alloc: Global,
+    store: &mut VersionStore,
+    opened: u64,
+    number: u64,
+    view: &View,
+    words: &WrittenWords,
+) -> Result<bool, AllocError>
+    requires { (events : History) × (before : History) × (done : List OpOf)
+        × IsNextOp events before opened number done (op.Write view.now words.now) store.old }
+    ensures legal { IfOk result (λ may. (events : History) (before : History) (done : List OpOf)
+        → IsNextOp events before opened number done (op.Write view.now words.now) store.old
+        → IsTrue may ↔ IsRightOp before done (op.Write view.now words.now)) }
+    ensures kept { IfOk result (λ may. IsTrue may → (events : History) (before : History) (done : List OpOf)
+        → IsNextOp events before opened number done (op.Write view.now words.now) store.old
+        → IsBehind before number (done ++ op.Write view.now words.now ∷ []) store.new) }
 {
     let cells = located(alloc, view)?;
-    let count = cells.leaves.len();
-    if count != words {
+    if !are_there(&cells, opened, words.len()) {
         return Ok(false);
     }
-    Ok(are_of_arrays(cells.pieces.items(), opened))
+    match put_cells(alloc, store, number, &cells, words) {
+        Ok(()) => Ok(true),
+        Err(e) => Err(e),
+    }
+}
+
+fn follow_read(
+    alloc: Global,
+    store: &VersionStore,
+    opened: u64,
+    view: &View,
+    words: &[u64],
+) -> Result<bool, AllocError>
+    requires { (events : History) × (before : History) × (number : ℕ) × (done : List OpOf)
+        × IsNextOp events before opened number done (op.Read view.now words.now) store.now }
+    ensures { IfOk result (λ may. (events : History) (before : History) (number : ℕ) (done : List OpOf)
+        → IsNextOp events before opened number done (op.Read view.now words.now) store.now
+        → IsTrue may ↔ IsRightOp before done (op.Read view.now words.now)) }
+{
+    let cells = located(alloc, view)?;
+    if !are_there(&cells, opened, words.len()) {
+        return Ok(false);
+    }
+    show_cells(alloc, store, cells, words)
+}
+
+// Whether there are so many cells, each in one of the arrays that were opened. An array in which no cell lies doesn't count.
+fn are_there(cells: &ViewCells, opened: u64, words: usize) -> bool
+    ensures { (events : History) (before : History) (v : ViewOf) → IsFront events before opened → IsViewIn events v → HasSites v
+        → AreCells (sites_of v) cells.now → IsTrue result ↔ HasCells before v words }
+{
+    let count = cells.leaves.len();
+    if count != words {
+        return false;
+    }
+    are_of_arrays(cells.pieces.items(), opened)
 }
 
 // Whether the chunks of all pieces are of arrays with numbers below this one.

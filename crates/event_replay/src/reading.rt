@@ -5,6 +5,8 @@ ghost use Rattle.history.specs.Writes.{Put};
 ghost use Rattle.history.specs.declared.event.Op.{Op};
 ghost use Rattle.history.specs.declared.event.Op.TheVariants as op;
 ghost use Rattle.stack_driver.specs.declared.view.View.{View as ViewOf};
+ghost use Rattle.transaction_cells.specs.Operations.{HasSites};
+ghost use Rattle.transaction_cells.specs.Pieces.{AreCells};
 ghost use Rattle.transaction_cells.specs.Sites.{sites_of};
 ghost use Rattle.version_store.specs.Asked.{content_with};
 ghost use Rattle.event_replay.specs.Pieces.{IsAskedAt, AreAskedIn};
@@ -31,11 +33,28 @@ pub(crate) fn has_words(
         → IsBehind history number done store.now → MayFollow history (op.Read view.now words.now)
         → IsTrue has ↔ HasWords history done view.now words.now) }
 {
+    let cells = located(alloc, view)?;
+    show_cells(alloc, store, cells, words)
+}
+
+/// Whether these cells of a view show these words, one for each.
+pub(crate) fn show_cells(
+    alloc: Global,
+    store: &VersionStore,
+    cells: ViewCells,
+    words: &[u64],
+) -> Result<bool, AllocError>
+    requires { (history : History) × (number : ℕ) × (done : List Op) × (view : ViewOf) × IsBehind history number done store.now
+        × MayFollow history (op.Read view words.now) × HasSites view × AreCells (sites_of view) cells }
+    ensures { IfOk result (λ has. (history : History) (number : ℕ) (done : List Op) (view : ViewOf)
+        → IsBehind history number done store.now → MayFollow history (op.Read view words.now) → HasSites view
+        → AreCells (sites_of view) cells → IsTrue has ↔ HasWords history done view words.now) }
+{
     let ViewCells {
         leaves,
         lanes,
         pieces,
-    } = located(alloc, view)?;
+    } = cells;
     let chains = chains_of(alloc, lanes)?;
     show_pieces(alloc, store, pieces.items(), &chains, &leaves, words)
 }

@@ -5,6 +5,9 @@ ghost use Rattle.history.specs.Writes.{Put, puts_of_op};
 ghost use Rattle.history.specs.declared.event.Op.{Op};
 ghost use Rattle.history.specs.declared.event.Op.TheVariants as op;
 ghost use Rattle.stack_driver.specs.declared.view.View.{View as ViewOf};
+ghost use Rattle.transaction_cells.specs.Operations.{HasSites};
+ghost use Rattle.transaction_cells.specs.Pieces.{AreCells};
+ghost use Rattle.transaction_cells.specs.Sites.{sites_of};
 ghost use Rattle.version_store.specs.Stores.{IsPartStoreOf};
 ghost use Rattle.event_replay.specs.Pieces.{puts_under, IsPutAt, ArePut};
 ghost use Rattle.event_replay.specs.Replays.{MayFollow, IsBehind, CanGoOn};
@@ -14,7 +17,7 @@ use crate::pairs::{piece_at, placed_words};
 use cells::WrittenWords;
 use stack_driver::View;
 use std::alloc::{AllocError, Global};
-use transaction_cells::Piece;
+use transaction_cells::{Piece, ViewCells};
 use version_store::VersionStore;
 
 /// Puts the words of a Write, one for each cell of its view.
@@ -31,6 +34,23 @@ pub(crate) fn put_write(
         → IsBehind history number (done ++ op.Write view.now words.now ∷ []) store.new) }
 {
     let cells = located(alloc, view)?;
+    put_cells(alloc, store, number, &cells, words)
+}
+
+/// Puts the words of a Write, one for each of these cells of its view.
+pub(crate) fn put_cells(
+    alloc: Global,
+    store: &mut VersionStore,
+    number: u64,
+    cells: &ViewCells,
+    words: &WrittenWords,
+) -> Result<(), AllocError>
+    requires { (history : History) × (done : List Op) × (view : ViewOf) × IsBehind history number done store.old
+        × MayFollow history (op.Write view words.now) × HasSites view × AreCells (sites_of view) cells.now }
+    ensures { OnOk result ((history : History) (done : List Op) (view : ViewOf) → IsBehind history number done store.old
+        → MayFollow history (op.Write view words.now) → HasSites view → AreCells (sites_of view) cells.now
+        → IsBehind history number (done ++ op.Write view words.now ∷ []) store.new) }
+{
     let kept = cells.back(alloc, words)?;
     put_pieces(alloc, store, number, cells.pieces.items(), &kept)
 }
