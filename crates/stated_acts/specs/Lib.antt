@@ -1,3 +1,4 @@
+pub mod SaidAnswers
 pub mod Standings
 pub mod Acts
 pub mod Printing

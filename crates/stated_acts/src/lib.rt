@@ -11,12 +11,14 @@ mod cell_faults;
 mod copies;
 mod opened_views;
 mod printing;
+mod said_answer;
 mod standing;
 
 pub use acts::{Act, act_of};
 pub use line_acts::{Answer, Body, values_body, viewed_body};
 pub use opened_views::view_opened;
 pub use printing::may_print;
+pub use said_answer::{ReadAnswer, SaidAnswer};
 pub use standing::{Ongoing, Standing};
 pub use stated_arrays::{
     Asked, AskedLine, Asking, BuildCause, BuildError, Command, Cutting, LeafOutcome, OpenPlan,

@@ -15,12 +15,14 @@ ghost use Rattle.stack_driver.specs.Conditions.{IsView};
 ghost use Rattle.stack_driver.specs.Views.{look_of};
 ghost use Rattle.stack_driver.specs.declared.view.View.{View as ViewOf};
 ghost use Rattle.stated_acts.specs.Acts.{IsActBy, IsSoundAct, HasCells};
+ghost use Rattle.stated_acts.specs.SaidAnswers.{data_said};
 ghost use Rattle.stated_acts.specs.Standings.{transaction_of, transaction_in, standing_of, IsSoundStanding, written_in, left_in, ended_by, IsOpenedBy, IsEnded};
 ghost use Rattle.stated_arrays.specs.AnswerNumbers.{PrintsNumbers};
 ghost use Rattle.stated_arrays.specs.Standings.{first_standing, names_opened, words_given, read_told, standing_asked};
 ghost use Rattle.stated_arrays.specs.ToldNumbers.{single};
 
 use crate::acts::Act;
+use crate::said_answer::SaidAnswer;
 use cells::{Name, WrittenWords};
 use history::{Mode, Op};
 use indexmap::IndexMap;
@@ -68,17 +70,17 @@ impl Standing {
         alloc: Global,
         line: u64,
         act: Act,
-        answer: &Value,
+        answer: &SaidAnswer,
         numbers: &EventNumbers,
         opened: Option<View>,
     ) -> Result<Option<Ongoing>, AllocError>
         requires stands { IsSoundStanding self.old }
         requires act { IsSoundAct act }
-        requires numbers { PrintsNumbers (data_in answer.now) numbers.now }
+        requires numbers { PrintsNumbers (data_said answer.now) numbers.now }
         requires opened { (v : ViewOf) → opened ≡ Some v → IsView v }
         ensures stands { OnOk result ((history : History) (asked : Asked)
-            → IsActBy (standing_of self.old).transaction asked act → IsOpenedBy history (data_in answer.now) act opened
-            → standing_of self.new ≡ standing_asked history (standing_of self.old) line asked (data_in answer.now)) }
+            → IsActBy (standing_of self.old).transaction asked act → IsOpenedBy history (data_said answer.now) act opened
+            → standing_of self.new ≡ standing_asked history (standing_of self.old) line asked (data_said answer.now)) }
         ensures ended { IfOk result (IsEnded act (transaction_in self.old.transaction)
             (transaction_in self.new.transaction)) }
         ensures sound { OnOk result (IsSoundStanding self.new) }
@@ -93,18 +95,18 @@ impl Standing {
         alloc: Global,
         line: u64,
         act: Act,
-        answer: &Value,
+        answer: &SaidAnswer,
         numbers: &EventNumbers,
         opened: &mut Option<View>,
     ) -> Result<Option<Ongoing>, AllocError>
         requires stands { IsSoundStanding self.old }
         requires act { IsSoundAct act }
-        requires numbers { PrintsNumbers (data_in answer.now) numbers.now }
+        requires numbers { PrintsNumbers (data_said answer.now) numbers.now }
         requires opened { (v : ViewOf) → opened.old ≡ Some v → IsView v }
         ensures stands { OnOk result ((history : History) (asked : Asked)
             → IsActBy (standing_of self.old).transaction asked act
-            → IsOpenedBy history (data_in answer.now) act opened.old
-            → standing_of self.new ≡ standing_asked history (standing_of self.old) line asked (data_in answer.now)) }
+            → IsOpenedBy history (data_said answer.now) act opened.old
+            → standing_of self.new ≡ standing_asked history (standing_of self.old) line asked (data_said answer.now)) }
         ensures ended { IfOk result (IsEnded act (transaction_in self.old.transaction)
             (transaction_in self.new.transaction)) }
         ensures sound { OnOk result (IsSoundStanding self.new) }
@@ -143,15 +145,16 @@ impl Standing {
         alloc: Global,
         name: Name,
         _: OpenPlan,
-        answer: &Value,
+        answer: &SaidAnswer,
         view: &mut Option<View>,
     ) -> Result<Option<Ongoing>, AllocError>
         ensures names { OnOk result (get_by_text self.new.names
-            ≡ names_opened (get_by_text self.old.names) name (get (codes "open") (data_in answer.now)) view.old) }
+            ≡ names_opened (get_by_text self.old.names) name (get (codes "open") (data_said answer.now)) view.old) }
         ensures transaction { self.new.transaction ≡ self.old.transaction }
         ensures none { IfOk result (λ ended. ended ≡ None) }
     {
-        match self.bind_opened(alloc, &name, answer, view.take()) {
+        let read = answer.read(alloc)?;
+        match self.bind_opened(alloc, &name, read.value(), view.take()) {
             Ok(()) => Ok(None),
             Err(e) => Err(e),
         }
@@ -179,15 +182,19 @@ impl Standing {
         &mut self,
         alloc: Global,
         view: View,
-        answer: &Value,
+        answer: &SaidAnswer,
     ) -> Result<Option<Ongoing>, AllocError>
         requires { HasCells view (length (cells_of (look_of view).dims)) }
         ensures transaction { OnOk result (transaction_in self.new.transaction
-            ≡ read_told (transaction_in self.old.transaction) view (get (codes "values") (data_in answer.now))) }
+            ≡ read_told (transaction_in self.old.transaction) view (get (codes "values") (data_said answer.now))) }
         ensures names { self.new.names ≡ self.old.names }
         ensures none { IfOk result (λ ended. ended ≡ None) }
     {
-        match self.read(alloc, view, answer) {
+        if self.transaction.is_none() {
+            return Ok(None);
+        }
+        let read = answer.read(alloc)?;
+        match self.read(alloc, view, read.value()) {
             Ok(()) => Ok(None),
             Err(e) => Err(e),
         }

@@ -298,6 +298,7 @@ pub record IsLineOf (s : Source) (d : Said) : Type 0 where
   pub within : IsSpanOf s.transcript.now d.text
   pub some : d.text.from < d.text.upto
   pub holds : HoldsAnswer s.transcript.now d
+  pub reads : (answer : Data) × (data_of (line_said d s.transcript.now) ≡ Some answer)
 
 pub line_of_source : (s : Source) (place : ℕ) (d : Said) → IsSource s → slice_get s.said.now place ≡ Some d → IsLineOf s d
 line_of_source s place d is at =
@@ -310,6 +311,7 @@ line_of_source s place d is at =
       within = said.within;
       some = (has_answer s of_it.0 place d line.0 is of_it.1 at line.1).some;
       holds = λ answer kept. (has_answer s of_it.0 place d line.0 is of_it.1 at line.1).reads ∙ ap Some (sym (kept_data line.0.answer d.answer answer kept said.keeps));
+      reads = (line.0.answer, (has_answer s of_it.0 place d line.0 is of_it.1 at line.1).reads);
     }
 
 -- behind the line, by what a step of the walk leaves

@@ -2,7 +2,6 @@
 use Rattle.std.specs.Prelude.{◌≡◌, ◌++◌, ◌∷◌, ℕ, List, [], length, take, Option, Some, None}
 use Rattle.std.specs.List.{slice_get}
 use Rattle.json_forms.specs.Bytes.{data_of}
-use Rattle.serde_json.specs.Data.{Data}
 use Rattle.serde_json.specs.View.{view as data_in}
 use Rattle.serde_json.specs.declared.value.Value.{Value}
 use Rattle.stated_acts.specs.Acts.{IsActAt, IsSoundAct}
@@ -13,15 +12,8 @@ use Rattle.stated_acts.specs.declared.Act.{Act}
 use Rattle.stated_acts.specs.declared.Command.{Command}
 use Rattle.stated_acts.specs.declared.Said.{Said}
 use Rattle.stated_history.specs.Walks.{AreToldIn, line_said, outlined, standing_before, TellsCommits}
-use Rattle.stated_history.specs.declared.answers.ReadAnswer.{ReadAnswer}
-use Rattle.stated_history.specs.declared.answers.ReadAnswer.TheVariants.{Kept, Again}
 use Rattle.stated_history.specs.declared.commits.Source.{Source}
 use Rattle.stated_history.specs.declared.kept.StatedLines.{StatedLines}
-
--- what an answer reads as
-abbrev pub data_read : ReadAnswer → Data
-data_read (Kept answer) = data_in answer.now
-data_read (Again answer) = data_in answer
 
 -- what is kept of the answer to a line is what its text reads as
 abbrev pub HoldsAnswer : List ℕ → Said → Type 0

@@ -11,6 +11,7 @@ pub use Rattle.stated_acts.specs.OpenedViews
 pub use Rattle.stated_acts.specs.Outcomes
 pub use Rattle.stated_acts.specs.Outline
 pub use Rattle.stated_acts.specs.Said
+pub use Rattle.stated_acts.specs.SaidAnswers
 pub use Rattle.stated_acts.specs.Script
 pub use Rattle.stated_acts.specs.Spans
 pub use Rattle.stated_acts.specs.Standings

@@ -3,12 +3,13 @@ ghost use Rattle.std.specs.Prelude.{◌≡◌, ◌<◌, ◌∷◌, [], false, So
 ghost use Rattle.indexmap.specs.IndexMap.{get_by_text};
 ghost use Rattle.json_forms.specs.Bytes.{data_of};
 ghost use Rattle.stated_acts.specs.Bound.{AreViews};
-ghost use Rattle.serde_json.specs.View.{view as data_in};
+ghost use Rattle.serde_json.specs.Data.{Data};
 ghost use Rattle.stack_driver.specs.Conditions.{IsView};
 ghost use Rattle.stack_driver.specs.declared.view.View.{View as ViewOf};
 ghost use Rattle.stated_acts.specs.Acts.{IsActAt, IsSoundAct};
+ghost use Rattle.stated_acts.specs.SaidAnswers.{data_said};
 ghost use Rattle.stated_acts.specs.Standings.{standing_of, IsSoundStanding};
-ghost use Rattle.stated_history.specs.Kept.{data_read, HasKept, HoldsAnswer, IsKeptAt, TellsLines};
+ghost use Rattle.stated_history.specs.Kept.{HasKept, HoldsAnswer, IsKeptAt, TellsLines};
 ghost use Rattle.stated_acts.specs.Cuttings.{lines_kept};
 ghost use Rattle.stated_acts.specs.Keeping.{AreCommandsOf, IsCommandOf};
 ghost use Rattle.stated_history.specs.Walks.{IsSource, outlined, IsReached, IsNotPast, IsInSession};
@@ -18,16 +19,13 @@ ghost use Rattle.stated_acts.specs.Spans.{line_at, IsPlaced, IsSpanOf};
 ghost use Rattle.stated_acts.specs.Transcript.{mount, asked_by};
 ghost use Rattle.stated_acts.specs.Unchecked.{is_unchecked};
 
-use crate::answers::ReadAnswer;
 use crate::kept::{StatedLines, keep};
 use crate::putting::Commit;
 use crate::walk::Walk;
 use cells::{List, Name};
-use json_forms::parse;
-use serde_json::Value;
 use stack_driver::View;
 use stated_acts::{
-    Act, Command, Openings, Said, Standing, act_of, bytes_of, may_print, view_opened,
+    Act, Command, Openings, Said, SaidAnswer, Standing, act_of, bytes_of, may_print, view_opened,
 };
 use std::alloc::{AllocError, Global};
 
@@ -126,10 +124,8 @@ fn state_answered(
     ensures session { OnOk result (walk.new.session ≡ walk.old.session) }
     ensures sound { OnOk result (IsSoundStanding walk.new.standing) }
 {
-    match answer_said(alloc, source, &source.said[place]) {
-        Ok(answer) => state_act(alloc, walk, source, place, act, answer.value()),
-        Err(e) => lose(act, e),
-    }
+    let answer = answer_said(source, &source.said[place]);
+    state_act(alloc, walk, source, place, act, &answer)
 }
 
 // The same by its answer, too.
@@ -139,14 +135,14 @@ fn state_act(
     source: &Source,
     place: usize,
     act: Act,
-    answer: &Value,
+    answer: &SaidAnswer,
 ) -> Result<Option<Option<Commit>>, AllocError>
     requires source { IsSource source.now }
     requires place { place < length source.now.said.now }
     requires sound { IsSoundStanding walk.old.standing }
     requires act { IsSoundAct act }
     requires facing { IsFacingLine source.now place walk.old act }
-    requires answer { IsAnswerAt source.now place (data_in answer.now) }
+    requires answer { IsAnswerAt source.now place (data_said answer.now) }
     ensures next { IfOk result (TellsAt source.now place walk.new) }
     ensures session { OnOk result (walk.new.session ≡ walk.old.session) }
     ensures sound { OnOk result (IsSoundStanding walk.new.standing) }
@@ -180,14 +176,14 @@ pub fn pass_line(
     source: &Source,
     place: usize,
     act: Act,
-    answer: &Value,
+    answer: &SaidAnswer,
 ) -> Result<Option<Commit>, AllocError>
     requires source { IsSource source.now }
     requires place { place < length source.now.said.now }
     requires sound { IsSoundStanding walk.old.standing }
     requires act { IsSoundAct act }
     requires facing { IsFacingLine source.now place walk.old act }
-    requires answer { IsAnswerAt source.now place (data_in answer.now) }
+    requires answer { IsAnswerAt source.now place (data_said answer.now) }
     ensures gone { IfOk result (IsGoneOnAt source.now place walk.new) }
     ensures session { OnOk result (walk.new.session ≡ walk.old.session) }
     ensures sound { OnOk result (IsSoundStanding walk.new.standing) }
@@ -233,37 +229,19 @@ pub fn act_said(
     )
 }
 
-/// The answer to a line, as JSON: that of its text without the LF at the end, which is read again where it isn't kept.
-///
-/// # Errors
-/// An allocation failed.
-pub fn answer_said<'s>(
-    alloc: Global,
-    source: &Source,
-    said: &'s Said,
-) -> Result<ReadAnswer<'s>, AllocError>
+/// The answer to a line: as it is kept, or its text without the LF at the end, which reads as one.
+pub fn answer_said<'s>(source: &Source<'s>, said: &'s Said) -> SaidAnswer<'s>
     requires within { IsSpanOf source.now.transcript.now said.now.text }
     requires some { said.now.text.from < said.now.text.upto }
     requires kept { HoldsAnswer source.now.transcript.now said.now }
-    ensures { IfOk result (λ a. data_of (line_said said.now source.now.transcript.now) ≡ Some (data_read a)) }
+    requires reads { (d : Data) × (data_of (line_said said.now source.now.transcript.now) ≡ Some d) }
+    ensures { data_of (line_said said.now source.now.transcript.now) ≡ Some (data_said result) }
 {
     match &said.answer {
-        Some(answer) => Ok(ReadAnswer::Kept { answer }),
-        None => read_again(alloc, source, said),
-    }
-}
-
-fn read_again<'s>(alloc: Global, source: &Source, said: &Said) -> Result<ReadAnswer<'s>, AllocError>
-    requires within { IsSpanOf source.now.transcript.now said.now.text }
-    requires some { said.now.text.from < said.now.text.upto }
-    ensures { IfOk result (λ a. data_of (line_said said.now source.now.transcript.now) ≡ Some (data_read a)) }
-{
-    match parse(
-        alloc,
-        &source.transcript[said.text.from..said.text.upto - 1],
-    ) {
-        Ok(answer) => Ok(ReadAnswer::Again { answer }),
-        Err(_) => Err(AllocError),
+        Some(answer) => SaidAnswer::Kept { answer },
+        None => SaidAnswer::Text {
+            bytes: &source.transcript[said.text.from..said.text.upto - 1],
+        },
     }
 }
 

@@ -3,12 +3,12 @@ ghost use Rattle.std.specs.Prelude.{◌≡◌, ◌≢◌, ◌<◌, None, Some, I
 ghost use Rattle.history.specs.Acts.{Asked};
 ghost use Rattle.history.specs.History.{History};
 ghost use Rattle.history.specs.Steps.{write_alone};
-ghost use Rattle.serde_json.specs.View.{view as data_in};
 ghost use Rattle.stack_driver.specs.Conditions.{IsView};
 ghost use Rattle.stack_driver.specs.declared.view.View.{View as ViewOf};
 ghost use Rattle.stated_acts.specs.Acts.{IsActBy, IsSoundAct};
 ghost use Rattle.stated_history.specs.Walks.{IsNoWrite};
 ghost use Rattle.stated_acts.specs.declared.Act.TheVariants.{Writes};
+ghost use Rattle.stated_acts.specs.SaidAnswers.{data_said};
 ghost use Rattle.stated_acts.specs.Standings.{transaction_of, standing_of, IsSoundStanding, IsOpenedBy};
 ghost use Rattle.stated_history.specs.Commits.{commit_of, kind_in};
 ghost use Rattle.stated_history.specs.Walks.{commit_by};
@@ -18,9 +18,8 @@ ghost use Rattle.stated_acts.specs.ToldStandings.{first_standing, standing_asked
 use crate::putting::Commit;
 use cells::WrittenWords;
 use history::{Mode, Op};
-use serde_json::Value;
 use stack_driver::View;
-use stated_acts::{Act, Ongoing, Said, Standing};
+use stated_acts::{Act, Ongoing, Said, SaidAnswer, Standing};
 use std::alloc::{AllocError, Global};
 
 /// Where a walk over the lines of all sessions stands: the session of the line before, and how that stands behind it.
@@ -66,19 +65,19 @@ impl Walk {
         alloc: Global,
         said: &Said,
         act: Act,
-        answer: &Value,
+        answer: &SaidAnswer,
         opened: Option<View>,
     ) -> Result<Option<Commit>, AllocError>
         requires sound { IsSoundStanding self.old.standing }
         requires act { IsSoundAct act }
-        requires numbers { PrintsNumbers (data_in answer.now) said.now.numbers }
+        requires numbers { PrintsNumbers (data_said answer.now) said.now.numbers }
         requires opened { (v : ViewOf) → opened ≡ Some v → IsView v }
         ensures stands { OnOk result ((history : History) (asked : Asked)
-            → IsActBy (standing_of self.old.standing).transaction asked act → IsOpenedBy history (data_in answer.now) act opened
+            → IsActBy (standing_of self.old.standing).transaction asked act → IsOpenedBy history (data_said answer.now) act opened
             → standing_of self.new.standing
-            ≡ standing_asked history (standing_of self.old.standing) said.now.line.number asked (data_in answer.now)) }
+            ≡ standing_asked history (standing_of self.old.standing) said.now.line.number asked (data_said answer.now)) }
         ensures event { IfOk result (λ commit. (history : History) (asked : Asked)
-            → IsActBy (standing_of self.old.standing).transaction asked act → IsOpenedBy history (data_in answer.now) act opened
+            → IsActBy (standing_of self.old.standing).transaction asked act → IsOpenedBy history (data_said answer.now) act opened
             → 0 < length said.now.numbers.done → option_map kind_in commit ≡ commit_by said.now.line.number asked) }
         ensures sound { OnOk result (IsSoundStanding self.new.standing) }
         ensures session { self.new.session ≡ self.old.session }
@@ -94,17 +93,17 @@ impl Walk {
         &mut self,
         alloc: Global,
         said: &Said,
-        answer: &Value,
+        answer: &SaidAnswer,
         view: View,
         words: WrittenWords,
     ) -> Result<Option<Commit>, AllocError>
         requires sound { IsSoundStanding self.old.standing }
         requires act { IsSoundAct (Writes view words) }
-        requires numbers { PrintsNumbers (data_in answer.now) said.now.numbers }
+        requires numbers { PrintsNumbers (data_said answer.now) said.now.numbers }
         ensures stands { OnOk result ((history : History) (asked : Asked)
             → IsActBy (standing_of self.old.standing).transaction asked (Writes view words)
             → standing_of self.new.standing
-            ≡ standing_asked history (standing_of self.old.standing) said.now.line.number asked (data_in answer.now)) }
+            ≡ standing_asked history (standing_of self.old.standing) said.now.line.number asked (data_said answer.now)) }
         ensures event { IfOk result (λ commit. (asked : Asked)
             → IsActBy (standing_of self.old.standing).transaction asked (Writes view words)
             → 0 < length said.now.numbers.done → option_map kind_in commit ≡ commit_by said.now.line.number asked) }
@@ -132,20 +131,20 @@ impl Walk {
         alloc: Global,
         said: &Said,
         act: Act,
-        answer: &Value,
+        answer: &SaidAnswer,
         opened: Option<View>,
     ) -> Result<Option<Commit>, AllocError>
         requires other { IsNoWrite act }
         requires sound { IsSoundStanding self.old.standing }
         requires act { IsSoundAct act }
-        requires numbers { PrintsNumbers (data_in answer.now) said.now.numbers }
+        requires numbers { PrintsNumbers (data_said answer.now) said.now.numbers }
         requires opened { (v : ViewOf) → opened ≡ Some v → IsView v }
         ensures stands { OnOk result ((history : History) (asked : Asked)
-            → IsActBy (standing_of self.old.standing).transaction asked act → IsOpenedBy history (data_in answer.now) act opened
+            → IsActBy (standing_of self.old.standing).transaction asked act → IsOpenedBy history (data_said answer.now) act opened
             → standing_of self.new.standing
-            ≡ standing_asked history (standing_of self.old.standing) said.now.line.number asked (data_in answer.now)) }
+            ≡ standing_asked history (standing_of self.old.standing) said.now.line.number asked (data_said answer.now)) }
         ensures event { IfOk result (λ commit. (history : History) (asked : Asked)
-            → IsActBy (standing_of self.old.standing).transaction asked act → IsOpenedBy history (data_in answer.now) act opened
+            → IsActBy (standing_of self.old.standing).transaction asked act → IsOpenedBy history (data_said answer.now) act opened
             → 0 < length said.now.numbers.done → option_map kind_in commit ≡ commit_by said.now.line.number asked) }
         ensures sound { OnOk result (IsSoundStanding self.new.standing) }
         ensures session { self.new.session ≡ self.old.session }

@@ -19,7 +19,7 @@ use std::alloc::{AllocError, Global};
 /// What the line at the front of a text is.
 #[derive(Drop)]
 pub enum Front {
-    /// An answer to the line of the number: how many bytes it has, with its LF, what it prints, and what it reads as, where it is short.
+    /// An answer to the line of the number: how many bytes it has, with its LF, what it prints, and what it reads as, where it is short and has values.
     Answer {
         length: usize,
         numbers: EventNumbers,
@@ -94,12 +94,12 @@ fn judge_value(alloc: Global, bytes: &[u8], value: Value, number: u64) -> Result
     }
 }
 
-// What is kept of an answer of these bytes: itself, where it is short, so that it need not be read again. A value in memory takes many times the
-// room of its text, so a long one isn't kept.
+// What is kept of an answer of these bytes: itself, where it has values and is short, so that it need not be read again. Others are seldom looked
+// at again, and a value in memory takes many times the room of its text.
 fn kept_answer(value: Value, bytes: &[u8]) -> Option<Value>
     ensures { IsKeptOf (view value) result }
 {
-    if bytes.len() <= 256 {
+    if bytes.len() <= 256 && value.get("values").is_some() {
         Some(value)
     } else {
         None

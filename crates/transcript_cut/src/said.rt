@@ -16,8 +16,8 @@ pub struct AskedLine {
     pub bytes: Span,
 }
 
-/// What a transcript has for a line: where the answer stands, with its LF, the numbers of events that it prints, and what it reads as, where it is
-/// short.
+/// What a transcript has for a line: where the answer stands, with its LF, the numbers of events that it prints, and what it reads as, where it
+/// has values and is short.
 #[derive(Drop)]
 pub struct Said {
     pub line: AskedLine,

@@ -1,7 +1,6 @@
 -- Whether the answer to a line is one that it may have.
 use Rattle.std.specs.Prelude.{◌≡◌, ◌↔◌, Option}
 use Rattle.serde_json.specs.Data.{Data}
-use Rattle.serde_json.specs.View.{view as data_in}
 use Rattle.history.specs.Acts.{Asked}
 use Rattle.history.specs.Answers.{Body}
 use Rattle.history.specs.Commit.{Transaction}
@@ -14,6 +13,7 @@ use Rattle.open_fits.specs.OneAnswer.{HasOneAnswer}
 use Rattle.open_fits.specs.Windows.{Window}
 use Rattle.open_fits.specs.Opens.{IsQuestion, IsRefusedAt}
 use Rattle.stated_history.specs.Outline.{outline}
+use Rattle.stated_history.specs.SaidAnswers.{data_said}
 use Rattle.stated_history.specs.declared.Body.{Body as Printed}
 use Rattle.transcript_fits.specs.declared.line_fit.LineFit.{LineFit}
 use Rattle.transcript_fits.specs.declared.line_fit.LineFit.TheVariants.{Unfit, Fits, IfRefused, IfMet}
@@ -39,7 +39,7 @@ window_of_line line = record { from = line.window.from; upto = line.window.upto 
 
 -- what the answer to a line reads as
 abbrev pub answer_of_line : ToldLine → Data
-answer_of_line line = data_in line.answer.now
+answer_of_line line = data_said line.answer.now
 
 -- the answer to a line is one that it may have, where this transaction stands and this is asked
 abbrev pub IsAnsweredSo : History → ToldLine → Option Transaction → Asked → Type 0

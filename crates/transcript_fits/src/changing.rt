@@ -159,7 +159,9 @@ fn fit_conflict(
         (IsConflictAnswer (history_of judge.now) line.entry.owner t line.entry.line line.entry.text.now (answer_of_line line.entry)) fit) }
     ensures plain { IfOk result IsPlainFit }
 {
-    let told = Conflict::told(alloc, line.line, line.text, line.answer)?;
+    let read = line.answer.read(alloc)?;
+    let answer = read.value();
+    let told = Conflict::told(alloc, line.line, line.text, answer)?;
     match told {
         Some(conflict) => {
             let by = Committer {

@@ -1,7 +1,7 @@
 // Whether each line of a transcript is answered as it may be.
 ghost use Rattle.std.specs.Prelude.{◌≡◌, ◌≢◌, ◌↔◌, ◌<◌, ◌+◌, ◌^◌, ℕ, Err, IfOk, IsTrue, List as ListOf, OnOk, Some, length};
-ghost use Rattle.serde_json.specs.View.{view as data_in};
 ghost use Rattle.open_fits.specs.Fitting.{IsAnswered};
+ghost use Rattle.stated_history.specs.SaidAnswers.{data_said};
 ghost use Rattle.stated_history.specs.Spans.{IsSpanOf};
 ghost use Rattle.stated_history.specs.Standings.{standing_of};
 ghost use Rattle.stated_history.specs.ToldNumbers.{told_of};
@@ -25,8 +25,7 @@ use crate::pending::Pending;
 use crate::stand::Stand;
 use history::Event;
 use open_fits::{VersionStore, Window};
-use serde_json::Value;
-use stated_history::{Act, Said, Source, answer_said};
+use stated_history::{Act, Said, SaidAnswer, Source, answer_said};
 use std::alloc::{AllocError, Global};
 
 /// Whether each line is answered as it may be, over the events that the transcript states, where this is kept of what each line does. The time
@@ -129,14 +128,14 @@ fn judge_line(
         → fit ≢ Unfit → IsStandAt judge.now session begin (at + 1) stand.new) }
 {
     let place = frame.begin + at;
-    let answer = answer_said(alloc, judge.source, &judge.source.said[place])?;
+    let answer = answer_said(judge.source, &judge.source.said[place]);
     let window = frame.window(stand, at);
     stand.upto = window.upto;
     let line = told_line(
         &judge.source.said[place],
         judge.source.transcript,
         window,
-        answer.value(),
+        &answer,
     );
     judge_told(alloc, judge, stand, line, place)
 }
@@ -146,10 +145,10 @@ fn told_line<'l>(
     said: &'l Said,
     transcript: &'l [u8],
     window: Window,
-    answer: &'l Value,
+    answer: &'l SaidAnswer<'l>,
 ) -> ToldLine<'l>
     requires { IsSpanOf transcript.now said.now.text }
-    ensures { IsLineKept transcript.now said.now window (data_in answer.now) result }
+    ensures { IsLineKept transcript.now said.now window (data_said answer.now) result }
 {
     ToldLine {
         owner: said.line.session,

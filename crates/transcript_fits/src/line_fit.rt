@@ -3,7 +3,7 @@ ghost use Rattle.std.specs.Prelude.{◌≡◌, true, false};
 ghost use Rattle.transcript_fits.specs.declared.line_fit.LineFit.TheVariants as fit;
 
 use open_fits::{EventNumbers, OpenQuestion, Waiting, Window};
-use serde_json::Value;
+use stated_history::SaidAnswer;
 
 /// Whether the answer to a line is one that it may have.
 #[derive(Debug, Drop)]
@@ -19,7 +19,7 @@ pub(crate) enum LineFit {
 }
 
 /// A line as it is told: its session, its number, the numbers of events between which it may have looked, and its answer: the numbers of
-/// events that it prints, its text with its LF, and what it reads as.
+/// events that it prints, its text with its LF, and what it reads as, or its text to be read.
 #[derive(Clone, Copy)]
 pub(crate) struct ToldLine<'l> {
     pub(crate) owner: u32,
@@ -27,7 +27,7 @@ pub(crate) struct ToldLine<'l> {
     pub(crate) window: Window,
     pub(crate) numbers: &'l EventNumbers,
     pub(crate) text: &'l [u8],
-    pub(crate) answer: &'l Value,
+    pub(crate) answer: &'l SaidAnswer<'l>,
 }
 
 /// It fits, or it doesn't.

@@ -40,17 +40,12 @@ pub(crate) fn fit_opening(
     ensures opening { IfOk result (IsOpeningFit (answer_of_line line.entry)) }
 {
     opened_is_unrefused();
+    let read = line.answer.read(alloc)?;
+    let answer = read.value();
     let takings = judge.source.openings.takings.items()[place].items();
     let told = told_opening(alloc, line, name)?;
-    let fit = fit_open(
-        alloc,
-        plan,
-        takings,
-        judge.source.openings,
-        told,
-        line.answer,
-    )?;
-    Ok(opening_fit(fit, line.answer))
+    let fit = fit_open(alloc, plan, takings, judge.source.openings, told, answer)?;
+    Ok(opening_fit(fit, answer))
 }
 
 // An open line as it is told.

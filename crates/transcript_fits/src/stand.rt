@@ -4,8 +4,8 @@ ghost use Rattle.history.specs.Acts.{Asked};
 ghost use Rattle.history.specs.Commit.{Transaction};
 ghost use Rattle.history.specs.History.{History};
 ghost use Rattle.open_fits.specs.Windows.{lines_before};
-ghost use Rattle.serde_json.specs.View.{view as data_in};
 ghost use Rattle.stated_history.specs.Acts.{IsActAt, IsSoundAct};
+ghost use Rattle.stated_history.specs.SaidAnswers.{data_said};
 ghost use Rattle.stated_history.specs.Standings.{IsSoundStanding, standing_of};
 ghost use Rattle.stated_history.specs.ToldStandings.{first_standing};
 ghost use Rattle.stated_history.specs.Transcript.{Told};
@@ -19,9 +19,8 @@ use crate::judge::Judge;
 use crate::line_fit::ToldLine;
 use cells::WrittenWords;
 use open_fits::Own;
-use serde_json::Value;
 use stack_driver::View;
-use stated_history::{Act, Walk, pass_line};
+use stated_history::{Act, SaidAnswer, Walk, pass_line};
 use std::alloc::{AllocError, Global};
 
 /// A session before one of its lines: how it stands, what its transaction has by its operations, the place of the line that began the
@@ -151,16 +150,18 @@ impl Stand {
     }
 
     // A Read joins a transaction under repeatable read, where the answer has values.
-    fn read(&mut self, alloc: Global, answer: &Value, view: &View) -> Result<(), AllocError>
+    fn read(&mut self, alloc: Global, answer: &SaidAnswer, view: &View) -> Result<(), AllocError>
         requires { (history : History) × IsReadingOf history self.old view.now }
         ensures kept { OnOk result ((history : History) → IsReadingOf history self.old view.now
-            → HasReadOf history self.old self.new (data_in answer.now) view.now) }
+            → HasReadOf history self.old self.new (data_said answer.now) view.now) }
         ensures begun { self.new.begun ≡ self.old.begun }
         ensures upto { self.new.upto ≡ self.old.upto }
         ensures walk { self.new.walk ≡ self.old.walk }
     {
         if self.keeps_reads() {
-            match answer.get("values") {
+            let read = answer.read(alloc)?;
+            let said = read.value();
+            match said.get("values") {
                 Some(_) => self.own.read(alloc, view),
                 None => Ok(()),
             }

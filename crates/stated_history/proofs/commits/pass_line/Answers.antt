@@ -1,6 +1,6 @@
 use Rattle.std.proofs.Common.{get_or, arith}
 use Rattle.std.proofs.lemmas.Option.{slice_get-get_or}
-use Rattle.serde_json.specs.View.{view as data_in}
+use Rattle.stated_acts.specs.SaidAnswers.{data_said}
 use Rattle.stated_history.specs.Walks.{IsGoneOnAt}
 use Rattle.stated_history.proofs.SourceLaws.{takings_long, taken_there, prints_at, ok_both, gone_by}
 use Rattle.stated_history.proofs.commits.pass_line.Goals as goal
@@ -17,7 +17,7 @@ go_on-requires-clause-numbers c =
     let place = c.args.place in
     let d = get_or s.said.now place c.index-source-place.result in
     let at = slice_get-get_or s.said.now place c.index-source-place.result c.requires.place in
-    prints_at s place d (data_in c.args.answer.now) c.requires.source at (c.requires.answer d at)
+    prints_at s place d (data_said c.args.answer.now) c.requires.source at (c.requires.answer d at)
 
 pub returns-in-Ok-clause-gone : goal.returns-in-Ok-clause-gone
 returns-in-Ok-clause-gone c =
@@ -27,5 +27,5 @@ returns-in-Ok-clause-gone c =
     let at = slice_get-get_or s.said.now place c.index-source-place.result c.requires.place in
     ok_both c.go_on.result _ (IsGoneOnAt s place c.go_on.new.self) _ c.go_on.ensures.event c.go_on.ensures.stands
     (λ commit event stands. λ told t of_it there.
-    gone_by s told place d t c.args.walk.now c.go_on.new.self c.args.act (data_in c.args.answer.now) c.in-Ok.opened commit c.requires.source at (c.requires.facing told t of_it there) (c.requires.answer d at) c.in-Ok.ensures.view
+    gone_by s told place d t c.args.walk.now c.go_on.new.self c.args.act (data_said c.args.answer.now) c.in-Ok.opened commit c.requires.source at (c.requires.facing told t of_it there) (c.requires.answer d at) c.in-Ok.ensures.view
     c.go_on.ensures.session stands event)

@@ -1,9 +1,9 @@
-use Rattle.std.proofs.Common.{◌≡◌, ◌+◌, Some, get_or, sym, ap, subst, ◌∙◌}
+use Rattle.std.proofs.Common.{◌≡◌, ◌+◌, Some, get_or, sym, subst, ◌∙◌}
 use Rattle.std.proofs.lemmas.Option.{slice_get-get_or}
 use Rattle.std.proofs.lemmas.Result.{IfOk-weaker}
 use Rattle.json_forms.specs.Bytes.{data_of}
-use Rattle.serde_json.specs.View.{view as data_in}
 use Rattle.history.proofs.Laws.{some_inj}
+use Rattle.stated_history.specs.SaidAnswers.{data_said}
 use Rattle.stated_history.specs.Walks.{line_said}
 use Rattle.stated_history.specs.declared.Said.{Said}
 use Rattle.stated_history.proofs.Laws.{line_of_source}
@@ -11,15 +11,15 @@ use Rattle.transcript_fits.proofs.JudgedLine.{fits_here, if_ok_three, line_here,
 use Rattle.transcript_fits.proofs.NextLine.{begun_there, place_in}
 use Rattle.transcript_fits.proofs.judging.judge_line.Goals as goal
 
-pub answer_said-requires-clause-within : goal.answer_said-requires-clause-within
-answer_said-requires-clause-within c =
+pub answer_said-answer-requires-clause-within : goal.answer_said-answer-requires-clause-within
+answer_said-answer-requires-clause-within c =
     let s = c.args.judge.now.source.now in
     let f = c.requires.frame in
     let place = c.args.frame.now.begin + c.args.at in
     (line_of_source s place (get_or s.said.now place c.index-judge-place.result) c.requires.judge.source (slice_get-get_or s.said.now place c.index-judge-place.result (place_in c.args.judge.now c.requires.judge f.0 f.1 f.2 c.args.at c.args.frame.now f.3 f.4))).within
 
-pub answer_said-requires-clause-some : goal.answer_said-requires-clause-some
-answer_said-requires-clause-some c =
+pub answer_said-answer-requires-clause-some : goal.answer_said-answer-requires-clause-some
+answer_said-answer-requires-clause-some c =
     let s = c.args.judge.now.source.now in
     let f = c.requires.frame in
     let place = c.args.frame.now.begin + c.args.at in
@@ -46,9 +46,9 @@ judge_told-requires-clause-line c =
     let first = get_or s.said.now place c.index-judge-place.result in
     let d = get_or s.said.now place c.index-judge-place-2.result in
     let got = slice_get-get_or s.said.now place c.index-judge-place-2.result low in
-    let reads : data_of (line_said d s.transcript.now) ≡ Some (data_in c.value.result.now) =
-    subst (λ (x : Said). data_of (line_said x s.transcript.now) ≡ Some (data_in c.value.result.now)) (some_inj first d (sym (slice_get-get_or s.said.now place c.index-judge-place.result low) ∙ got)) (c.in_ok-answer.ensures ∙ ap Some (sym c.value.ensures)) in
-    line_here c.args.judge.now c.requires.judge c.args.frame.now c.args.stand.now c.args.at c.window-window.result c.window-window.ensures c.told_line-line.result (data_in c.value.result.now) d got c.told_line-line.ensures reads f.0 f.1 f.2 f.3 f.4 f.5
+    let reads : data_of (line_said d s.transcript.now) ≡ Some (data_said c.answer_said-answer.result) =
+    subst (λ (x : Said). data_of (line_said x s.transcript.now) ≡ Some (data_said c.answer_said-answer.result)) (some_inj first d (sym (slice_get-get_or s.said.now place c.index-judge-place.result low) ∙ got)) c.answer_said-answer.ensures in
+    line_here c.args.judge.now c.requires.judge c.args.frame.now c.args.stand.now c.args.at c.window-window.result c.window-window.ensures c.told_line-line.result (data_said c.answer_said-answer.result) d got c.told_line-line.ensures reads f.0 f.1 f.2 f.3 f.4 f.5
 
 pub returns-clause-fits : goal.returns-clause-fits
 returns-clause-fits c =
@@ -59,11 +59,11 @@ returns-clause-fits c =
     let first = get_or s.said.now place c.index-judge-place.result in
     let d = get_or s.said.now place c.index-judge-place-2.result in
     let got = slice_get-get_or s.said.now place c.index-judge-place-2.result low in
-    let reads : data_of (line_said d s.transcript.now) ≡ Some (data_in c.value.result.now) =
-    subst (λ (x : Said). data_of (line_said x s.transcript.now) ≡ Some (data_in c.value.result.now)) (some_inj first d (sym (slice_get-get_or s.said.now place c.index-judge-place.result low) ∙ got)) (c.in_ok-answer.ensures ∙ ap Some (sym c.value.ensures)) in
+    let reads : data_of (line_said d s.transcript.now) ≡ Some (data_said c.answer_said-answer.result) =
+    subst (λ (x : Said). data_of (line_said x s.transcript.now) ≡ Some (data_said c.answer_said-answer.result)) (some_inj first d (sym (slice_get-get_or s.said.now place c.index-judge-place.result low) ∙ got)) c.answer_said-answer.ensures in
     IfOk-weaker c.judge_told.result _ _
     (λ fit fits session begin many told of under stands of_it.
-    fits_here c.args.judge.now c.requires.judge c.args.frame.now c.args.stand.now c.args.at c.window-window.result c.window-window.ensures c.told_line-line.result (data_in c.value.result.now) d got c.told_line-line.ensures reads session begin many of under stands fit fits told of_it) c.judge_told.ensures.fits
+    fits_here c.args.judge.now c.requires.judge c.args.frame.now c.args.stand.now c.args.at c.window-window.result c.window-window.ensures c.told_line-line.result (data_said c.answer_said-answer.result) d got c.told_line-line.ensures reads session begin many of under stands fit fits told of_it) c.judge_told.ensures.fits
 
 pub returns-clause-stand : goal.returns-clause-stand
 returns-clause-stand c =
@@ -74,16 +74,23 @@ returns-clause-stand c =
     let first = get_or s.said.now place c.index-judge-place.result in
     let d = get_or s.said.now place c.index-judge-place-2.result in
     let got = slice_get-get_or s.said.now place c.index-judge-place-2.result low in
-    let reads : data_of (line_said d s.transcript.now) ≡ Some (data_in c.value.result.now) =
-    subst (λ (x : Said). data_of (line_said x s.transcript.now) ≡ Some (data_in c.value.result.now)) (some_inj first d (sym (slice_get-get_or s.said.now place c.index-judge-place.result low) ∙ got)) (c.in_ok-answer.ensures ∙ ap Some (sym c.value.ensures)) in
+    let reads : data_of (line_said d s.transcript.now) ≡ Some (data_said c.answer_said-answer.result) =
+    subst (λ (x : Said). data_of (line_said x s.transcript.now) ≡ Some (data_said c.answer_said-answer.result)) (some_inj first d (sym (slice_get-get_or s.said.now place c.index-judge-place.result low) ∙ got)) c.answer_said-answer.ensures in
     if_ok_three c.judge_told.result _ _ _ _
     (λ fit fits on passed session begin many of under stands goes.
-    stands_here c.args.judge.now c.requires.judge c.args.frame.now c.args.stand.now c.args.at c.window-window.result c.window-window.ensures c.told_line-line.result (data_in c.value.result.now) d got c.told_line-line.ensures reads session begin many of under stands fit fits c.judge_told.new.stand on (passed goes) goes)
+    stands_here c.args.judge.now c.requires.judge c.args.frame.now c.args.stand.now c.args.at c.window-window.result c.window-window.ensures c.told_line-line.result (data_said c.answer_said-answer.result) d got c.told_line-line.ensures reads session begin many of under stands fit fits c.judge_told.new.stand on (passed goes) goes)
     c.judge_told.ensures.fits c.judge_told.ensures.on c.judge_told.ensures.passed
 
-pub answer_said-requires-clause-kept : goal.answer_said-requires-clause-kept
-answer_said-requires-clause-kept c =
+pub answer_said-answer-requires-clause-kept : goal.answer_said-answer-requires-clause-kept
+answer_said-answer-requires-clause-kept c =
     let s = c.args.judge.now.source.now in
     let f = c.requires.frame in
     let place = c.args.frame.now.begin + c.args.at in
     (line_of_source s place (get_or s.said.now place c.index-judge-place.result) c.requires.judge.source (slice_get-get_or s.said.now place c.index-judge-place.result (place_in c.args.judge.now c.requires.judge f.0 f.1 f.2 c.args.at c.args.frame.now f.3 f.4))).holds
+
+pub answer_said-answer-requires-clause-reads : goal.answer_said-answer-requires-clause-reads
+answer_said-answer-requires-clause-reads c =
+    let s = c.args.judge.now.source.now in
+    let f = c.requires.frame in
+    let place = c.args.frame.now.begin + c.args.at in
+    (line_of_source s place (get_or s.said.now place c.index-judge-place.result) c.requires.judge.source (slice_get-get_or s.said.now place c.index-judge-place.result (place_in c.args.judge.now c.requires.judge f.0 f.1 f.2 c.args.at c.args.frame.now f.3 f.4))).reads

@@ -1,5 +1,5 @@
 use Rattle.std.proofs.Common.{◌<◌, length, sym, subst}
-use Rattle.serde_json.specs.View.{view as data_in}
+use Rattle.stated_acts.specs.SaidAnswers.{data_said}
 use Rattle.stated_acts.specs.Standings.{transaction_of, transaction_in, standing_of, IsEnded}
 use Rattle.stated_history.proofs.WalkLaws.{has_ended, no_event}
 use Rattle.stated_history.proofs.walk.Walk.step.Goals as goal
@@ -15,5 +15,5 @@ pub returns-in-None-clause-event : goal.returns-in-None-clause-event
 returns-in-None-clause-event c = λ history asked is opened some.
     let before = standing_of c.args.self.now.standing in
     let after = standing_of c.step.new.self in
-    no_event history before after c.args.said.now.line.number asked c.args.act (data_in c.args.answer.now) c.requires.other is (c.in_ok-ended.ensures.stands history asked is opened)
+    no_event history before after c.args.said.now.line.number asked c.args.act (data_said c.args.answer.now) c.requires.other is (c.in_ok-ended.ensures.stands history asked is opened)
     (subst (λ ns. 0 < length ns) (sym c.requires.numbers.done) some) (subst (IsEnded c.args.act before.transaction after.transaction) c.in-None.is c.in_ok-ended.ensures.ended)
