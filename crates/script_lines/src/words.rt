@@ -1,4 +1,4 @@
-ghost use Rattle.std.specs.Prelude.{◌≡◌, ◌≤◌, ◌^◌, [], ◌∷◌, All, Ok, Err, IfOk, OnOk, length, map, option_map};
+ghost use Rattle.std.specs.Prelude.{◌≡◌, ◌≢◌, ◌≤◌, ◌^◌, ℤ, [], ◌∷◌, All, Some, Ok, Err, IfOk, OnOk, length, map, option_map};
 ghost use Rattle.serde_json.specs.View.{view};
 ghost use Rattle.cells.specs.Numbers.{IsWord};
 ghost use Rattle.cells.specs.Places.{cell_count};
@@ -37,7 +37,7 @@ impl From<AllocError> for ValuesError {
 /// or lists that are nested as the shape says, with such numbers in the innermost. One number takes no memory.
 ///
 /// # Errors
-/// `Bad` where the values are neither, and `Memory` where an allocation failed.
+/// `Bad` where the values are neither, and `Memory` where an allocation failed, of lists alone.
 pub fn words_of_values(
     alloc: Global,
     dtype: Dtype,
@@ -50,6 +50,7 @@ pub fn words_of_values(
         → words_of dtype shape.now (view values.now) ≡ Err path }
     ensures full { IfOk result (λ words. length words ≡ cell_count shape.now) }
     ensures of_dtype { IfOk result (λ words. All (IsWord dtype) words) }
+    ensures one { (number : ℤ) → whole_number (view values.now) ≡ Some number → result ≢ Err ValuesError.Memory }
 {
     match whole_number(values) {
         Some(number) => repeated(alloc, dtype, cells_of(shape), number),
@@ -78,6 +79,7 @@ fn repeated(
 ) -> Result<WrittenWords, ValuesError>
     ensures ok { IfOk result (λ words. repeated dtype count number ≡ Ok words) }
     ensures bad { (path : Path) → result ≡ Err (ValuesError.Bad path) → repeated dtype count number ≡ Err path }
+    ensures told { result ≢ Err ValuesError.Memory }
 {
     if dtype.holds(number) {
         Ok(WrittenWords::one(dtype.word(number), count))
@@ -87,7 +89,7 @@ fn repeated(
 }
 
 /// The words, in C order, that lists give to the cells of a shape, which are nested as the shape says, with whole numbers in the dtype's range in the
-/// innermost.
+/// innermost. Where the shape has no dimension, they are one such number.
 ///
 /// # Errors
 /// `Bad` where the values are no such lists, and `Memory` where an allocation failed.
