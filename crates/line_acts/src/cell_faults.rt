@@ -16,7 +16,11 @@ use stack_driver::{View, transform_of};
 use stack_targets::TargetsError;
 use std::alloc::{AllocError, Global};
 
-/// How many cells a view has, or the answer that there are too many. It takes no memory.
+/// How many cells a view has. It takes no memory.
+///
+/// # Errors
+/// `Unbounded` with the first dimension that is infinite, else `TooMany` where there are more than 2^22 cells, with the first dimension up to which
+/// there are.
 pub fn counted(v: &View) -> Result<u64, Body>
     ensures count { IfOk result (λ n. count_answer (look_of v.now).dims ≡ Ok n) }
     ensures cells { IfOk result (λ n. n ≡ length (cells_of (look_of v.now).dims)) }

@@ -16,7 +16,7 @@ use stack_driver::{View, dtype, transform_of};
 use std::alloc::{AllocError, Global};
 
 /// The words that values give to the cells of a view, one after another: lists that are nested as its shape says, in
-/// row-major order. Values that are no such lists give none.
+/// C order. Values that are no such lists give none.
 ///
 /// The view's cells are few enough to be counted, as those of each view are that a transcript has opened.
 ///

@@ -37,7 +37,7 @@ pub(crate) fn array_within(v: &View) -> Option<&ArrayRef>
     }
 }
 
-/// Where the cells of such a view lie. The work goes with the chunks and the runs; a cell takes its leaf's number alone.
+/// Where the cells of such a view lie. The work goes with the chunks and the runs; a cell takes no memory of its own.
 pub(crate) fn along_runs(alloc: Global, v: &View, array: &ArrayRef) -> Result<ViewCells, AllocError>
     requires view { IsView v.now }
     requires finite { IsTrue (list_all is_finite (look_of v.now).dims) }
