@@ -1,5 +1,5 @@
 // What opening a stored leaf gives, over the arrays that were opened so far.
-ghost use Rattle.std.specs.Prelude.{◌≡◌, Some, ◌++◌, ◌∷◌, [], ℕ, IfOk, OnOk, option_map};
+ghost use Rattle.std.specs.Prelude.{◌≡◌, Some, ◌++◌, ◌∷◌, [], ℕ, IfOk, OnOk, OnErr, option_map};
 ghost use Rattle.std.specs.FinMap as finmap;
 ghost use Rattle.std.specs.List.{slice_get};
 ghost use Rattle.transcript_cut.specs.Homes.{MayHaveShape};
@@ -170,10 +170,11 @@ fn made_new(alloc: Global, asked: &Asked) -> Result<LeafOutcome, AllocError>
 /// Enters the array that an event opens, if it opens one, into the places of the arrays before it.
 ///
 /// # Errors
-/// An allocation failed.
+/// An allocation failed; the places are as they were.
 pub fn place_next(alloc: Global, places: &mut Locations, event: &Event) -> Result<(), AllocError>
-    ensures { OnOk result ((events : History) → IsTable events places.old
+    ensures next { OnOk result ((events : History) → IsTable events places.old
         → IsTable (events ++ event.now ∷ []) places.new) }
+    ensures err { OnErr result (places.new ≡ places.old) }
 {
     match &event.kind {
         Kind::Opened { array } => place_array(alloc, places, array),
@@ -184,7 +185,8 @@ pub fn place_next(alloc: Global, places: &mut Locations, event: &Event) -> Resul
 }
 
 fn place_array(alloc: Global, places: &mut Locations, info: &ArrayInfo) -> Result<(), AllocError>
-    ensures { OnOk result (places.new ≡ placed_by (location info.now.home) info.now.number places.old) }
+    ensures placed { OnOk result (places.new ≡ placed_by (location info.now.home) info.now.number places.old) }
+    ensures err { OnErr result (places.new ≡ places.old) }
 {
     match &info.home {
         Home::Zarr { mount, path, .. } => place(
@@ -219,7 +221,8 @@ fn place(
     path: &str,
     number: u64,
 ) -> Result<(), AllocError>
-    ensures { OnOk result (places.new ≡ finmap.insert places.old (mount.now ++ 47 ∷ path.now) number) }
+    ensures placed { OnOk result (places.new ≡ finmap.insert places.old (mount.now ++ 47 ∷ path.now) number) }
+    ensures err { OnErr result (places.new ≡ places.old) }
 {
     let here = format!(in alloc; "{mount}/{path}")?;
     places.put(alloc, here.as_str(), number)

@@ -15,7 +15,7 @@ loop-n-preserved c =
     let within = c.requires.within in
     let low : n < length events = omega (arith, within) in
     let at = slice_get_read events (length events) n event refl low c.index-events-n.is in
-    table_next events c.place_next.new.places n event at (c.in_ok-place_next.ensures (take n events) c.loop-n.invariant)
+    table_next events c.place_next.new.places n event at (c.in_ok-place_next.ensures.next (take n events) c.loop-n.invariant)
 
 pub returns : goal.returns
 returns c =
