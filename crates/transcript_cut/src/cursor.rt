@@ -55,18 +55,6 @@ impl Cursor {
     }
 }
 
-/// How many lines of scripts aren't blank, for the room that what is kept of each takes.
-pub(crate) fn count_lines(scripts: &[List<u8>]) -> usize
-    requires { length scripts.now < 2 ^ 32 }
-{
-    let mut cursor = Cursor::first();
-    let mut count = 0usize;
-    'lines: while let Some(_) = cursor.next_line(scripts) {
-        count = count.saturating_add(1);
-    }
-    count
-}
-
 // The first line of the scripts that isn't blank, from a byte of a session's script on, at which the line of this number begins.
 fn line_from(
     scripts: &[List<u8>],

@@ -3,7 +3,7 @@ ghost use Rattle.std.specs.Prelude.{◌≡◌, ◌<◌, ◌+◌, ◌^◌, [], If
 ghost use Rattle.transcript_cut.specs.Cuttings.{IsCutting, IsEnding, IsFound};
 
 use crate::answers::{Front, front_of};
-use crate::cursor::{Cursor, count_lines};
+use crate::cursor::Cursor;
 use crate::said::{AskedLine, Said, Span};
 use cells::List;
 use std::alloc::{AllocError, Global};
@@ -28,7 +28,7 @@ pub fn cut(alloc: Global, scripts: &[List<u8>], transcript: &[u8]) -> Result<Cut
     requires { length scripts.now < 2 ^ 32 }
     ensures { IfOk result (IsCutting scripts.now transcript.now) }
 {
-    let mut said = Vec::with_capacity(alloc, count_lines(scripts))?;
+    let mut said = Vec::new(alloc);
     match keep_answers(alloc, scripts, transcript, &mut said) {
         Ok(Ending::Complete) => Ok(Cutting::Whole {
             said: List::wrap(said),

@@ -7,7 +7,7 @@ ghost use Rattle.transcript_laws.specs.Unchecked.{AreChecked, IsFirstUnchecked, 
 ghost use Rattle.transcript_cut.specs.Keeping.{AreCommandsOf, IsAsking, IsCheckedForm, IsKeptIfChecked, IsLineRead};
 ghost use Rattle.transcript_cut.specs.Spans.{line_at, IsPlaced};
 
-use crate::cursor::{Cursor, count_lines};
+use crate::cursor::Cursor;
 use crate::said::AskedLine;
 use cells::{List, Name};
 use std::alloc::{AllocError, Global};
@@ -33,7 +33,7 @@ pub fn read_lines(alloc: Global, scripts: &[List<u8>]) -> Result<Asking, AllocEr
     ensures { IfOk result (IsAsking scripts.now) }
 {
     let mounts = [the_mount(alloc)?];
-    let mut commands = Vec::with_capacity(alloc, count_lines(scripts))?;
+    let mut commands = Vec::new(alloc);
     match keep_lines(alloc, scripts, &mounts, &mut commands) {
         Ok(None) => Ok(Asking::Checked {
             commands: List::wrap(commands),
