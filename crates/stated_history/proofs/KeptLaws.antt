@@ -2,6 +2,7 @@
 use Rattle.std.proofs.Common.{◌≡◌, ◌∙◌, ◌≤◌, ◌+◌, ◌⊎◌, ℕ, zero, suc, List, [], ◌∷◌, ◌++◌, Option, Some, Result, Ok, Err, inl, inr, length, refl, sym, ap, subst, arith, length-append}
 use Rattle.std.specs.Prelude.{OnOk}
 use Rattle.std.specs.List.{slice_get}
+use Rattle.history.proofs.Laws.{some_inj}
 use Rattle.stated_acts.specs.Acts.{IsActAt, IsSoundAct, kept_act}
 use Rattle.stated_acts.specs.Standings.{standing_of, IsSoundStanding}
 use Rattle.stated_acts.specs.ToldStandings.{Standing, first_standing}
@@ -25,6 +26,12 @@ pub act_kept : (s : Source) (place : ℕ) (w : Walk) (act : Act) → IsFacingLin
 act_kept s place w act faces sound = λ copy is.
     let same : copy ≡ act = kept_is act copy is in
     (subst (λ (x : Act). IsActOfLine s place x) (sym same) (act_of_line s place w act faces), subst IsSoundAct (sym same) sound)
+
+-- what is kept of one that is kept itself
+pub whole_kept : (s : Source) (place : ℕ) (w : Walk) (act : Act) → IsFacingLine s place w act → IsSoundAct act → IsKeptAct s place (Some act)
+whole_kept s place w act faces sound = λ copy is.
+    let same : act ≡ copy = some_inj act copy is in
+    (subst (λ (x : Act). IsActOfLine s place x) same (act_of_line s place w act faces), subst IsSoundAct same sound)
 
 -- of the first lines
 pub record AreKeptUpTo (s : Source) (place : ℕ) (w : Walk) (commits : List (Option Commit)) (acts : List (Option Act)) : Type 0 where

@@ -3,7 +3,7 @@
 -- items of a list, and what is told of the line at a place
 pub use Rattle.stated_history.proofs.LineLaws.{take_got, got_low, each_at, map_got, told_at, line_told, cut_in_order, order_next, standing_more}
 -- a walk before and behind the line at a place of a source
-pub use Rattle.stated_history.proofs.SourceLaws.{got_or, said_count, told_in, kept_outline, takings_long, said_is, told_there, facing, taken_by, opened_by, IsOpenLine, open_line, act_faced, HasAnswer, has_answer, answer_same, got_below, IsLineOf, line_of_source, prints_at, taken_there, gone_by, ok_both, whole_of}
+pub use Rattle.stated_history.proofs.SourceLaws.{got_or, said_count, told_in, kept_outline, takings_long, said_is, told_there, facing, taken_by, opened_by, IsOpenLine, open_line, act_faced, HasAnswer, has_answer, answer_same, got_below, IsLineOf, line_of_source, prints_at, taken_there, gone_by, ok_both, whole_of, read_gone}
 -- what is copied of an act is the act
 pub use Rattle.stated_acts.proofs.Laws.{kept_is}
 -- laws of crates below, given on to those above

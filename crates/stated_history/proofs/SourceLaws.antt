@@ -1,11 +1,13 @@
 -- A walk before and behind the line at a place of a source.
-use Rattle.std.proofs.Common.{◌≡◌, ◌≢◌, ◌∙◌, ◌<◌, ◌≤◌, ℕ, ◌+◌, ◌-◌, zero, suc, List, [], ◌∷◌, ◌++◌, Bool, true, false, cond, length, map, take, drop, Option, Some, None, Result, Ok, Err, refl, sym, ap, subst, arith, add-one, length-drop}
+use Rattle.std.proofs.Common.{◌≡◌, ◌≢◌, ◌∙◌, ◌<◌, ◌≤◌, ℕ, ◌+◌, ◌-◌, zero, suc, List, [], ◌∷◌, ◌++◌, codes, Bool, true, false, cond, length, map, take, drop, Option, Some, None, Result, Ok, Err, refl, sym, ap, subst, arith, add-one, length-drop}
 use Rattle.std.specs.Prelude.{slice_index_or, option_map, is_some, ◌↔◌, IsTrue, IfOk, OnOk}
 use Rattle.std.specs.List.{AllByRecursion, slice_get}
 use Rattle.serde_json.specs.Data.{Data}
+use Rattle.serde_json.specs.Find.{get}
 use Rattle.serde_json.specs.View.{view as data_in}
 use Rattle.serde_json.specs.declared.value.Value.{Value}
 use Rattle.json_forms.specs.Bytes.{data_of}
+use Rattle.history.specs.Acts as acts
 use Rattle.history.specs.Acts.{Asked}
 use Rattle.history.specs.Commit.{Transaction}
 use Rattle.history.specs.History.{History}
@@ -24,7 +26,7 @@ use Rattle.stated_acts.specs.Said.{IsSaid, AreSaid}
 use Rattle.stated_history.specs.Kept.{HoldsAnswer}
 use Rattle.stated_acts.specs.Spans.{bytes_at, line_at, IsPlaced, IsSpanOf}
 use Rattle.stated_acts.specs.Stances.{stance}
-use Rattle.stated_acts.specs.ToldStandings.{Standing, first_standing, standing, standing_asked, act_at}
+use Rattle.stated_acts.specs.ToldStandings.{Standing, first_standing, standing, standing_asked, act_at, read_told}
 use Rattle.stated_acts.specs.Takings.{Taking, taking, takings, was_opened, opened_view}
 use Rattle.stated_acts.specs.AnswerNumbers.{PrintsNumbers}
 use Rattle.stated_acts.specs.Claimed.{stated_asked}
@@ -37,7 +39,7 @@ use Rattle.stated_acts.specs.Acts.{IsActAt, IsActBy}
 use Rattle.stated_acts.specs.OpenedViews.{paired, AreGiven}
 use Rattle.stated_acts.specs.Printing.{OpensAll}
 use Rattle.stated_acts.specs.Standings.{standing_of, transaction_in, IsSoundStanding, IsOpenedBy}
-use Rattle.stated_history.specs.Walks.{IsSource, AreToldIn, outlined, line_said, standing_before, IsBehind, IsReached, IsNotPast, IsFacing, IsFacingLine, IsTakenBy, IsViewTaken, takings_at, IsKeptOutline, HasItsNumbers, IsGoneOn, commit_by, AreWalked, TellsAt, TellsCommits, IsInSession}
+use Rattle.stated_history.specs.Walks.{IsSource, AreToldIn, outlined, line_said, standing_before, IsBehind, IsReached, IsNotPast, IsFacing, IsFacingLine, IsTakenBy, IsViewTaken, takings_at, IsKeptOutline, HasItsNumbers, IsGoneOn, commit_by, AreWalked, TellsAt, TellsCommits, IsInSession, IsReadAlone}
 use Rattle.stated_acts.specs.declared.Act.{Act}
 use Rattle.stated_acts.specs.declared.Act.TheVariants.{Refused, Opens, Binds, Reads, Writes, Begins, Commits, Aborts}
 use Rattle.stated_history.specs.Commits.{kind_in}
@@ -369,6 +371,53 @@ none_told_on (Err e) P is holds = tt
 -- no answer is true and false
 pub never_true : (b : Bool) → b ≡ false → IsTrue b → ⊥
 never_true b is told = let no : false ≡ true = sym is ∙ told in cc
+
+-- a read leaves a session as it stands where no transaction does
+read_alone : (h : History) (s : Standing) (line : ℕ) (view : View) (answer : Data) → s.transaction ≡ None → s ≡ standing_asked h s line (Ok (acts.reads view None)) answer
+read_alone h s line view answer none = λ i. record { names = s.names; transaction = by (get (codes "values") answer) i }
+  where
+    by : (values : Option Data) → s.transaction ≡ read_told s.transaction view values
+    by None = refl
+    by (Some values) = none ∙ sym (ap (λ t. read_told t view (Some values)) none)
+
+none_alone : (act : Act) (t : Option Transaction) → IsReadAlone act t → t ≡ None
+none_alone (Reads view) t alone = alone
+none_alone (Refused body) t alone = absurd alone
+none_alone (Opens name plan) t alone = absurd alone
+none_alone (Binds name view) t alone = absurd alone
+none_alone (Writes view words) t alone = absurd alone
+none_alone (Begins mode) t alone = absurd alone
+none_alone Commits t alone = absurd alone
+none_alone Aborts t alone = absurd alone
+
+-- so a walk stands behind it where it stood before
+pub read_gone : (s : Source) (told : List Told) (place : ℕ) (d : Said) (t : Told) (w : Walk) (act : Act) → IsFacing s told place t w act → slice_get s.said.now place ≡ Some d → IsReadAlone act (standing_of w.standing).transaction → IsGoneOn (outlined s) (take place told) t w None
+read_gone s told place d t w (Reads view) faces at alone =
+    gone s told place d t w w (Reads view) None faces at refl
+    (λ asked does. subst (λ a. standing_of w.standing ≡ standing_asked (outlined s) (standing_of w.standing) d.line.number a t.answer) (sym does) (read_alone (outlined s) (standing_of w.standing) d.line.number view t.answer alone))
+    (λ asked does some. subst (λ a. option_map kind_in None ≡ commit_by d.line.number a) (sym does) refl)
+read_gone s told place d t w (Refused body) faces at alone = absurd alone
+read_gone s told place d t w (Opens name plan) faces at alone = absurd alone
+read_gone s told place d t w (Binds name view) faces at alone = absurd alone
+read_gone s told place d t w (Writes view words) faces at alone = absurd alone
+read_gone s told place d t w (Begins mode) faces at alone = absurd alone
+read_gone s told place d t w Commits faces at alone = absurd alone
+read_gone s told place d t w Aborts faces at alone = absurd alone
+
+-- what is told of it, by whether it may print what it prints
+pub read_tells : (s : Source) (place : ℕ) (d : Said) (w : Walk) (act : Act) (may : Bool) → IsSource s → slice_get s.said.now place ≡ Some d → IsFacingLine s place w act → IsReadAlone act (standing_of w.standing).transaction
+    → ((history : History) (owner line : ℕ) (u : Option Transaction) (asked : Asked) (said : Data) → IsActBy u asked act → false ≡ is_some u → PrintsNumbers said d.numbers → OpensAll history owner act said → IsTrue may ↔ (own.numbers_of (stated_asked history owner line asked said) ≡ numbers_in said))
+    → TellsAt s place w (cond may (Some None) None)
+read_tells s place d w act may is at faces alone tells = by may (λ told t of_it there. prints_own s told place d t w act false may is at (faces told t of_it there) none tells)
+  where
+    none : false ≡ is_some w.standing.transaction
+    none = sym (stands_in w.standing.transaction ∙ ap is_some (none_alone act (standing_of w.standing).transaction alone))
+
+    by : (b : Bool) → ((told : List Told) (t : Told) → AreToldIn s told → slice_get told place ≡ Some t → IsTrue b ↔ HasItsNumbers (outlined s) (standing_before (outlined s) (take place told) t) t) → TellsAt s place w (cond b (Some None) None)
+    by true has = λ told t of_it there.
+        let gone = read_gone s told place d t w act (faces told t of_it there) at alone in
+        (record { numbers = (has told t of_it there).0 refl; event = gone.event }, gone.behind)
+    by false has = λ told t of_it there. λ numbers. never_true false refl ((has told t of_it there).1 numbers)
 
 -- a walk behind the first lines of a source, with their commits
 pub record AreWalkedUpTo (s : Source) (place : ℕ) (w : Walk) (commits : List (Option Commit)) : Type 0 where

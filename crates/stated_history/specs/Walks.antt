@@ -8,6 +8,7 @@ use Rattle.stated_acts.specs.SpecOpenings.{leaves_of, build_of}
 use Rattle.stack_driver.specs.declared.view.View.{View}
 use Rattle.history.specs.declared.event.Kind.{Kind}
 use Rattle.history.specs.Acts.{Asked, writes, commits}
+use Rattle.history.specs.Commit.{Transaction}
 use Rattle.history.specs.History.{History}
 use Rattle.history.specs.Own as own
 use Rattle.history.specs.Steps.{write_alone}
@@ -28,7 +29,7 @@ use Rattle.stated_acts.specs.OpenedViews.{paired, AreGiven}
 use Rattle.stated_acts.specs.Acts.{IsActAt}
 use Rattle.stated_acts.specs.Standings.{standing_of}
 use Rattle.stated_acts.specs.declared.Act.{Act}
-use Rattle.stated_acts.specs.declared.Act.TheVariants.{Opens, Writes}
+use Rattle.stated_acts.specs.declared.Act.TheVariants.{Opens, Reads, Writes}
 use Rattle.stated_history.specs.Commits.{commit_of, kind_in}
 use Rattle.stated_history.specs.declared.commits.Source.{Source}
 use Rattle.stated_history.specs.declared.putting.Commit.{Commit}
@@ -188,3 +189,8 @@ AreInOrder session (s ∷ said) = (session ≤ s.line.session) × AreInOrder s.l
 abbrev pub IsNoWrite : Act → Type 0
 IsNoWrite (Writes view words) = ⊥
 IsNoWrite _ = Unit {0}
+
+-- it is a read where no transaction stands
+abbrev pub IsReadAlone : Act → Option Transaction → Type 0
+IsReadAlone (Reads view) t = t ≡ None
+IsReadAlone _ t = ⊥

@@ -1,5 +1,5 @@
 // The commits that the lines of a transcript state.
-ghost use Rattle.std.specs.Prelude.{◌≡◌, ◌<◌, ◌∷◌, [], false, Some, None, Ok, Err, IfOk, OnOk, length};
+ghost use Rattle.std.specs.Prelude.{◌≡◌, ◌<◌, ◌∷◌, ◌++◌, [], false, Some, None, Ok, Err, IfOk, OnOk, IsTrue, length, if◌then◌else◌};
 ghost use Rattle.indexmap.specs.IndexMap.{get_by_text};
 ghost use Rattle.json_forms.specs.Bytes.{data_of};
 ghost use Rattle.stated_acts.specs.Bound.{AreViews};
@@ -13,7 +13,7 @@ ghost use Rattle.stated_history.specs.Kept.{HasKept, HoldsAnswer, IsKeptAt, Tell
 ghost use Rattle.stated_acts.specs.Cuttings.{lines_kept};
 ghost use Rattle.stated_acts.specs.Keeping.{AreCommandsOf, IsCommandOf};
 ghost use Rattle.stated_history.specs.Walks.{IsSource, outlined, IsReached, IsNotPast, IsInSession};
-ghost use Rattle.stated_history.specs.Walks.{IsAnswerAt, IsFacingLine, IsGoneOnAt, TellsAt};
+ghost use Rattle.stated_history.specs.Walks.{IsAnswerAt, IsFacingLine, IsGoneOnAt, IsReadAlone, TellsAt};
 ghost use Rattle.stated_history.specs.Walks.{IsKeptOutline, IsTakenBy, IsViewTaken, line_said, takings_at};
 ghost use Rattle.stated_acts.specs.Spans.{line_at, IsPlaced, IsSpanOf};
 ghost use Rattle.stated_acts.specs.Transcript.{mount, asked_by};
@@ -93,12 +93,68 @@ fn state_line(
     let said = &source.said[place];
     walk.turn_to(alloc, said.line.session);
     match act_said(alloc, &walk.standing, source, said, command) {
-        Ok(act) => match keep(alloc, acts, &act) {
-            Ok(()) => state_answered(alloc, walk, source, place, act),
-            Err(e) => lose(act, e),
-        },
+        Ok(act) => state_by(alloc, walk, source, place, act, acts),
         Err(e) => Err(e),
     }
+}
+
+// The same by what the line does, where the walk stands before it. A read outside of a transaction is kept itself, any other act as a copy.
+fn state_by(
+    alloc: Global,
+    walk: &mut Walk,
+    source: &Source,
+    place: usize,
+    act: Act,
+    acts: &mut Vec<Option<Act>>,
+) -> Result<Option<Option<Commit>>, AllocError>
+    requires source { IsSource source.now }
+    requires place { place < length source.now.said.now }
+    requires sound { IsSoundStanding walk.old.standing }
+    requires act { IsSoundAct act }
+    requires facing { IsFacingLine source.now place walk.old act }
+    ensures next { IfOk result (TellsAt source.now place walk.new) }
+    ensures acts { OnOk result (HasKept source.now place acts.old.items acts.new.items) }
+    ensures session { OnOk result (walk.new.session ≡ walk.old.session) }
+    ensures sound { OnOk result (IsSoundStanding walk.new.standing) }
+{
+    if is_read_alone(&act, &walk.standing) {
+        let may = may_print(&act, false, &source.said[place].numbers);
+        state_read(acts, act, may)
+    } else {
+        match keep(alloc, acts, &act) {
+            Ok(()) => state_answered(alloc, walk, source, place, act),
+            Err(e) => lose(act, e),
+        }
+    }
+}
+
+// Whether this is a read outside of a transaction, which changes nothing of its session.
+fn is_read_alone(act: &Act, standing: &Standing) -> bool
+    ensures { IsTrue result → IsReadAlone act.now (standing_of standing.now).transaction }
+{
+    match act {
+        Act::Reads { .. } => standing.transaction.is_none(),
+        Act::Refused { .. } => false,
+        Act::Opens { .. } => false,
+        Act::Binds { .. } => false,
+        Act::Writes { .. } => false,
+        Act::Begins { .. } => false,
+        Act::Commits => false,
+        Act::Aborts => false,
+    }
+}
+
+// Keeps such a read. Its line states no commit, where it may print what it prints.
+fn state_read(
+    acts: &mut Vec<Option<Act>>,
+    act: Act,
+    may: bool,
+) -> Result<Option<Option<Commit>>, AllocError>
+    ensures next { IfOk result (λ next. next ≡ (if may then Some None else None)) }
+    ensures acts { OnOk result (acts.new.items ≡ acts.old.items ++ Some act ∷ []) }
+{
+    acts.push(Some(act))?;
+    if may { Ok(Some(None)) } else { Ok(None) }
 }
 
 fn lose(_: Act, e: AllocError) -> Result<Option<Option<Commit>>, AllocError>
@@ -107,7 +163,7 @@ fn lose(_: Act, e: AllocError) -> Result<Option<Option<Commit>>, AllocError>
     Err(e)
 }
 
-// The same by what the line does, where the walk stands before it.
+// The same of any act, where it is kept already what the line does.
 fn state_answered(
     alloc: Global,
     walk: &mut Walk,
