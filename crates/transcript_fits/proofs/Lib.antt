@@ -26,6 +26,7 @@ mod CountLaws
 mod PendingLaws
 mod JudgeLaws
 mod FacedLaws
+mod KeptLines
 mod FirstLaws
 mod AllJudged
 mod StoredLaws

@@ -33,7 +33,7 @@ use Rattle.stated_history.specs.declared.Act.TheVariants.{Refused, Opens, Binds,
 use Rattle.stated_history.specs.Walks.{AreToldIn, IsAnswerAt, IsFacingLine, IsInSession, IsReached}
 use Rattle.stated_history.specs.declared.walk.Walk.{Walk}
 use Rattle.transcript_fits.specs.Changing.{PrintsLine}
-use Rattle.transcript_fits.specs.LineFits.{answer_of_line}
+use Rattle.transcript_fits.specs.LineFits.{IsAnsweredSo, IsLineFit, answer_of_line}
 use Rattle.transcript_fits.specs.Judges.{history_of}
 use Rattle.transcript_fits.specs.Openings.{IsOpenedBy}
 use Rattle.transcript_fits.specs.declared.judge.Judge.{Judge}
@@ -139,6 +139,15 @@ IsActHere j walk place act =
     (d : Said) → slice_get j.source.now.said.now place ≡ Some d
     → IsActAt (standing_of walk.standing) (asked_by (line_at j.source.now.scripts.now d.line)) act
 
+abbrev pub IsRead : Act → Type 0
+IsRead act = (view : View) × (act ≡ Reads view)
+
+-- what is kept of a line is a read, where no transaction stands
+pub record IsAlone (kept : Option Act) (walk : Walk) : Type 0 where
+  pub view : View
+  pub read : kept ≡ Some (Reads view)
+  pub alone : (standing_of walk.standing).transaction ≡ None
+
 -- the walk stands behind the line at a place
 pub record HasWalked (j : Judge) (old new : Stand) (place : ℕ) : Type 0 where
   pub reached : IsReached j.source.now (place + 1) new.walk
@@ -231,3 +240,16 @@ pub record IsLineAt (j : Judge) (stand : Stand) (line : ToldLine) (place : ℕ) 
   pub prints : PrintsLine (history_of j) line
   pub upto : stand.upto ≡ line.window.upto
   pub kept : (d : Said) → slice_get j.source.now.said.now place ≡ Some d → IsLineKept j.source.now.transcript.now d line.window (answer_of_line line) line
+
+-- this is so of the line at a place if its answer is one that it may have, as the session stands, whoever tells of it
+abbrev pub IsFitAt : Judge → Stand → ToldLine → ℕ → LineFit → Type 0
+IsFitAt j stand line place fit =
+    (told : List Told) (t : Told) → IsLineTold j told place t
+    → IsLineFit (history_of j)
+    (IsAnsweredSo (history_of j) line (standing_of stand.walk.standing).transaction (act_at (standing_of stand.walk.standing) t)) fit
+
+-- and the line may be gone behind
+abbrev pub MayGoOnAt : Judge → Stand → ToldLine → ℕ → LineFit → Type 0
+MayGoOnAt j stand line place fit =
+    (told : List Told) (t : Told) → IsLineTold j told place t
+    → MayGoOn (answer_of_line line) (act_at (standing_of stand.walk.standing) t) fit

@@ -1,9 +1,10 @@
 // What the line at a place does.
-ghost use Rattle.std.specs.Prelude.{◌≡◌, Some, IfOk};
+ghost use Rattle.std.specs.Prelude.{◌≡◌, Some, None, IfOk, IsTrue};
 ghost use Rattle.stated_history.specs.Acts.{IsSoundAct};
+ghost use Rattle.stated_history.specs.Standings.{standing_of};
 ghost use Rattle.stated_history.specs.declared.Act.{Act as ActOf};
 ghost use Rattle.transcript_fits.specs.Judges.{IsJudge};
-ghost use Rattle.transcript_fits.specs.Stands.{IsActHere, IsWalkAt};
+ghost use Rattle.transcript_fits.specs.Stands.{IsActHere, IsAlone, IsRead, IsWalkAt};
 
 use crate::judge::Judge;
 use stated_history::{Act, Walk, act_said};
@@ -45,4 +46,40 @@ fn copy_of(alloc: Global, act: &Option<Act>) -> Result<Option<Act>, AllocError>
         Some(act) => act.copy(alloc),
         None => Ok(None),
     }
+}
+
+/// Whether what is kept of a line is a read, where the walk stands in no transaction: such a line leaves its session as it stands.
+pub(crate) fn is_read_alone(kept: &Option<Act>, walk: &Walk) -> bool
+    ensures { IsTrue result → IsAlone kept.now walk.now }
+{
+    match kept {
+        Some(act) => is_alone(act, walk),
+        None => false,
+    }
+}
+
+fn is_alone(act: &Act, walk: &Walk) -> bool
+    ensures { IsTrue result → IsRead act.now × ((standing_of walk.now.standing).transaction ≡ None) }
+{
+    if is_read(act) {
+        stands_alone(walk)
+    } else {
+        false
+    }
+}
+
+fn is_read(act: &Act) -> bool
+    ensures { IsTrue result → IsRead act.now }
+{
+    match act {
+        Act::Reads { view: _ } => true,
+        _ => false,
+    }
+}
+
+// Whether no transaction stands.
+fn stands_alone(walk: &Walk) -> bool
+    ensures { IsTrue result → (standing_of walk.now.standing).transaction ≡ None }
+{
+    walk.standing.transaction.is_none()
 }

@@ -1,5 +1,6 @@
 // Whether the answer to a line is one that it may have, by what the line does.
-ghost use Rattle.std.specs.Prelude.{◌<◌, ℕ, Ok, Option, IfOk, length};
+ghost use Rattle.std.specs.Prelude.{◌≡◌, ◌<◌, ℕ, Ok, Option, Some, IfOk, length};
+ghost use Rattle.std.specs.List.{slice_get};
 ghost use Rattle.history.specs.Acts.{Asked, binds};
 ghost use Rattle.history.specs.Commit.{Transaction};
 ghost use Rattle.history.specs.History.{History};
@@ -8,8 +9,9 @@ ghost use Rattle.stated_history.specs.Standings.{standing_of};
 ghost use Rattle.stated_history.specs.declared.Act.TheVariants.{Commits, Writes};
 ghost use Rattle.transcript_fits.specs.Judges.{IsJudge, history_of};
 ghost use Rattle.transcript_fits.specs.LineFits.{IsAnsweredSo, IsLineFit, IsPlainFit, MayBeAsked, answer_of_line};
-ghost use Rattle.transcript_fits.specs.Stands.{IsFaced, MayGoOn};
+ghost use Rattle.transcript_fits.specs.Stands.{IsFaced, IsFitAt, IsLineAt, MayGoOn, MayGoOnAt};
 
+use crate::acts::act_before;
 use crate::changing::{fit_commit, fit_write};
 use crate::judge::Judge;
 use crate::line_fit::{LineFit, ToldLine};
@@ -22,11 +24,91 @@ use stack_driver::View;
 use stated_history::{Act, Body, viewed_body};
 use std::alloc::{AllocError, Global};
 
-/// Whether the answer to the line at a place, which does this, is one that it may have, or what that waits for.
+/// Whether the answer to the line at a place is one that it may have, or what that waits for. What is kept of a read or a write isn't copied.
 ///
 /// # Errors
 /// An allocation failed.
-pub(crate) fn fit_line(
+pub(crate) fn fit_answer(
+    alloc: Global,
+    judge: &Judge,
+    stand: &Stand,
+    line: ToldLine,
+    place: usize,
+) -> Result<LineFit, AllocError>
+    requires judge { IsJudge judge.now }
+    requires line { IsLineAt judge.now stand.now line place }
+    ensures fits { IfOk result (IsFitAt judge.now stand.now line.entry place) }
+    ensures asked { IfOk result (MayBeAsked (history_of judge.now)) }
+    ensures on { IfOk result (MayGoOnAt judge.now stand.now line.entry place) }
+{
+    fit_by(alloc, judge, stand, line, place, &judge.acts[place])
+}
+
+// The same by what is kept of the line.
+fn fit_by(
+    alloc: Global,
+    judge: &Judge,
+    stand: &Stand,
+    line: ToldLine,
+    place: usize,
+    kept: &Option<Act>,
+) -> Result<LineFit, AllocError>
+    requires judge { IsJudge judge.now }
+    requires line { IsLineAt judge.now stand.now line place }
+    requires kept { slice_get judge.now.acts.now place ≡ Some kept.now }
+    ensures fits { IfOk result (IsFitAt judge.now stand.now line.entry place) }
+    ensures asked { IfOk result (MayBeAsked (history_of judge.now)) }
+    ensures on { IfOk result (MayGoOnAt judge.now stand.now line.entry place) }
+{
+    match kept {
+        Some(act) => fit_kept(alloc, judge, stand, line, place, act),
+        None => fit_before(alloc, judge, stand, line, place),
+    }
+}
+
+// The same where it is kept that the line does this.
+fn fit_kept(
+    alloc: Global,
+    judge: &Judge,
+    stand: &Stand,
+    line: ToldLine,
+    place: usize,
+    act: &Act,
+) -> Result<LineFit, AllocError>
+    requires judge { IsJudge judge.now }
+    requires line { IsLineAt judge.now stand.now line place }
+    requires kept { slice_get judge.now.acts.now place ≡ Some (Some act.now) }
+    ensures fits { IfOk result (IsFitAt judge.now stand.now line.entry place) }
+    ensures asked { IfOk result (MayBeAsked (history_of judge.now)) }
+    ensures on { IfOk result (MayGoOnAt judge.now stand.now line.entry place) }
+{
+    match act {
+        Act::Reads { view } => fit_reading(alloc, judge, &stand.own, line, view),
+        Act::Writes { view, words } => fit_writing(alloc, judge, stand, line, view, words),
+        _ => fit_before(alloc, judge, stand, line, place),
+    }
+}
+
+// The same by what the line does.
+fn fit_before(
+    alloc: Global,
+    judge: &Judge,
+    stand: &Stand,
+    line: ToldLine,
+    place: usize,
+) -> Result<LineFit, AllocError>
+    requires judge { IsJudge judge.now }
+    requires line { IsLineAt judge.now stand.now line place }
+    ensures fits { IfOk result (IsFitAt judge.now stand.now line.entry place) }
+    ensures asked { IfOk result (MayBeAsked (history_of judge.now)) }
+    ensures on { IfOk result (MayGoOnAt judge.now stand.now line.entry place) }
+{
+    let act = act_before(alloc, judge, &stand.walk, place)?;
+    fit_line(alloc, judge, stand, line, place, act)
+}
+
+// The same of the line at a place, which does this.
+fn fit_line(
     alloc: Global,
     judge: &Judge,
     stand: &Stand,

@@ -3,21 +3,18 @@ ghost use Rattle.std.specs.Prelude.{◌≡◌, ◌≢◌, ◌↔◌, ◌<◌, �
 ghost use Rattle.open_fits.specs.Fitting.{IsAnswered};
 ghost use Rattle.stated_history.specs.SaidAnswers.{data_said};
 ghost use Rattle.stated_history.specs.Spans.{IsSpanOf};
-ghost use Rattle.stated_history.specs.Standings.{standing_of};
 ghost use Rattle.stated_history.specs.ToldNumbers.{told_of};
-ghost use Rattle.stated_history.specs.ToldStandings.{act_at};
 ghost use Rattle.stated_history.specs.Transcript.{Told};
 ghost use Rattle.stated_history.specs.Walks.{AreToldIn};
 ghost use Rattle.transcript_fits.specs.Frames.{IsFrameOf};
 ghost use Rattle.transcript_fits.specs.Judges.{IsJudge, IsJudgedSource, history_of};
-ghost use Rattle.transcript_fits.specs.LineFits.{IsAnsweredSo, IsLineFit, MayBeAsked, answer_of_line};
+ghost use Rattle.transcript_fits.specs.LineFits.{IsLineFit, MayBeAsked};
 ghost use Rattle.transcript_fits.specs.Pendings.{IsSessionJudged, MayHold};
 ghost use Rattle.transcript_fits.specs.Sessions.{IsFittingAt, IsSessionAt};
-ghost use Rattle.transcript_fits.specs.Stands.{HasPassed, IsLineAt, IsLineKept, IsLineTold, IsPassing, IsStandAt, MayGoOn};
+ghost use Rattle.transcript_fits.specs.Stands.{HasPassed, IsFitAt, IsLineAt, IsLineKept, IsPassing, IsStandAt, MayGoOnAt};
 ghost use Rattle.transcript_fits.specs.declared.line_fit.LineFit.TheVariants.{Unfit};
 
-use crate::acts::act_before;
-use crate::fitting::fit_line;
+use crate::fitting::fit_answer;
 use crate::frames::{Frame, count_session};
 use crate::judge::{Judge, counts_of, stored_of};
 use crate::line_fit::{LineFit, ToldLine};
@@ -170,17 +167,12 @@ fn judge_told(
 ) -> Result<LineFit, AllocError>
     requires judge { IsJudge judge.now }
     requires line { IsLineAt judge.now stand.old line place }
-    ensures fits { IfOk result (λ fit. (told : ListOf Told) (t : Told) → IsLineTold judge.now told place t
-        → IsLineFit (history_of judge.now)
-        (IsAnsweredSo (history_of judge.now) line.entry (standing_of stand.old.walk.standing).transaction
-        (act_at (standing_of stand.old.walk.standing) t)) fit) }
+    ensures fits { IfOk result (IsFitAt judge.now stand.old line.entry place) }
     ensures asked { IfOk result (MayBeAsked (history_of judge.now)) }
-    ensures on { IfOk result (λ fit. (told : ListOf Told) (t : Told) → IsLineTold judge.now told place t
-        → MayGoOn (answer_of_line line.entry) (act_at (standing_of stand.old.walk.standing) t) fit) }
+    ensures on { IfOk result (MayGoOnAt judge.now stand.old line.entry place) }
     ensures passed { IfOk result (λ fit. fit ≢ Unfit → HasPassed judge.now stand.old stand.new line.entry place) }
 {
-    let act = act_before(alloc, judge, &stand.walk, place)?;
-    match fit_line(alloc, judge, stand, line, place, act) {
+    match fit_answer(alloc, judge, stand, line, place) {
         Ok(LineFit::Unfit) => Ok(LineFit::Unfit),
         Ok(fit) => pass_fit(alloc, judge, stand, line, place, fit),
         Err(e) => Err(e),

@@ -14,7 +14,7 @@ ghost use Rattle.transcript_fits.specs.Judges.{IsJudge, history_of};
 ghost use Rattle.transcript_fits.specs.LineFits.{answer_of_line};
 ghost use Rattle.transcript_fits.specs.Stands.{AreOwnBehind, HasPassed, HasReadOf, HasWalked, HasWrittenOf, IsBegunAt, IsFacingOf, IsFollowing, IsLineTold, IsOwnOf, IsPassing, IsReadingOf, IsWalkAt, IsWritingOf};
 
-use crate::acts::act_before;
+use crate::acts::{act_before, is_read_alone};
 use crate::judge::Judge;
 use crate::line_fit::ToldLine;
 use cells::WrittenWords;
@@ -67,9 +67,13 @@ impl Stand {
         requires passing { IsPassing judge.now self.old line place }
         ensures { OnOk result (HasPassed judge.now self.old self.new line.entry place) }
     {
-        match act_before(alloc, judge, &self.walk, place) {
-            Ok(act) => self.pass_act(alloc, judge, line, place, act),
-            Err(e) => Err(e),
+        if is_read_alone(&judge.acts[place], &self.walk) {
+            Ok(())
+        } else {
+            match act_before(alloc, judge, &self.walk, place) {
+                Ok(act) => self.pass_act(alloc, judge, line, place, act),
+                Err(e) => Err(e),
+            }
         }
     }
 
