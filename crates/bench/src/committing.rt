@@ -18,7 +18,7 @@ use crate::fault::Fault;
 use crate::opening::opened;
 use history::Mode;
 use kv_face::{KvStore, MemoryKv};
-use session_turns::{OpenGate, State, Txn};
+use session_turns::{Around, OpenGate, State, Txn};
 use stack_driver::{View, dtype, transform_of};
 use std::alloc::Global;
 use std::sync::Wait;
@@ -163,7 +163,13 @@ fn committed<K: KvStore, R: Wait>(
     requires ready { IsReady book.now.fixed pass.old.seen t }
     ensures { OnOk result (HasPassed book.now pass.old pass.new) }
 {
-    match t.commit(alloc, rt, book, pass, &OpenGate) {
+    let around = Around {
+        alloc,
+        rt,
+        book,
+        gate: &OpenGate,
+    };
+    match t.commit(&around, pass) {
         Ok(numbers) => match numbers.items() {
             [event] => Ok(*event),
             _ => Err(Fault::Refused),

@@ -19,6 +19,7 @@ ghost use Rattle.chunk_fetches.specs.declared.looked.Fresh.{Fresh as FreshOf};
 ghost use Rattle.chunk_fetches.specs.declared.source.Source.{Source as SourceOf};
 ghost use Rattle.turn_book.specs.Passes.{IsIdle};
 
+use crate::around::Around;
 use crate::decoding::decode_all;
 use crate::error::{LookError, ReadError};
 use crate::gate::Gate;
@@ -32,7 +33,7 @@ use shared_state::State;
 use std::alloc::{AllocError, Global};
 use std::sync::Wait;
 use transaction_cells::Piece;
-use turn_book::{Pass, TurnBook};
+use turn_book::Pass;
 
 /// Fetches the chunks that are to be fetched for a view's pieces. They are looked at in one turn, decoded outside of it, and handed to the
 /// state in another, where the state didn't keep them all. No turn is taken where there are none.
@@ -40,32 +41,29 @@ use turn_book::{Pass, TurnBook};
 /// # Errors
 /// `StoreFailed`; `Damaged` for the first chunk whose bytes are none of its array; `Memory`.
 pub fn fetch<K: KvStore, R: Wait, G: Gate>(
-    alloc: Global,
-    rt: &R,
-    gate: &G,
-    book: &TurnBook<State<K>>,
+    around: &Around<K, R, G>,
     pass: &mut Pass<State<K>>,
     pieces: &[Piece],
     sources: &[Source],
 ) -> Result<Vec<Kept>, ReadError>
-    requires pass { IsIdle book.now pass.old }
+    requires pass { IsIdle around.now.book.now pass.old }
     requires count { length sources.now ≡ length pieces.now }
     requires chunks { (events : History) → IsPrefix pass.old.seen events → IsLegal finmap.empty (outline events)
         → AreChunks events (new_pieces sources.now pieces.now) }
     requires named { AllByRecursion (λ (p : PieceOf).
         p.id ≡ id_of (chunk_at p.id)) (new_pieces sources.now pieces.now) }
     ensures fetched { IfOk result (λ fetched.
-        AreFetched book.now.fixed (length pass.old.seen) pass.new.seen
+        AreFetched around.now.book.now.fixed (length pass.old.seen) pass.new.seen
         (new_pieces sources.now pieces.now) fetched.items) }
-    ensures ok { OnOk result (HasPassed book.now pass.old pass.new []) }
+    ensures ok { OnOk result (HasPassed around.now.book.now pass.old pass.new []) }
     ensures untaken { list_any is_new sources.now ≡ false → pass.new ≡ pass.old }
-    ensures refused { IfErr result (IsFetchError book.now pass.old pass.new (new_pieces sources.now pieces.now)) }
+    ensures refused { IfErr result (IsFetchError around.now.book.now pass.old pass.new (new_pieces sources.now pieces.now)) }
 {
     if !has_new(sources) {
-        return Ok(Vec::new(alloc));
+        return Ok(Vec::new(around.alloc));
     }
-    match look_in_turn(alloc, rt, book, pass, pieces, sources) {
-        Ok((looks, mark)) => { decoded(alloc, rt, gate, book, pass, pieces, sources, looks, mark) }
+    match look_in_turn(around.alloc, around.rt, around.book, pass, pieces, sources) {
+        Ok((looks, mark)) => { decoded(around, pass, pieces, sources, looks, mark) }
         Err(e) => Err(unfetched(e)),
     }
 }
@@ -92,31 +90,28 @@ fn unfetched(e: LookError) -> ReadError
 
 // Decodes what was looked at, and hands it to the state.
 fn decoded<K: KvStore, R: Wait, G: Gate>(
-    alloc: Global,
-    rt: &R,
-    gate: &G,
-    book: &TurnBook<State<K>>,
+    around: &Around<K, R, G>,
     pass: &mut Pass<State<K>>,
     pieces: &[Piece],
     sources: &[Source],
     looks: Vec<Looked>,
     mark: u64,
 ) -> Result<Vec<Kept>, ReadError>
-    requires pass { IsIdle book.now pass.old }
+    requires pass { IsIdle around.now.book.now pass.old }
     requires count { length sources.now ≡ length pieces.now }
     requires chunks { (events : History) → IsPrefix pass.old.seen events → IsLegal finmap.empty (outline events)
         → AreChunks events (new_pieces sources.now pieces.now) }
     requires named { AllByRecursion (λ (p : PieceOf).
         p.id ≡ id_of (chunk_at p.id)) (new_pieces sources.now pieces.now) }
-    requires looked { AreLookedAt book.now.fixed pass.old.seen (new_pieces sources.now pieces.now) looks.items }
+    requires looked { AreLookedAt around.now.book.now.fixed pass.old.seen (new_pieces sources.now pieces.now) looks.items }
     requires mark { mark ≡ length pass.old.seen }
     ensures fetched { IfOk result (λ fetched.
-        AreFetchedAt book.now.fixed pass.new.seen mark (new_pieces sources.now pieces.now) fetched.items) }
-    ensures ok { OnOk result (HasPassed book.now pass.old pass.new []) }
-    ensures refused { IfErr result (IsDecodeRefusal book.now pass.old pass.new (new_pieces sources.now pieces.now)) }
+        AreFetchedAt around.now.book.now.fixed pass.new.seen mark (new_pieces sources.now pieces.now) fetched.items) }
+    ensures ok { OnOk result (HasPassed around.now.book.now pass.old pass.new []) }
+    ensures refused { IfErr result (IsDecodeRefusal around.now.book.now pass.old pass.new (new_pieces sources.now pieces.now)) }
 {
-    match decode_all(alloc, rt, gate, pass.number(), looks) {
-        Ok(fresh) => settled(alloc, rt, book, pass, pieces, sources, fresh, mark),
+    match decode_all(around.alloc, around.rt, around.gate, pass.number(), looks) {
+        Ok(fresh) => settled(around, pass, pieces, sources, fresh, mark),
         Err(e) => Err(e),
     }
 }
@@ -133,34 +128,32 @@ fn has_decoded(fresh: &[Fresh]) -> bool
     false
 }
 
-fn settled<K: KvStore, R: Wait>(
-    alloc: Global,
-    rt: &R,
-    book: &TurnBook<State<K>>,
+fn settled<K: KvStore, R: Wait, G: Gate>(
+    around: &Around<K, R, G>,
     pass: &mut Pass<State<K>>,
     pieces: &[Piece],
     sources: &[Source],
     fresh: Vec<Fresh>,
     mark: u64,
 ) -> Result<Vec<Kept>, ReadError>
-    requires pass { IsIdle book.now pass.old }
+    requires pass { IsIdle around.now.book.now pass.old }
     requires count { length sources.now ≡ length pieces.now }
     requires chunks { (events : History) → IsPrefix pass.old.seen events → IsLegal finmap.empty (outline events)
         → AreChunks events (new_pieces sources.now pieces.now) }
     requires named { AllByRecursion (λ (p : PieceOf).
         p.id ≡ id_of (chunk_at p.id)) (new_pieces sources.now pieces.now) }
-    requires fresh { AreFresh book.now.fixed pass.old.seen (new_pieces sources.now pieces.now) fresh.items }
+    requires fresh { AreFresh around.now.book.now.fixed pass.old.seen (new_pieces sources.now pieces.now) fresh.items }
     requires mark { mark ≡ length pass.old.seen }
     ensures fetched { IfOk result (λ fetched.
-        AreFetchedAt book.now.fixed pass.new.seen mark (new_pieces sources.now pieces.now) fetched.items) }
-    ensures passed { HasPassed book.now pass.old pass.new [] }
+        AreFetchedAt around.now.book.now.fixed pass.new.seen mark (new_pieces sources.now pieces.now) fetched.items) }
+    ensures passed { HasPassed around.now.book.now pass.old pass.new [] }
     ensures refused { IfErr result (λ e. e ≡ read_error.Memory) }
 {
     if !has_decoded(&fresh) {
-        return kept(alloc, pieces, sources, fresh, mark);
+        return kept(around.alloc, pieces, sources, fresh, mark);
     }
-    match settle_in_turn(rt, book, pass, pieces, sources, &fresh) {
-        Ok(()) => kept(alloc, pieces, sources, fresh, mark),
+    match settle_in_turn(around.rt, around.book, pass, pieces, sources, &fresh) {
+        Ok(()) => kept(around.alloc, pieces, sources, fresh, mark),
         Err(_) => Err(ReadError::Memory),
     }
 }

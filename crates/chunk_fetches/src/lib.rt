@@ -3,6 +3,7 @@
 //! Crates above rest on `AreFetched`: each chunk that was fetched is kept as it was after one number of events, no less than were seen before.
 #![tactic(auto)]
 
+mod around;
 mod decoding;
 mod error;
 mod fetching;
@@ -14,6 +15,7 @@ mod settling;
 mod source;
 mod turns;
 
+pub use around::Around;
 pub use error::{ReadError, ViewFault};
 pub use fetching::fetch;
 pub use gate::{Gate, OpenGate};

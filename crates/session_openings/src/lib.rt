@@ -13,8 +13,8 @@ mod resolving;
 pub use opening::open;
 pub use resolving::resolve;
 pub use sessions::{
-    Answer, Asked, Body, Command, CommitError, CommitRefused, DownWant, Gate, JoinForm, Kept,
-    Names, OpenGate, OpenPlan, ReadError, State, Txn, WriteError, abort, begin, commit, join,
+    Answer, Around, Asked, Body, Command, CommitError, CommitRefused, DownWant, Gate, JoinForm,
+    Kept, Names, OpenGate, OpenPlan, ReadError, State, Txn, WriteError, abort, begin, commit, join,
     open_given_in_turn, open_in_turn, read, read_command, refusal, resize, resize_in_turn, view,
     write,
 };

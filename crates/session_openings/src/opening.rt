@@ -27,13 +27,14 @@ use crate::leaves::{Wanted, leaf_wanted, unopened};
 use cells::Dense;
 use kv_face::KvStore;
 use sessions::{
-    Asked, Body, Names, OpenError, Opened, State, Txn, open_given_in_turn, open_in_turn,
+    Around, Asked, Body, Gate, Names, OpenError, Opened, State, Txn, open_given_in_turn,
+    open_in_turn,
 };
 use spec_open::{OpenPlan, SpecLeaf, Tree};
 use stack_driver::ArrayRef;
 use std::alloc::{AllocError, Global};
 use std::sync::Wait;
-use turn_book::{Pass, TurnBook};
+use turn_book::Pass;
 
 /// The arrays of the leaves that were opened, and the numbers of the events that were added.
 #[derive(Debug, Drop)]
@@ -44,53 +45,49 @@ pub(crate) struct OpenedArrays {
 
 /// Opens what a Spec asks for, and binds the name to its view. Each leaf takes one turn; arrays that were opened stay where a later leaf
 /// is refused. A failed call of the store is always answered as one.
-pub fn open<K: KvStore, R: Wait>(
-    alloc: Global,
-    rt: &R,
-    book: &TurnBook<State<K>>,
+pub fn open<K: KvStore, R: Wait, G: Gate>(
+    around: &Around<K, R, G>,
     pass: &mut Pass<State<K>>,
     names: &mut Names,
     txn: &Option<Txn>,
     name: &str,
     plan: OpenPlan,
 ) -> Body
-    requires pass { IsRested book.now pass.old }
-    requires plan { MayOpen book.now.fixed.store.names plan }
+    requires pass { IsRested around.now.book.now pass.old }
+    requires plan { MayOpen around.now.book.now.fixed.store.names plan }
     requires views { AreViews (get_by_text names.old) }
     requires known { AreKnownNames pass.old.seen (get_by_text names.old) }
-    ensures told { (line : ℕ) → IsToldBy book.now pass.old pass.new
+    ensures told { (line : ℕ) → IsToldBy around.now.book.now pass.old pass.new
         (session_state (get_by_text names.old) (length pass.old.seen) txn.now) line
         (opening name.now (leaves_of plan) (build_of plan)) (get_by_text names.new) (transaction_in txn.now) result }
     ensures events { AreTold (added_by pass.old pass.new) result }
     ensures bound { IsBoundOrNot pass.old pass.new plan name.now (get_by_text names.old)
         (get_by_text names.new) result }
-    ensures passed { HasPassed book.now pass.old pass.new }
+    ensures passed { HasPassed around.now.book.now pass.old pass.new }
     ensures views { AreViews (get_by_text names.new) }
     ensures known { AreKnownNames pass.new.seen (get_by_text names.new) }
 {
     if txn.is_some() {
         return Body::InTransaction;
     }
-    open_plan(alloc, rt, book, pass, names, name, plan)
+    open_plan(around, pass, names, name, plan)
 }
 
-fn open_plan<K: KvStore, R: Wait>(
-    alloc: Global,
-    rt: &R,
-    book: &TurnBook<State<K>>,
+fn open_plan<K: KvStore, R: Wait, G: Gate>(
+    around: &Around<K, R, G>,
     pass: &mut Pass<State<K>>,
     names: &mut Names,
     name: &str,
     plan: OpenPlan,
 ) -> Body
-    requires pass { IsRested book.now pass.old }
-    requires plan { MayOpen book.now.fixed.store.names plan }
-    ensures { IsLineOpened book.now pass.old pass.new (get_by_text names.old)
+    requires pass { IsRested around.now.book.now pass.old }
+    requires plan { MayOpen around.now.book.now.fixed.store.names plan }
+    ensures { IsLineOpened around.now.book.now pass.old pass.new (get_by_text names.old)
         (get_by_text names.new) name.now plan result }
 {
     let OpenPlan { leaves, tree } = plan;
-    match open_all(alloc, rt, book, pass, &tree, leaves.into_inner()) {
-        Ok(opened) => bound(alloc, names, name, &tree, opened),
+    match open_all(around, pass, &tree, leaves.into_inner()) {
+        Ok(opened) => bound(around.alloc, names, name, &tree, opened),
         Err(body) => body,
     }
 }
@@ -105,23 +102,21 @@ fn bound(alloc: Global, names: &mut Names, name: &str, tree: &Tree, opened: Open
 }
 
 // Opens all leaves of a tree, or answers why one isn't opened.
-fn open_all<K: KvStore, R: Wait>(
-    alloc: Global,
-    rt: &R,
-    book: &TurnBook<State<K>>,
+fn open_all<K: KvStore, R: Wait, G: Gate>(
+    around: &Around<K, R, G>,
     pass: &mut Pass<State<K>>,
     tree: &Tree,
     leaves: Vec<SpecLeaf>,
 ) -> Result<OpenedArrays, Body>
-    requires pass { IsRested book.now pass.old }
-    requires leaves { AllByRecursion (MayBeAsked book.now.fixed.store.names) (leaves_from tree.now 0 leaves.items) }
-    ensures ok { IfOk result (λ o. AreAllOpened book.now pass.old pass.new
+    requires pass { IsRested around.now.book.now pass.old }
+    requires leaves { AllByRecursion (MayBeAsked around.now.book.now.fixed.store.names) (leaves_from tree.now 0 leaves.items) }
+    ensures ok { IfOk result (λ o. AreAllOpened around.now.book.now pass.old pass.new
         (leaves_from tree.now 0 leaves.items) [] o.arrays.items o.events.items) }
-    ensures err { IfErr result (λ b. IsLeafRefused book.now pass.old pass.new (leaves_from tree.now 0 leaves.items) b) }
+    ensures err { IfErr result (λ b. IsLeafRefused around.now.book.now pass.old pass.new (leaves_from tree.now 0 leaves.items) b) }
 {
-    let mut opened = none_opened(alloc);
+    let mut opened = none_opened(around.alloc);
     for leaf in leaves {
-        match open_leaf(alloc, rt, book, pass, tree, leaf, opened) {
+        match open_leaf(around, pass, tree, leaf, opened) {
             Ok(more) => opened = more,
             Err(body) => return Err(body),
         }
@@ -139,86 +134,80 @@ fn none_opened(alloc: Global) -> OpenedArrays
 }
 
 // Opens one leaf more. Room for its array and its event's number is made before its turn.
-fn open_leaf<K: KvStore, R: Wait>(
-    alloc: Global,
-    rt: &R,
-    book: &TurnBook<State<K>>,
+fn open_leaf<K: KvStore, R: Wait, G: Gate>(
+    around: &Around<K, R, G>,
     pass: &mut Pass<State<K>>,
     tree: &Tree,
     leaf: SpecLeaf,
     opened: OpenedArrays,
 ) -> Result<OpenedArrays, Body>
-    requires pass { IsRested book.now pass.old }
-    requires leaf { MayBeAsked book.now.fixed.store.names
+    requires pass { IsRested around.now.book.now pass.old }
+    requires leaf { MayBeAsked around.now.book.now.fixed.store.names
         (leaf_of (unwrap_or (node_of (length opened.arrays.items) tree.now) []) leaf) }
-    ensures ok { IfOk result (λ o. OpensOne book.now pass.old pass.new
+    ensures ok { IfOk result (λ o. OpensOne around.now.book.now pass.old pass.new
         (leaf_of
         (unwrap_or
         (node_of
         (length opened.arrays.items) tree.now) []) leaf) opened.arrays.items opened.events.items o.arrays.items o.events.items) }
-    ensures err { IfErr result (λ b. RefusesOne book.now pass.old pass.new
+    ensures err { IfErr result (λ b. RefusesOne around.now.book.now pass.old pass.new
         (leaf_of
         (unwrap_or
         (node_of (length opened.arrays.items) tree.now) []) leaf) opened.arrays.items opened.events.items b) }
 {
     match with_room(opened) {
-        Ok(opened) => open_wanted(alloc, rt, book, pass, tree, leaf_wanted(leaf), opened),
+        Ok(opened) => open_wanted(around, pass, tree, leaf_wanted(leaf), opened),
         Err(_) => Err(Body::Memory),
     }
 }
 
-fn open_wanted<K: KvStore, R: Wait>(
-    alloc: Global,
-    rt: &R,
-    book: &TurnBook<State<K>>,
+fn open_wanted<K: KvStore, R: Wait, G: Gate>(
+    around: &Around<K, R, G>,
     pass: &mut Pass<State<K>>,
     tree: &Tree,
     wanted: Wanted,
     opened: OpenedArrays,
 ) -> Result<OpenedArrays, Body>
-    requires pass { IsRested book.now pass.old }
-    requires leaf { MayBeAsked book.now.fixed.store.names
+    requires pass { IsRested around.now.book.now pass.old }
+    requires leaf { MayBeAsked around.now.book.now.fixed.store.names
         (wanted_leaf (unwrap_or (node_of (length opened.arrays.items) tree.now) []) wanted) }
     requires room { HasRoom opened }
-    ensures ok { IfOk result (λ o. OpensOne book.now pass.old pass.new
+    ensures ok { IfOk result (λ o. OpensOne around.now.book.now pass.old pass.new
         (wanted_leaf
         (unwrap_or
         (node_of
         (length opened.arrays.items) tree.now) []) wanted) opened.arrays.items opened.events.items o.arrays.items o.events.items) }
-    ensures err { IfErr result (λ b. RefusesOne book.now pass.old pass.new
+    ensures err { IfErr result (λ b. RefusesOne around.now.book.now pass.old pass.new
         (wanted_leaf
         (unwrap_or
         (node_of (length opened.arrays.items) tree.now) []) wanted) opened.arrays.items opened.events.items b) }
 {
     match wanted {
-        Wanted::Stored { asked } => open_stored(alloc, rt, book, pass, tree, &asked, opened),
-        Wanted::Given { start } => open_given(rt, book, pass, start, opened),
+        Wanted::Stored { asked } => open_stored(around, pass, tree, &asked, opened),
+        Wanted::Given { start } => open_given(around, pass, start, opened),
     }
 }
 
-fn open_stored<K: KvStore, R: Wait>(
-    alloc: Global,
-    rt: &R,
-    book: &TurnBook<State<K>>,
+fn open_stored<K: KvStore, R: Wait, G: Gate>(
+    around: &Around<K, R, G>,
     pass: &mut Pass<State<K>>,
     tree: &Tree,
     asked: &Asked,
     opened: OpenedArrays,
 ) -> Result<OpenedArrays, Body>
-    requires pass { IsRested book.now pass.old }
+    requires pass { IsRested around.now.book.now pass.old }
     requires mount { IsMount asked.now.mount }
-    requires taken { TakesMount book.now.fixed.store.names asked.now.mount }
+    requires taken { TakesMount around.now.book.now.fixed.store.names asked.now.mount }
     requires room { HasRoom opened }
-    ensures ok { IfOk result (λ o. OpensOne book.now pass.old pass.new
+    ensures ok { IfOk result (λ o. OpensOne around.now.book.now pass.old pass.new
         (stored (unwrap_or (node_of (length opened.arrays.items) tree.now) [])
         (asked_leaf asked.now)) opened.arrays.items opened.events.items o.arrays.items o.events.items) }
-    ensures err { IfErr result (λ b. RefusesOne book.now pass.old pass.new
+    ensures err { IfErr result (λ b. RefusesOne around.now.book.now pass.old pass.new
         (stored (unwrap_or (node_of (length opened.arrays.items) tree.now) [])
         (asked_leaf asked.now)) opened.arrays.items opened.events.items b) }
 {
-    match open_in_turn(rt, book, pass, asked) {
+    match open_in_turn(around.rt, around.book, pass, asked) {
         Ok(found) => Ok(with_array(opened, found)),
-        Err(e) => Err(refused(alloc, tree, asked, e, opened)),
+        Err(e) => Err(refused(around.alloc, tree, asked, e, opened)),
     }
 }
 
@@ -231,22 +220,21 @@ fn refused(alloc: Global, tree: &Tree, asked: &Asked, e: OpenError, opened: Open
     unopened(alloc, tree, arrays.as_slice().len(), asked, e, events)
 }
 
-fn open_given<K: KvStore, R: Wait>(
-    rt: &R,
-    book: &TurnBook<State<K>>,
+fn open_given<K: KvStore, R: Wait, G: Gate>(
+    around: &Around<K, R, G>,
     pass: &mut Pass<State<K>>,
     start: Dense,
     opened: OpenedArrays,
 ) -> Result<OpenedArrays, Body>
-    requires pass { IsRested book.now pass.old }
+    requires pass { IsRested around.now.book.now pass.old }
     requires small { cell_count (map (max 1) start.shape) ≤ 2 ^ 22 }
     requires room { HasRoom opened }
-    ensures ok { IfOk result (λ o. OpensOne book.now pass.old pass.new
+    ensures ok { IfOk result (λ o. OpensOne around.now.book.now pass.old pass.new
         (given start) opened.arrays.items opened.events.items o.arrays.items o.events.items) }
-    ensures err { IfErr result (λ b. RefusesOne book.now pass.old pass.new
+    ensures err { IfErr result (λ b. RefusesOne around.now.book.now pass.old pass.new
         (given start) opened.arrays.items opened.events.items b) }
 {
-    match open_given_in_turn(rt, book, pass, start) {
+    match open_given_in_turn(around.rt, around.book, pass, start) {
         Ok(found) => Ok(with_array(opened, found)),
         Err(_) => Err(Body::Memory),
     }

@@ -24,27 +24,26 @@ ghost use Rattle.stack_driver.specs.declared.view.View.{View as ViewOf};
 use cells::Name;
 use kv_face::KvStore;
 use sessions::{
-    Body, Names, State, Txn, bound_with, bounds_in_turn, named, transform_has_few_lists,
+    Around, Body, Gate, Names, State, Txn, bound_with, bounds_in_turn, named,
+    transform_has_few_lists,
 };
 use stack_driver::{RenewError, View, array_of, dtype, renew, transform_of};
 use std::alloc::{AllocError, Global};
 use std::sync::Wait;
-use turn_book::{Pass, TurnBook};
+use turn_book::Pass;
 
 /// Binds a name to its view with the bounds that the view's array has now, which one turn tells.
-pub fn resolve<K: KvStore, R: Wait>(
-    alloc: Global,
-    rt: &R,
-    book: &TurnBook<State<K>>,
+pub fn resolve<K: KvStore, R: Wait, G: Gate>(
+    around: &Around<K, R, G>,
     pass: &mut Pass<State<K>>,
     names: &mut Names,
     txn: &Option<Txn>,
     name: &str,
 ) -> Body
-    requires pass { IsRested book.now pass.old }
+    requires pass { IsRested around.now.book.now pass.old }
     requires views { AreViews (get_by_text names.old) }
     requires known { AreKnownNames pass.old.seen (get_by_text names.old) }
-    ensures told { (line : ℕ) → IsToldBy book.now pass.old pass.new
+    ensures told { (line : ℕ) → IsToldBy around.now.book.now pass.old pass.new
         (session_state (get_by_text names.old) (length pass.old.seen) txn.now) line (resolving name.now)
         (get_by_text names.new) (transaction_in txn.now) result }
     ensures anywhere { (fixed : Fixed) (line : ℕ)
@@ -52,12 +51,12 @@ pub fn resolve<K: KvStore, R: Wait>(
         (session_state (get_by_text names.old) (length pass.old.seen) txn.now) line (resolving name.now)
         (get_by_text names.new) (transaction_in txn.now) result [] }
     ensures none { added_by pass.old pass.new ≡ [] }
-    ensures passed { HasPassed book.now pass.old pass.new }
+    ensures passed { HasPassed around.now.book.now pass.old pass.new }
     ensures views { AreViews (get_by_text names.new) }
     ensures known { AreKnownNames pass.new.seen (get_by_text names.new) }
 {
-    match asked(alloc, names, txn, name) {
-        Ok(view) => resolved(alloc, rt, book, pass, names, name, view),
+    match asked(around.alloc, names, txn, name) {
+        Ok(view) => resolved(around, pass, names, name, view),
         Err(body) => body,
     }
 }
@@ -104,26 +103,24 @@ fn has_array(view: &View) -> bool
     }
 }
 
-fn resolved<K: KvStore, R: Wait>(
-    alloc: Global,
-    rt: &R,
-    book: &TurnBook<State<K>>,
+fn resolved<K: KvStore, R: Wait, G: Gate>(
+    around: &Around<K, R, G>,
     pass: &mut Pass<State<K>>,
     names: &mut Names,
     name: &str,
     view: View,
 ) -> Body
-    requires pass { IsRested book.now pass.old }
+    requires pass { IsRested around.now.book.now pass.old }
     requires array { (r : Reference) × (array_of view ≡ Some r) × IsReference r }
     requires view { IsView view }
     requires known { HasKnownRefs pass.old.seen view }
-    ensures turn { IsTurn book.now pass.old pass.new pass.new.seen [] }
+    ensures turn { IsTurn around.now.book.now pass.old pass.new pass.new.seen [] }
     ensures answer { (r : Reference) → array_of view ≡ Some r
         → IsRenewed (shape_after pass.new.seen r.number) name.now view (get_by_text names.old)
         (get_by_text names.new) result }
 {
-    match bounds_in_turn(rt, book, pass, array_number(&view)) {
-        Ok(bounds) => renewed(alloc, names, name, view, bounds.shape.items()),
+    match bounds_in_turn(around.rt, around.book, pass, array_number(&view)) {
+        Ok(bounds) => renewed(around.alloc, names, name, view, bounds.shape.items()),
         Err(_) => Body::Memory,
     }
 }

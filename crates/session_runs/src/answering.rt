@@ -15,38 +15,33 @@ use history::Mode;
 use kv_face::KvStore;
 use line_parts::LineError;
 use session_openings::{
-    Body, Command, Gate, Names, State, Txn, abort, begin, commit, read_command, refusal,
+    Around, Body, Command, Gate, Names, State, Txn, abort, begin, commit, read_command, refusal,
 };
 use std::alloc::Global;
 use std::sync::Wait;
-use turn_book::{Pass, TurnBook};
+use turn_book::Pass;
 
 /// What the bytes of a line are answered, where these are the names of the mounts.
 pub(crate) fn answered<K: KvStore, R: Wait, G: Gate>(
-    alloc: Global,
-    rt: &R,
-    book: &TurnBook<State<K>>,
+    around: &Around<K, R, G>,
     pass: &mut Pass<State<K>>,
     names: &mut Names,
     txn: &mut Option<Txn>,
     mounts: &[Name],
     line: u64,
     bytes: &[u8],
-    gate: &G,
 ) -> Body
-    requires on { MayGoOn book.now pass.old (get_by_text names.old) txn.old }
-    requires mounts { HasMounts book.now mounts.now }
-    ensures told { IsLineTold book.now pass.old pass.new (get_by_text names.old) txn.old line
+    requires on { MayGoOn around.now.book.now pass.old (get_by_text names.old) txn.old }
+    requires mounts { HasMounts around.now.book.now mounts.now }
+    ensures told { IsLineTold around.now.book.now pass.old pass.new (get_by_text names.old) txn.old line
         (line_of_bytes mounts.now bytes.now) (get_by_text names.new) txn.new result }
     ensures failures { TellsFailures (added_by pass.old pass.new) result }
-    ensures passed { HasPassed book.now pass.old pass.new }
-    ensures on { result ≢ printed.Memory → MayGoOn book.now pass.new (get_by_text names.new) txn.new }
+    ensures passed { HasPassed around.now.book.now pass.old pass.new }
+    ensures on { result ≢ printed.Memory → MayGoOn around.now.book.now pass.new (get_by_text names.new) txn.new }
 {
-    match read_command(alloc, bytes, mounts) {
-        Ok(command) => obeyed(
-            alloc, rt, book, pass, names, txn, mounts, line, command, gate,
-        ),
-        Err(error) => refused(alloc, error),
+    match read_command(around.alloc, bytes, mounts) {
+        Ok(command) => obeyed(around, pass, names, txn, mounts, line, command),
+        Err(error) => refused(around.alloc, error),
     }
 }
 
@@ -61,58 +56,51 @@ fn refused(alloc: Global, error: LineError) -> Body
 
 // What a command is answered.
 fn obeyed<K: KvStore, R: Wait, G: Gate>(
-    alloc: Global,
-    rt: &R,
-    book: &TurnBook<State<K>>,
+    around: &Around<K, R, G>,
     pass: &mut Pass<State<K>>,
     names: &mut Names,
     txn: &mut Option<Txn>,
     mounts: &[Name],
     line: u64,
     command: Command,
-    gate: &G,
 ) -> Body
-    requires on { MayGoOn book.now pass.old (get_by_text names.old) txn.old }
-    requires mounts { HasMounts book.now mounts.now }
+    requires on { MayGoOn around.now.book.now pass.old (get_by_text names.old) txn.old }
+    requires mounts { HasMounts around.now.book.now mounts.now }
     requires sound { IsSound mounts.now command }
-    ensures told { IsLineTold book.now pass.old pass.new (get_by_text names.old) txn.old line
+    ensures told { IsLineTold around.now.book.now pass.old pass.new (get_by_text names.old) txn.old line
         (line_of (form_of command)) (get_by_text names.new) txn.new result }
     ensures failures { TellsFailures (added_by pass.old pass.new) result }
-    ensures passed { HasPassed book.now pass.old pass.new }
-    ensures on { result ≢ printed.Memory → MayGoOn book.now pass.new (get_by_text names.new) txn.new }
+    ensures passed { HasPassed around.now.book.now pass.old pass.new }
+    ensures on { result ≢ printed.Memory → MayGoOn around.now.book.now pass.new (get_by_text names.new) txn.new }
 {
     match command {
-        Command::Open { name, plan } => opened(alloc, rt, book, pass, names, txn, name, plan),
+        Command::Open { name, plan } => opened(around, pass, names, txn, name, plan),
         Command::View {
             name,
             of,
             transform,
             steps,
-        } => viewed(alloc, names, name, of, transform, steps),
+        } => viewed(around.alloc, names, name, of, transform, steps),
         Command::Join {
             name,
             form,
             layers,
             transform,
             steps,
-        } => joined(alloc, names, name, form, layers, transform, steps),
+        } => joined(around.alloc, names, name, form, layers, transform, steps),
         Command::Read { name, steps, down } => {
-            shown(
-                alloc, rt, book, pass, names, line, txn, name, steps, down, gate,
-            )
+            shown(around, pass, names, line, txn, name, steps, down)
         }
         Command::Write {
             name,
             steps,
             values,
-        } => written(
-            alloc, rt, book, pass, names, line, txn, name, steps, values, gate,
-        ),
+        } => written(around, pass, names, line, txn, name, steps, values),
         Command::Begin {
             atomic,
             repeatable_read,
         } => begin(
-            alloc,
+            around.alloc,
             line,
             Mode {
                 atomic,
@@ -120,9 +108,9 @@ fn obeyed<K: KvStore, R: Wait, G: Gate>(
             },
             txn,
         ),
-        Command::Commit => commit(alloc, rt, book, pass, txn, gate),
+        Command::Commit => commit(around, pass, txn),
         Command::Abort => abort(line, txn),
-        Command::Resize { name, shape } => resized(alloc, rt, book, pass, names, txn, name, shape),
-        Command::Resolve { name } => resolved(alloc, rt, book, pass, names, txn, name),
+        Command::Resize { name, shape } => resized(around, pass, names, txn, name, shape),
+        Command::Resolve { name } => resolved(around, pass, names, txn, name),
     }
 }

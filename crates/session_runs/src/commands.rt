@@ -27,38 +27,36 @@ use index_transform::Transform;
 use kv_face::KvStore;
 use serde_json::Value;
 use session_openings::{
-    Body, DownWant, Gate, JoinForm, Names, OpenPlan, State, Txn, join, open, read, resize, resolve,
-    view, write,
+    Around, Body, DownWant, Gate, JoinForm, Names, OpenPlan, State, Txn, join, open, read, resize,
+    resolve, view, write,
 };
 use std::alloc::Global;
 use std::sync::Wait;
 use step_forms::Step;
-use turn_book::{Pass, TurnBook};
+use turn_book::Pass;
 
 /// Opens what a Spec tells.
-pub(crate) fn opened<K: KvStore, R: Wait>(
-    alloc: Global,
-    rt: &R,
-    book: &TurnBook<State<K>>,
+pub(crate) fn opened<K: KvStore, R: Wait, G: Gate>(
+    around: &Around<K, R, G>,
     pass: &mut Pass<State<K>>,
     names: &mut Names,
     txn: &Option<Txn>,
     name: Name,
     plan: OpenPlan,
 ) -> Body
-    requires pass { IsRested book.now pass.old }
+    requires pass { IsRested around.now.book.now pass.old }
     requires views { AreViews (get_by_text names.old) }
     requires known { AreKnownNames pass.old.seen (get_by_text names.old) }
-    requires plan { MayOpen book.now.fixed.store.names plan }
-    ensures told { (line : ℕ) → IsToldBy book.now pass.old pass.new
+    requires plan { MayOpen around.now.book.now.fixed.store.names plan }
+    ensures told { (line : ℕ) → IsToldBy around.now.book.now pass.old pass.new
         (session_state (get_by_text names.old) (length pass.old.seen) txn.now) line
         (opening name (leaves_of plan) (build_of plan)) (get_by_text names.new) (transaction_in txn.now) result }
     ensures failures { TellsFailures (added_by pass.old pass.new) result }
-    ensures passed { HasPassed book.now pass.old pass.new }
+    ensures passed { HasPassed around.now.book.now pass.old pass.new }
     ensures views { AreViews (get_by_text names.new) }
     ensures known { AreKnownNames pass.new.seen (get_by_text names.new) }
 {
-    open(alloc, rt, book, pass, names, txn, name.items(), plan)
+    open(around, pass, names, txn, name.items(), plan)
 }
 
 /// Binds a name to the view of another.
@@ -123,9 +121,7 @@ pub(crate) fn joined(
 
 /// Reads a view.
 pub(crate) fn shown<K: KvStore, R: Wait, G: Gate>(
-    alloc: Global,
-    rt: &R,
-    book: &TurnBook<State<K>>,
+    around: &Around<K, R, G>,
     pass: &mut Pass<State<K>>,
     names: &Names,
     line: u64,
@@ -133,24 +129,21 @@ pub(crate) fn shown<K: KvStore, R: Wait, G: Gate>(
     name: Name,
     steps: List<Step>,
     down: Option<DownWant>,
-    gate: &G,
 ) -> Body
-    requires pass { IsRested book.now pass.old }
+    requires pass { IsRested around.now.book.now pass.old }
     requires given { All IsGiven steps }
     requires factors { MayHaveFactors down }
     requires views { AreViews (get_by_text names.now) }
     requires known { AreKnownNames pass.old.seen (get_by_text names.now) }
-    requires txn { HasSoundTxn book.now.fixed pass.old.seen txn.old }
-    ensures told { IsReadTold book.now pass.old pass.new (get_by_text names.now) txn.old txn.new line
+    requires txn { HasSoundTxn around.now.book.now.fixed pass.old.seen txn.old }
+    ensures told { IsReadTold around.now.book.now pass.old pass.new (get_by_text names.now) txn.old txn.new line
         (reading name (changes_of None steps) (downsampling_of down)) result }
     ensures failures { TellsFailures (added_by pass.old pass.new) result }
-    ensures passed { HasPassed book.now pass.old pass.new }
-    ensures txn { HasSoundTxn book.now.fixed pass.new.seen txn.new }
+    ensures passed { HasPassed around.now.book.now pass.old pass.new }
+    ensures txn { HasSoundTxn around.now.book.now.fixed pass.new.seen txn.new }
 {
     read(
-        alloc,
-        rt,
-        book,
+        around,
         pass,
         names,
         line,
@@ -158,15 +151,12 @@ pub(crate) fn shown<K: KvStore, R: Wait, G: Gate>(
         name.items(),
         steps.items(),
         &down,
-        gate,
     )
 }
 
 /// Writes values to a view.
 pub(crate) fn written<K: KvStore, R: Wait, G: Gate>(
-    alloc: Global,
-    rt: &R,
-    book: &TurnBook<State<K>>,
+    around: &Around<K, R, G>,
     pass: &mut Pass<State<K>>,
     names: &Names,
     line: u64,
@@ -174,25 +164,22 @@ pub(crate) fn written<K: KvStore, R: Wait, G: Gate>(
     name: Name,
     steps: List<Step>,
     values: Value,
-    gate: &G,
 ) -> Body
-    requires pass { IsRested book.now pass.old }
+    requires pass { IsRested around.now.book.now pass.old }
     requires given { All IsGiven steps }
     requires views { AreViews (get_by_text names.now) }
     requires known { AreKnownNames pass.old.seen (get_by_text names.now) }
-    requires txn { HasSoundTxn book.now.fixed pass.old.seen txn.old }
-    ensures told { IsToldBy book.now pass.old pass.new
+    requires txn { HasSoundTxn around.now.book.now.fixed pass.old.seen txn.old }
+    ensures told { IsToldBy around.now.book.now pass.old pass.new
         (session_state (get_by_text names.now) (length pass.old.seen) txn.old) line
         (writing name (changes_of None steps) (values_of (data_in values))) (get_by_text names.now)
         (transaction_in txn.new) result }
     ensures failures { TellsFailures (added_by pass.old pass.new) result }
-    ensures passed { HasPassed book.now pass.old pass.new }
-    ensures txn { result ≢ printed.Memory → HasSoundTxn book.now.fixed pass.new.seen txn.new }
+    ensures passed { HasPassed around.now.book.now pass.old pass.new }
+    ensures txn { result ≢ printed.Memory → HasSoundTxn around.now.book.now.fixed pass.new.seen txn.new }
 {
     write(
-        alloc,
-        rt,
-        book,
+        around,
         pass,
         names,
         line,
@@ -200,62 +187,48 @@ pub(crate) fn written<K: KvStore, R: Wait, G: Gate>(
         name.items(),
         steps.items(),
         values,
-        gate,
     )
 }
 
 /// Gives the array of a view another shape.
-pub(crate) fn resized<K: KvStore, R: Wait>(
-    alloc: Global,
-    rt: &R,
-    book: &TurnBook<State<K>>,
+pub(crate) fn resized<K: KvStore, R: Wait, G: Gate>(
+    around: &Around<K, R, G>,
     pass: &mut Pass<State<K>>,
     names: &Names,
     txn: &Option<Txn>,
     name: Name,
     shape: Sizes,
 ) -> Body
-    requires pass { IsRested book.now pass.old }
+    requires pass { IsRested around.now.book.now pass.old }
     requires known { AreKnownNames pass.old.seen (get_by_text names.now) }
     requires sizes { IsShape shape }
-    ensures told { (line : ℕ) → IsToldBy book.now pass.old pass.new
+    ensures told { (line : ℕ) → IsToldBy around.now.book.now pass.old pass.new
         (session_state (get_by_text names.now) (length pass.old.seen) txn.now) line (resizing name shape)
         (get_by_text names.now) (transaction_in txn.now) result }
     ensures failures { TellsFailures (added_by pass.old pass.new) result }
-    ensures passed { HasPassed book.now pass.old pass.new }
+    ensures passed { HasPassed around.now.book.now pass.old pass.new }
 {
-    resize(
-        alloc,
-        rt,
-        book,
-        pass,
-        names,
-        txn,
-        name.items(),
-        shape.items(),
-    )
+    resize(around, pass, names, txn, name.items(), shape.items())
 }
 
 /// Takes the bounds of a view anew.
-pub(crate) fn resolved<K: KvStore, R: Wait>(
-    alloc: Global,
-    rt: &R,
-    book: &TurnBook<State<K>>,
+pub(crate) fn resolved<K: KvStore, R: Wait, G: Gate>(
+    around: &Around<K, R, G>,
     pass: &mut Pass<State<K>>,
     names: &mut Names,
     txn: &Option<Txn>,
     name: Name,
 ) -> Body
-    requires pass { IsRested book.now pass.old }
+    requires pass { IsRested around.now.book.now pass.old }
     requires views { AreViews (get_by_text names.old) }
     requires known { AreKnownNames pass.old.seen (get_by_text names.old) }
-    ensures told { (line : ℕ) → IsToldBy book.now pass.old pass.new
+    ensures told { (line : ℕ) → IsToldBy around.now.book.now pass.old pass.new
         (session_state (get_by_text names.old) (length pass.old.seen) txn.now) line (resolving name)
         (get_by_text names.new) (transaction_in txn.now) result }
     ensures failures { TellsFailures (added_by pass.old pass.new) result }
-    ensures passed { HasPassed book.now pass.old pass.new }
+    ensures passed { HasPassed around.now.book.now pass.old pass.new }
     ensures views { AreViews (get_by_text names.new) }
     ensures known { AreKnownNames pass.new.seen (get_by_text names.new) }
 {
-    resolve(alloc, rt, book, pass, names, txn, name.items())
+    resolve(around, pass, names, txn, name.items())
 }

@@ -12,6 +12,6 @@ mod session;
 pub use scripts::run_script;
 pub use session::Session;
 pub use session_openings::{
-    Asked, CommitError, CommitRefused, Gate, Kept, OpenGate, ReadError, State, Txn, WriteError,
-    open_given_in_turn, open_in_turn, resize_in_turn,
+    Around, Asked, CommitError, CommitRefused, Gate, Kept, OpenGate, ReadError, State, Txn,
+    WriteError, open_given_in_turn, open_in_turn, resize_in_turn,
 };

@@ -15,10 +15,10 @@ use crate::answering::answered;
 use cells::Name;
 use indexmap::IndexMap;
 use kv_face::KvStore;
-use session_openings::{Answer, Body, Gate, Names, State, Txn};
+use session_openings::{Answer, Around, Body, Gate, Names, State, Txn};
 use std::alloc::{AllocError, Global};
 use std::sync::Wait;
-use turn_book::{Pass, TurnBook};
+use turn_book::Pass;
 
 /// A session: its pass over a book, the views that its names are bound to, the transaction that stands, and what it has answered.
 #[derive(Drop)]
@@ -57,21 +57,18 @@ impl<K: KvStore> Session<K> {
     /// There was no memory for the answer: none is added, nothing is done, and the session has ended. It is else as it was.
     pub fn step<R: Wait, G: Gate>(
         &mut self,
-        alloc: Global,
-        rt: &R,
-        book: &TurnBook<State<K>>,
+        around: &Around<K, R, G>,
         mounts: &[Name],
         line: u64,
         bytes: &[u8],
-        gate: &G,
     ) -> Result<(), AllocError>
         requires going { self.old.ended ≡ false }
-        requires on { MayGoOn book.now self.old.pass (get_by_text self.old.names) self.old.txn }
-        requires mounts { HasMounts book.now mounts.now }
+        requires on { MayGoOn around.now.book.now self.old.pass (get_by_text self.old.names) self.old.txn }
+        requires mounts { HasMounts around.now.book.now mounts.now }
         ensures run { OnOk result ((lines : List (Option Line)) → line ≡ length lines + 1
-            → IsSessionOn book.now (session_with self.old.pass
+            → IsSessionOn around.now.book.now (session_with self.old.pass
             (get_by_text self.old.names) self.old.txn self.old.log.items self.old.ended) lines
-            → IsSessionOn book.now (session_with self.new.pass
+            → IsSessionOn around.now.book.now (session_with self.new.pass
             (get_by_text self.new.names) self.new.txn self.new.log.items self.new.ended)
             (lines ++ Some (line_of_bytes mounts.now bytes.now) ∷ [])) }
         ensures log { OnOk result ((body : BodyOf)
@@ -80,8 +77,8 @@ impl<K: KvStore> Session<K> {
         ensures failures { OnOk result ((body : BodyOf)
             × (self.new.log.items ≡ self.old.log.items ++ record { line = line; body = body } ∷ [])
             × TellsFailures (added_by self.old.pass self.new.pass) body) }
-        ensures passed { HasPassed book.now self.old.pass self.new.pass }
-        ensures on { self.new.ended ≡ false → MayGoOn book.now self.new.pass (get_by_text self.new.names) self.new.txn }
+        ensures passed { HasPassed around.now.book.now self.old.pass self.new.pass }
+        ensures on { self.new.ended ≡ false → MayGoOn around.now.book.now self.new.pass (get_by_text self.new.names) self.new.txn }
         ensures ended { OnErr result (self.new.ended ≡ true) }
         ensures same { OnErr result ((self.new.pass ≡ self.old.pass) × (self.new.log.items ≡ self.old.log.items)) }
         ensures names { OnErr result (get_by_text self.new.names ≡ get_by_text self.old.names) }
@@ -91,18 +88,15 @@ impl<K: KvStore> Session<K> {
             self.ended = true;
             return Err(AllocError);
         }
-        gate.before(rt, self.pass.number(), line);
+        around.gate.before(around.rt, self.pass.number(), line);
         let body = answered(
-            alloc,
-            rt,
-            book,
+            around,
             &mut self.pass,
             &mut self.names,
             &mut self.txn,
             mounts,
             line,
             bytes,
-            gate,
         );
         self.ended = is_memory(&body);
         self.log.push_reserved(Answer { line, body });

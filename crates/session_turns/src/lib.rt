@@ -18,6 +18,6 @@ pub use line_acts::{
 };
 pub use state_resizes::{Bounds, OpenError, Opened, ResizeError};
 pub use transactions::{
-    CommitError, CommitRefused, Gate, Kept, OpenGate, ReadError, State, Txn, WriteError,
+    Around, CommitError, CommitRefused, Gate, Kept, OpenGate, ReadError, State, Txn, WriteError,
 };
 pub use turns::{bounds_in_turn, open_given_in_turn, open_in_turn, resize_in_turn};

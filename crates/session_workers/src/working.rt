@@ -8,7 +8,7 @@ ghost use Rattle.session_workers.specs.Workers.{IsFresh, IsWorked, AreWorked};
 use crate::dealing::Worker;
 use cells::Name;
 use kv_face::KvStore;
-use session_runs::{Gate, Session, run_script};
+use session_runs::{Around, Gate, Session, run_script};
 use shared_state::State;
 use std::alloc::Global;
 use std::sync::Wait;
@@ -165,13 +165,11 @@ fn run_one<K: KvStore, R: Wait, G: Gate>(
         (get_by_text session.new.names) session.new.txn session.new.log.items session.new.ended) }
 {
     let place = session.pass.number() as usize;
-    run_script(
+    let around = Around {
         alloc,
         rt,
         book,
-        mounts,
-        session,
-        scripts[place].as_slice(),
         gate,
-    );
+    };
+    run_script(&around, mounts, session, scripts[place].as_slice());
 }

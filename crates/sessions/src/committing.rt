@@ -8,50 +8,43 @@ ghost use Rattle.sessions.specs.Commits.{HasSoundTxn, IsCommittedAs, IsCommitTol
 ghost use Rattle.turn_book.specs.Passes.{IsIdle};
 
 use kv_face::KvStore;
-use session_turns::{Body, CommitError, CommitRefused, Gate, State, Txn, damaged};
-use std::alloc::Global;
+use session_turns::{Around, Body, CommitError, CommitRefused, Gate, State, Txn, damaged};
 use std::sync::Wait;
-use turn_book::{Pass, TurnBook};
+use turn_book::Pass;
 
 /// Commits the transaction that stands. It stands on where a chunk was damaged, and where the store failed before anything of it was
 /// done.
 pub fn commit<K: KvStore, R: Wait, G: Gate>(
-    alloc: Global,
-    rt: &R,
-    book: &TurnBook<State<K>>,
+    around: &Around<K, R, G>,
     pass: &mut Pass<State<K>>,
     txn: &mut Option<Txn>,
-    gate: &G,
 ) -> Body
-    requires pass { IsRested book.now pass.old }
-    requires txn { HasSoundTxn book.now.fixed pass.old.seen txn.old }
-    ensures told { IsCommitTold book.now pass.old pass.new txn.old txn.new result }
+    requires pass { IsRested around.now.book.now pass.old }
+    requires txn { HasSoundTxn around.now.book.now.fixed pass.old.seen txn.old }
+    ensures told { IsCommitTold around.now.book.now pass.old pass.new txn.old txn.new result }
     ensures failures { TellsFailures (added_by pass.old pass.new) result }
-    ensures passed { HasPassed book.now pass.old pass.new }
-    ensures txn { HasSoundTxn book.now.fixed pass.new.seen txn.new }
+    ensures passed { HasPassed around.now.book.now pass.old pass.new }
+    ensures txn { HasSoundTxn around.now.book.now.fixed pass.new.seen txn.new }
 {
     match txn.take() {
-        Some(t) => committed(alloc, rt, book, pass, txn, t, gate),
+        Some(t) => committed(around, pass, txn, t),
         None => Body::NoTransaction,
     }
 }
 
 // Commits a transaction, and puts it back where it stands on.
 fn committed<K: KvStore, R: Wait, G: Gate>(
-    alloc: Global,
-    rt: &R,
-    book: &TurnBook<State<K>>,
+    around: &Around<K, R, G>,
     pass: &mut Pass<State<K>>,
     txn: &mut Option<Txn>,
     t: Txn,
-    gate: &G,
 ) -> Body
-    requires pass { IsIdle book.now pass.old }
+    requires pass { IsIdle around.now.book.now pass.old }
     requires none { txn.old ≡ None }
-    requires sound { HasSoundTxn book.now.fixed pass.old.seen (Some t) }
-    ensures { IsCommittedAs book.now pass.old pass.new t txn.new result }
+    requires sound { HasSoundTxn around.now.book.now.fixed pass.old.seen (Some t) }
+    ensures { IsCommittedAs around.now.book.now pass.old pass.new t txn.new result }
 {
-    match t.commit(alloc, rt, book, pass, gate) {
+    match t.commit(around, pass) {
         Ok(numbers) => Body::Committed { events: numbers },
         Err(e) => refused(txn, e),
     }

@@ -19,9 +19,9 @@ pub use joining::join;
 pub use reading::read;
 pub use resizing::resize;
 pub use session_turns::{
-    Answer, Asked, Body, Bounds, Command, CommitError, CommitRefused, DownWant, Gate, JoinForm,
-    Kept, Names, OpenError, OpenGate, OpenPlan, Opened, ReadError, State, Txn, WriteError,
-    bad_metadata, bound_with, bounds_in_turn, named, open_given_in_turn, open_in_turn,
+    Answer, Around, Asked, Body, Bounds, Command, CommitError, CommitRefused, DownWant, Gate,
+    JoinForm, Kept, Names, OpenError, OpenGate, OpenPlan, Opened, ReadError, State, Txn,
+    WriteError, bad_metadata, bound_with, bounds_in_turn, named, open_given_in_turn, open_in_turn,
     read_command, refusal, resize_in_turn, transform_has_few_lists,
 };
 pub use staging::write;

@@ -27,21 +27,19 @@ use cells::List;
 use history::Mode;
 use kv_face::KvStore;
 use session_turns::{
-    Body, DownWant, Gate, Names, ReadError, State, Txn, asked_read, damaged, fault_body,
+    Around, Body, DownWant, Gate, Names, ReadError, State, Txn, asked_read, damaged, fault_body,
     values_body,
 };
 use stack_driver::View;
 use std::alloc::Global;
 use std::sync::Wait;
 use step_forms::Step;
-use turn_book::{Pass, TurnBook};
+use turn_book::Pass;
 
 /// Reads the words of a view, and downsamples them where factors are given: in the transaction that stands, and as a transaction of its own
 /// where none does.
 pub fn read<K: KvStore, R: Wait, G: Gate>(
-    alloc: Global,
-    rt: &R,
-    book: &TurnBook<State<K>>,
+    around: &Around<K, R, G>,
     pass: &mut Pass<State<K>>,
     names: &Names,
     line: u64,
@@ -49,71 +47,64 @@ pub fn read<K: KvStore, R: Wait, G: Gate>(
     name: &str,
     steps: &[Step],
     down: &Option<DownWant>,
-    gate: &G,
 ) -> Body
-    requires pass { IsRested book.now pass.old }
+    requires pass { IsRested around.now.book.now pass.old }
     requires given { All IsGiven steps.now }
     requires factors { MayHaveFactors down.now }
     requires views { AreViews (get_by_text names.now) }
     requires known { AreKnownNames pass.old.seen (get_by_text names.now) }
-    requires txn { HasSoundTxn book.now.fixed pass.old.seen txn.old }
-    ensures told { IsReadTold book.now pass.old pass.new (get_by_text names.now) txn.old txn.new line
+    requires txn { HasSoundTxn around.now.book.now.fixed pass.old.seen txn.old }
+    ensures told { IsReadTold around.now.book.now pass.old pass.new (get_by_text names.now) txn.old txn.new line
         (reading name.now (changes_of None steps.now) (downsampling_of down.now)) result }
     ensures failures { TellsFailures (added_by pass.old pass.new) result }
-    ensures passed { HasPassed book.now pass.old pass.new }
-    ensures txn { HasSoundTxn book.now.fixed pass.new.seen txn.new }
+    ensures passed { HasPassed around.now.book.now pass.old pass.new }
+    ensures txn { HasSoundTxn around.now.book.now.fixed pass.new.seen txn.new }
 {
-    match asked_read(alloc, names, name, steps, down) {
-        Ok(v) => answered(alloc, rt, book, pass, line, txn, &v, down, gate),
+    match asked_read(around.alloc, names, name, steps, down) {
+        Ok(v) => answered(around, pass, line, txn, &v, down),
         Err(body) => body,
     }
 }
 
 // Reads a view, in the transaction that stands or in one of its own.
 fn answered<K: KvStore, R: Wait, G: Gate>(
-    alloc: Global,
-    rt: &R,
-    book: &TurnBook<State<K>>,
+    around: &Around<K, R, G>,
     pass: &mut Pass<State<K>>,
     line: u64,
     txn: &mut Option<Txn>,
     v: &View,
     down: &Option<DownWant>,
-    gate: &G,
 ) -> Body
-    requires pass { IsRested book.now pass.old }
+    requires pass { IsRested around.now.book.now pass.old }
     requires view { IsView v.now }
     requires refs { HasKnownRefs pass.old.seen v.now }
     requires count { count_answer (look_of v.now).dims ≡ Ok (length (cells_of (look_of v.now).dims)) }
     requires factors { MayHaveFactors down.now }
     requires rank { HasRank down.now v.now }
-    requires txn { HasSoundTxn book.now.fixed pass.old.seen txn.old }
+    requires txn { HasSoundTxn around.now.book.now.fixed pass.old.seen txn.old }
     ensures told { (names : NamesOf) (asked : Line)
         → act_of names (transaction_in txn.old) asked
         ≡ without (cell_fault v.now) (Ok (reads v.now (downsampling_of down.now)))
-        → IsReadTold book.now pass.old pass.new names txn.old txn.new line asked result }
+        → IsReadTold around.now.book.now pass.old pass.new names txn.old txn.new line asked result }
     ensures failures { TellsFailures (added_by pass.old pass.new) result }
-    ensures passed { HasPassed book.now pass.old pass.new }
-    ensures txn { HasSoundTxn book.now.fixed pass.new.seen txn.new }
+    ensures passed { HasPassed around.now.book.now pass.old pass.new }
+    ensures txn { HasSoundTxn around.now.book.now.fixed pass.new.seen txn.new }
 {
     match txn {
-        Some(t) => read_in(alloc, rt, book, pass, t, v, down, gate),
-        None => read_alone(alloc, rt, book, pass, line, v, down, gate),
+        Some(t) => read_in(around, pass, t, v, down),
+        None => read_alone(around, pass, line, v, down),
     }
 }
 
 // Reads a view in a transaction that is begun at this line, and is over with it.
 fn read_alone<K: KvStore, R: Wait, G: Gate>(
-    alloc: Global,
-    rt: &R,
-    book: &TurnBook<State<K>>,
+    around: &Around<K, R, G>,
     pass: &mut Pass<State<K>>,
     line: u64,
     v: &View,
     down: &Option<DownWant>,
-    gate: &G,
 ) -> Body
-    requires pass { IsRested book.now pass.old }
+    requires pass { IsRested around.now.book.now pass.old }
     requires view { IsView v.now }
     requires refs { HasKnownRefs pass.old.seen v.now }
     requires count { count_answer (look_of v.now).dims ≡ Ok (length (cells_of (look_of v.now).dims)) }
@@ -121,42 +112,39 @@ fn read_alone<K: KvStore, R: Wait, G: Gate>(
     requires rank { HasRank down.now v.now }
     ensures told { (names : NamesOf) (asked : Line)
         → act_of names None asked ≡ without (cell_fault v.now) (Ok (reads v.now (downsampling_of down.now)))
-        → IsReadTold book.now pass.old pass.new names None None line asked result }
+        → IsReadTold around.now.book.now pass.old pass.new names None None line asked result }
     ensures failures { TellsFailures (added_by pass.old pass.new) result }
-    ensures passed { HasPassed book.now pass.old pass.new }
+    ensures passed { HasPassed around.now.book.now pass.old pass.new }
 {
     let mode = Mode {
         atomic: false,
         repeatable_read: false,
     };
-    let mut t = Txn::begin(alloc, line, mode);
-    read_in(alloc, rt, book, pass, &mut t, v, down, gate)
+    let mut t = Txn::begin(around.alloc, line, mode);
+    read_in(around, pass, &mut t, v, down)
 }
 
 // Reads a view in a transaction.
 fn read_in<K: KvStore, R: Wait, G: Gate>(
-    alloc: Global,
-    rt: &R,
-    book: &TurnBook<State<K>>,
+    around: &Around<K, R, G>,
     pass: &mut Pass<State<K>>,
     t: &mut Txn,
     v: &View,
     down: &Option<DownWant>,
-    gate: &G,
 ) -> Body
-    requires pass { IsIdle book.now pass.old }
+    requires pass { IsIdle around.now.book.now pass.old }
     requires view { IsView v.now }
     requires refs { HasKnownRefs pass.old.seen v.now }
     requires count { count_answer (look_of v.now).dims ≡ Ok (length (cells_of (look_of v.now).dims)) }
     requires factors { MayHaveFactors down.now }
     requires rank { HasRank down.now v.now }
-    requires txn { IsTxnIn book.now.fixed pass.old.seen t.old }
-    ensures answer { IsAnsweredRead book.now pass.old pass.new t.old t.new v.now (downsampling_of down.now) result }
-    ensures txn { IsTxnIn book.now.fixed pass.new.seen t.new }
+    requires txn { IsTxnIn around.now.book.now.fixed pass.old.seen t.old }
+    ensures answer { IsAnsweredRead around.now.book.now pass.old pass.new t.old t.new v.now (downsampling_of down.now) result }
+    ensures txn { IsTxnIn around.now.book.now.fixed pass.new.seen t.new }
 {
-    match t.read(alloc, rt, book, pass, v, gate) {
-        Ok(words) => values_body(alloc, v, down, words),
-        Err(e) => unread(alloc, v, e),
+    match t.read(around, pass, v) {
+        Ok(words) => values_body(around.alloc, v, down, words),
+        Err(e) => unread(around.alloc, v, e),
     }
 }
 

@@ -22,35 +22,38 @@ ghost use Rattle.session_turns.specs.ResizeConditions.{IsAsked};
 
 use cells::List;
 use kv_face::KvStore;
-use session_turns::{Body, Names, ResizeError, State, Txn, damaged, resize_in_turn, unknown};
+use session_turns::{
+    Around, Body, Gate, Names, ResizeError, State, Txn, damaged, resize_in_turn, unknown,
+};
 use stack_driver::{View, array_of};
 use std::alloc::Global;
 use std::sync::Wait;
 use transform_composition::ComposeError;
-use turn_book::{Pass, TurnBook};
+use turn_book::Pass;
 
 /// Gives the stored array of a view another shape, by one turn.
-pub fn resize<K: KvStore, R: Wait>(
-    alloc: Global,
-    rt: &R,
-    book: &TurnBook<State<K>>,
+pub fn resize<K: KvStore, R: Wait, G: Gate>(
+    around: &Around<K, R, G>,
     pass: &mut Pass<State<K>>,
     names: &Names,
     txn: &Option<Txn>,
     name: &str,
     shape: &[u64],
 ) -> Body
-    requires pass { IsRested book.now pass.old }
+    requires pass { IsRested around.now.book.now pass.old }
     requires known { AreKnownNames pass.old.seen (get_by_text names.now) }
     requires sizes { IsShape shape.now }
-    ensures told { (line : ℕ) → IsToldBy book.now pass.old pass.new
+    ensures told { (line : ℕ) → IsToldBy around.now.book.now pass.old pass.new
         (session_state (get_by_text names.now) (length pass.old.seen) txn.now) line (resizing name.now shape.now)
         (get_by_text names.now) (transaction_in txn.now) result }
     ensures failures { TellsFailures (added_by pass.old pass.new) result }
-    ensures passed { HasPassed book.now pass.old pass.new }
+    ensures passed { HasPassed around.now.book.now pass.old pass.new }
 {
-    match array_asked(alloc, names, txn, name, shape) {
-        Ok(array) => resized_body(alloc, resize_in_turn(alloc, rt, book, pass, array, shape)),
+    match array_asked(around.alloc, names, txn, name, shape) {
+        Ok(array) => resized_body(
+            around.alloc,
+            resize_in_turn(around.alloc, around.rt, around.book, pass, array, shape),
+        ),
         Err(body) => body,
     }
 }

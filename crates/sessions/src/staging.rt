@@ -30,17 +30,15 @@ ghost use Rattle.session_turns.specs.Txn.{transaction_of};
 use crate::writing::{unwritten, write_alone};
 use kv_face::KvStore;
 use serde_json::Value;
-use session_turns::{Body, Gate, Names, State, Txn, Worded, taken_write};
+use session_turns::{Around, Body, Gate, Names, State, Txn, Worded, taken_write};
 use std::alloc::Global;
 use std::sync::Wait;
 use step_forms::Step;
-use turn_book::{Pass, TurnBook};
+use turn_book::Pass;
 
 /// Writes values to a view: they are staged in the transaction that stands, and are a transaction of their own where none does.
 pub fn write<K: KvStore, R: Wait, G: Gate>(
-    alloc: Global,
-    rt: &R,
-    book: &TurnBook<State<K>>,
+    around: &Around<K, R, G>,
     pass: &mut Pass<State<K>>,
     names: &Names,
     line: u64,
@@ -48,26 +46,23 @@ pub fn write<K: KvStore, R: Wait, G: Gate>(
     name: &str,
     steps: &[Step],
     values: Value,
-    gate: &G,
 ) -> Body
-    requires pass { IsRested book.now pass.old }
+    requires pass { IsRested around.now.book.now pass.old }
     requires given { All IsGiven steps.now }
     requires views { AreViews (get_by_text names.now) }
     requires known { AreKnownNames pass.old.seen (get_by_text names.now) }
-    requires txn { HasSoundTxn book.now.fixed pass.old.seen txn.old }
-    ensures told { IsToldBy book.now pass.old pass.new
+    requires txn { HasSoundTxn around.now.book.now.fixed pass.old.seen txn.old }
+    ensures told { IsToldBy around.now.book.now pass.old pass.new
         (session_state (get_by_text names.now) (length pass.old.seen) txn.old) line
         (writing name.now (changes_of None steps.now) (values_of (data_in values))) (get_by_text names.now)
         (transaction_in txn.new) result }
     ensures failures { TellsFailures (added_by pass.old pass.new) result }
-    ensures passed { HasPassed book.now pass.old pass.new }
-    ensures txn { result ≢ printed.Memory → HasSoundTxn book.now.fixed pass.new.seen txn.new }
+    ensures passed { HasPassed around.now.book.now pass.old pass.new }
+    ensures txn { result ≢ printed.Memory → HasSoundTxn around.now.book.now.fixed pass.new.seen txn.new }
 {
     match txn {
-        Some(t) => stage(alloc, names, t, name, steps, values),
-        None => write_alone(
-            alloc, rt, book, pass, names, line, name, steps, values, gate,
-        ),
+        Some(t) => stage(around.alloc, names, t, name, steps, values),
+        None => write_alone(around, pass, names, line, name, steps, values),
     }
 }
 

@@ -39,69 +39,63 @@ use history::Mode;
 use kv_face::KvStore;
 use serde_json::Value;
 use session_turns::{
-    Body, CommitError, Gate, Names, State, Txn, Worded, WriteError, fault_body, taken_write,
+    Around, Body, CommitError, Gate, Names, State, Txn, Worded, WriteError, fault_body, taken_write,
 };
 use stack_driver::View;
 use std::alloc::Global;
 use std::sync::Wait;
 use step_forms::Step;
-use turn_book::{Pass, TurnBook};
+use turn_book::Pass;
 
 /// Writes values to a view where no transaction stands, as a transaction of its own.
 pub(crate) fn write_alone<K: KvStore, R: Wait, G: Gate>(
-    alloc: Global,
-    rt: &R,
-    book: &TurnBook<State<K>>,
+    around: &Around<K, R, G>,
     pass: &mut Pass<State<K>>,
     names: &Names,
     line: u64,
     name: &str,
     steps: &[Step],
     values: Value,
-    gate: &G,
 ) -> Body
-    requires pass { IsRested book.now pass.old }
+    requires pass { IsRested around.now.book.now pass.old }
     requires given { All IsGiven steps.now }
     requires views { AreViews (get_by_text names.now) }
     requires known { AreKnownNames pass.old.seen (get_by_text names.now) }
-    ensures told { IsToldBy book.now pass.old pass.new
+    ensures told { IsToldBy around.now.book.now pass.old pass.new
         (session_state (get_by_text names.now) (length pass.old.seen) None) line
         (writing name.now (changes_of None steps.now) (values_of (data_in values)))
         (get_by_text names.now) None result }
     ensures failures { TellsFailures (added_by pass.old pass.new) result }
-    ensures passed { HasPassed book.now pass.old pass.new }
+    ensures passed { HasPassed around.now.book.now pass.old pass.new }
 {
-    match taken_write(alloc, names, name, steps, values) {
-        Ok(w) => written(alloc, rt, book, pass, line, w, gate),
+    match taken_write(around.alloc, names, name, steps, values) {
+        Ok(w) => written(around, pass, line, w),
         Err(body) => body,
     }
 }
 
 // Writes words in a transaction that is begun at this line, and commits it.
 fn written<K: KvStore, R: Wait, G: Gate>(
-    alloc: Global,
-    rt: &R,
-    book: &TurnBook<State<K>>,
+    around: &Around<K, R, G>,
     pass: &mut Pass<State<K>>,
     line: u64,
     w: Worded,
-    gate: &G,
 ) -> Body
-    requires pass { IsRested book.now pass.old }
+    requires pass { IsRested around.now.book.now pass.old }
     requires view { IsView w.view }
     requires refs { HasKnownRefs pass.old.seen w.view }
     requires count { count_answer (look_of w.view).dims ≡ Ok (length w.words) }
     requires typed { AllByRecursion (IsWord (look_of w.view).dtype) w.words }
     ensures told { (names : NamesOf) (asked : Line)
         → act_of names None asked ≡ without (cell_fault w.view) (Ok (write_act None w.view w.words))
-        → IsToldBy book.now pass.old pass.new (session_state names
+        → IsToldBy around.now.book.now pass.old pass.new (session_state names
         (length pass.old.seen) None) line asked names None result }
     ensures failures { TellsFailures (added_by pass.old pass.new) result }
-    ensures passed { HasPassed book.now pass.old pass.new }
+    ensures passed { HasPassed around.now.book.now pass.old pass.new }
 {
     let cells = w.words.len() as u64;
-    match begun(alloc, line, w) {
-        Ok(t) => committed(alloc, rt, book, pass, t, cells, gate),
+    match begun(around.alloc, line, w) {
+        Ok(t) => committed(around, pass, t, cells),
         Err(body) => body,
     }
 }
@@ -145,19 +139,16 @@ pub(crate) fn unwritten(alloc: Global, v: &View, e: WriteError) -> Body
 }
 
 fn committed<K: KvStore, R: Wait, G: Gate>(
-    alloc: Global,
-    rt: &R,
-    book: &TurnBook<State<K>>,
+    around: &Around<K, R, G>,
     pass: &mut Pass<State<K>>,
     t: Txn,
     cells: u64,
-    gate: &G,
 ) -> Body
-    requires pass { IsIdle book.now pass.old }
-    requires sound { HasSoundTxn book.now.fixed pass.old.seen (Some t) }
-    ensures { IsWrittenAs book.now pass.old pass.new (transaction_of t) cells result }
+    requires pass { IsIdle around.now.book.now pass.old }
+    requires sound { HasSoundTxn around.now.book.now.fixed pass.old.seen (Some t) }
+    ensures { IsWrittenAs around.now.book.now pass.old pass.new (transaction_of t) cells result }
 {
-    match t.commit(alloc, rt, book, pass, gate) {
+    match t.commit(around, pass) {
         Ok(events) => Body::Written { cells, events },
         Err(e) => uncommitted(e),
     }

@@ -10,7 +10,7 @@ use case_lines::Fault;
 use cells::Name;
 use kv_face::MemoryKv;
 use serde_json::Value;
-use session_runs::{OpenGate, Session, State, run_script};
+use session_runs::{Around, OpenGate, Session, State, run_script};
 use std::alloc::Global;
 use std::sync::Wait;
 use turn_book::TurnBook;
@@ -69,7 +69,13 @@ fn ran<R: Wait>(
         (get_by_text session.old.names) session.old.txn session.old.log.items session.old.ended) }
     ensures { IsBetween book.now by session.new.pass (get_by_text session.new.names) session.new.txn session.new.ended }
 {
-    run_script(alloc, rt, book, mounts, session, script, &OpenGate);
+    let around = Around {
+        alloc,
+        rt,
+        book,
+        gate: &OpenGate,
+    };
+    run_script(&around, mounts, session, script);
 }
 
 fn logs(alloc: Global, one: &[Answer], other: &[Answer]) -> Result<Vec<u8>, Fault> {

@@ -8,7 +8,7 @@ use case_lines::{Fault, items};
 use cells::Name;
 use kv_face::MemoryKv;
 use serde_json::Value;
-use session_runs::{OpenGate, Session, State};
+use session_runs::{Around, OpenGate, Session, State};
 use std::alloc::Global;
 use std::sync::Wait;
 use turn_book::TurnBook;
@@ -106,7 +106,13 @@ fn put_bytes<R: Wait>(
     let line = (session.log.len() as u64)
         .checked_add(1)
         .ok_or(Fault::Line)?;
-    session.step(alloc, rt, book, mounts, line, bytes, &OpenGate)?;
+    let around = Around {
+        alloc,
+        rt,
+        book,
+        gate: &OpenGate,
+    };
+    session.step(&around, mounts, line, bytes)?;
     match session.log.as_slice().last() {
         Some(answer) => put_answer(alloc, text, answer),
         None => Ok(()),

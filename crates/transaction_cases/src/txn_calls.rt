@@ -23,7 +23,7 @@ use cells::Dtype;
 use history::Mode;
 use kv_face::KvStore;
 use serde_json::Value;
-use session_runs::{CommitError, CommitRefused, Gate, ReadError, State, Txn, WriteError};
+use session_runs::{Around, CommitError, CommitRefused, Gate, ReadError, State, Txn, WriteError};
 use stack_driver::{View, dtype, transform_of};
 use std::alloc::Global;
 use std::sync::Wait;
@@ -140,7 +140,13 @@ fn read_view<K: KvStore, R: Wait, G: Gate>(
     ensures passed { HasPassed book.now pass.old pass.new }
     ensures sound { HasSound book.now.fixed pass.new.seen (Some t.new) }
 {
-    match t.read(alloc, rt, book, pass, view, gate) {
+    let around = Around {
+        alloc,
+        rt,
+        book,
+        gate,
+    };
+    match t.read(&around, pass, view) {
         Ok(words) => numbers_told(alloc, dtype(view), words.items()),
         Err(e) => unread(alloc, &e),
     }
@@ -204,7 +210,13 @@ fn committed<K: KvStore, R: Wait, G: Gate>(
     requires none { seat.old.txn ≡ None }
     ensures seat { OnOk result (IsSeatThen book.now seat.old.pass seat.new.pass seat.new.arrays.items seat.new.txn) }
 {
-    match t.commit(alloc, rt, book, &mut seat.pass, gate) {
+    let around = Around {
+        alloc,
+        rt,
+        book,
+        gate,
+    };
+    match t.commit(&around, &mut seat.pass) {
         Ok(numbers) => told_line(alloc, &numbers.items()),
         Err(CommitError { why, left }) => {
             seat.txn = left;

@@ -11,12 +11,11 @@ use crate::preparing::commit_kept;
 use crate::shared_ops::joined;
 use crate::txn::Txn;
 use cells::List;
-use chunk_fetches::{Gate, State};
+use chunk_fetches::{Around, Gate, State};
 use commits::CommitRefused;
 use kv_face::KvStore;
-use std::alloc::Global;
 use std::sync::Wait;
-use turn_book::{Pass, TurnBook};
+use turn_book::Pass;
 
 impl Txn {
     /// Commits the transaction, and gives the numbers of its events: one where the store makes all changes together, else one for each
@@ -27,16 +26,13 @@ impl Txn {
     /// was done; else it is over.
     pub fn commit<K: KvStore, R: Wait, G: Gate>(
         self,
-        alloc: Global,
-        rt: &R,
-        book: &TurnBook<State<K>>,
+        around: &Around<K, R, G>,
         pass: &mut Pass<State<K>>,
-        gate: &G,
     ) -> Result<List<u64>, CommitError>
-        requires pass { IsIdle book.now pass.old }
-        requires txn { IsTxnIn book.now.fixed pass.old.seen self }
-        requires recorded { IsRecorded book.now.fixed pass.old.seen (transaction_of self) }
-        ensures committed { HasCommitted book.now pass.old pass.new (transaction_of self) (answer_of result) }
+        requires pass { IsIdle around.now.book.now pass.old }
+        requires txn { IsTxnIn around.now.book.now.fixed pass.old.seen self }
+        requires recorded { IsRecorded around.now.book.now.fixed pass.old.seen (transaction_of self) }
+        ensures committed { HasCommitted around.now.book.now pass.old pass.new (transaction_of self) (answer_of result) }
         ensures left { IfErr result (λ e. e.left ≡ left_after self e.why) }
     {
         let Txn {
@@ -48,10 +44,8 @@ impl Txn {
             kept,
             places,
         } = self;
-        let shared = joined(alloc, shared, ops)?;
-        match commit_kept(
-            alloc, rt, book, pass, gate, line, mode, &shared, &staging, &kept,
-        ) {
+        let shared = joined(around.alloc, shared, ops)?;
+        match commit_kept(around, pass, line, mode, &shared, &staging, &kept) {
             Ok(numbers) => Ok(numbers),
             Err(why) => Err(refused(
                 why,
@@ -59,7 +53,7 @@ impl Txn {
                     line,
                     mode,
                     shared: Some(shared),
-                    ops: Vec::new(alloc),
+                    ops: Vec::new(around.alloc),
                     staging,
                     kept,
                     places,

@@ -17,7 +17,7 @@ mod stray;
 mod straying;
 mod txn;
 
-pub use chunk_fetches::{Gate, Kept, OpenGate, ReadError, State, ViewFault};
+pub use chunk_fetches::{Around, Gate, Kept, OpenGate, ReadError, State, ViewFault};
 pub use commits::CommitRefused;
 pub use error::{CommitError, WriteError};
 pub use txn::Txn;

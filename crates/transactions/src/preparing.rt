@@ -17,7 +17,7 @@ ghost use Rattle.transactions.specs.Txn.{transaction_of};
 
 use crate::commit_turns::{ask_in_turn, commit_in_turn};
 use cells::{List, copy_name};
-use chunk_fetches::{Gate, Kept, Staging, State, array_in, index_in};
+use chunk_fetches::{Around, Gate, Kept, Staging, State, array_in, index_in};
 use commits::{
     Asked, ChunkWrite, CommitRefused, Mark, Part, Prepared, sort_marks, sort_writes, write_of,
 };
@@ -25,32 +25,29 @@ use history::{Mode, Ops};
 use kv_face::KvStore;
 use std::alloc::{AllocError, Global};
 use std::sync::Wait;
-use turn_book::{Pass, TurnBook};
+use turn_book::Pass;
 
 /// Commits a transaction's parts: asks in a turn, encodes outside of one, and commits in another.
 pub(crate) fn commit_kept<K: KvStore, R: Wait, G: Gate>(
-    alloc: Global,
-    rt: &R,
-    book: &TurnBook<State<K>>,
+    around: &Around<K, R, G>,
     pass: &mut Pass<State<K>>,
-    gate: &G,
     line: u64,
     mode: Mode,
     ops: &Ops,
     staging: &Staging,
     kept: &[Kept],
 ) -> Result<List<u64>, CommitRefused>
-    requires pass { IsIdle book.now pass.old }
-    requires txn { IsTxnIn book.now.fixed pass.old.seen (txn_of line mode ops.now staging.now kept.now) }
-    requires recorded { IsRecorded book.now.fixed pass.old.seen
+    requires pass { IsIdle around.now.book.now pass.old }
+    requires txn { IsTxnIn around.now.book.now.fixed pass.old.seen (txn_of line mode ops.now staging.now kept.now) }
+    requires recorded { IsRecorded around.now.book.now.fixed pass.old.seen
         (transaction_of (txn_of line mode ops.now staging.now kept.now)) }
-    ensures { HasCommitted book.now pass.old pass.new
+    ensures { HasCommitted around.now.book.now pass.old pass.new
         (transaction_of (txn_of line mode ops.now staging.now kept.now)) result }
 {
-    let parts = parts_of(alloc, staging)?;
-    let asked = ask_in_turn(alloc, rt, book, pass, parts)?;
-    let writes = in_order(write_all(alloc, rt, gate, pass.number(), asked)?);
-    let marks = marks_in_order(alloc, kept)?;
+    let parts = parts_of(around.alloc, staging)?;
+    let asked = ask_in_turn(around.alloc, around.rt, around.book, pass, parts)?;
+    let writes = in_order(write_all(around.alloc, around.rt, around.gate, pass.number(), asked)?);
+    let marks = marks_in_order(around.alloc, kept)?;
     let ops = ops.share()?;
     let prepared = Prepared {
         line,
@@ -59,7 +56,7 @@ pub(crate) fn commit_kept<K: KvStore, R: Wait, G: Gate>(
         writes,
         footprint: &marks,
     };
-    commit_in_turn(alloc, rt, book, pass, prepared)
+    commit_in_turn(around.alloc, around.rt, around.book, pass, prepared)
 }
 
 // What is staged, chunk by chunk.

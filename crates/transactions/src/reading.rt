@@ -39,7 +39,7 @@ use crate::stray::Stray;
 use crate::straying::last_of;
 use crate::txn::Txn;
 use cells::{Name, Words};
-use chunk_fetches::{Gate, Kept, ReadError, Source, State, ViewCells, fetch};
+use chunk_fetches::{Around, Gate, Kept, ReadError, Source, State, ViewCells, fetch};
 use kv_face::KvStore;
 use stack_driver::View;
 use std::alloc::{AllocError, Global};
@@ -60,135 +60,122 @@ impl Txn {
     /// After each the transaction is as it was.
     pub fn read<K: KvStore, R: Wait, G: Gate>(
         &mut self,
-        alloc: Global,
-        rt: &R,
-        book: &TurnBook<State<K>>,
+        around: &Around<K, R, G>,
         pass: &mut Pass<State<K>>,
         v: &View,
-        gate: &G,
     ) -> Result<Words, ReadError>
         requires view { IsView v.now }
-        requires pass { IsIdle book.now pass.old }
-        requires txn { IsTxnIn book.now.fixed pass.old.seen self.old }
+        requires pass { IsIdle around.now.book.now pass.old }
+        requires txn { IsTxnIn around.now.book.now.fixed pass.old.seen self.old }
         requires refs { HasKnownRefs pass.old.seen v.now }
-        ensures read { IfOk result (λ words. HasRead book.now.fixed
+        ensures read { IfOk result (λ words. HasRead around.now.book.now.fixed
             (length pass.old.seen) pass.new.seen self.old self.new v.now words) }
-        ensures turned { OnOk result (HasPassed book.now pass.old pass.new []) }
-        ensures txn { IsTxnIn book.now.fixed pass.new.seen self.new }
-        ensures errors { IfErr result (IsReadError book.now pass.old pass.new self.old v.now) }
+        ensures turned { OnOk result (HasPassed around.now.book.now pass.old pass.new []) }
+        ensures txn { IsTxnIn around.now.book.now.fixed pass.new.seen self.new }
+        ensures errors { IfErr result (IsReadError around.now.book.now pass.old pass.new self.old v.now) }
         ensures found { IfErr result (IsFoundUnless v.now) }
         ensures same { OnErr result (self.new ≡ self.old) }
     {
-        match located(alloc, v) {
-            Ok(cells) => self.read_cells(alloc, rt, book, pass, v, gate, &cells),
+        match located(around.alloc, v) {
+            Ok(cells) => self.read_cells(around, pass, v, &cells),
             Err(e) => Err(unlocated(e)),
         }
     }
 
     fn read_cells<K: KvStore, R: Wait, G: Gate>(
         &mut self,
-        alloc: Global,
-        rt: &R,
-        book: &TurnBook<State<K>>,
+        around: &Around<K, R, G>,
         pass: &mut Pass<State<K>>,
         v: &View,
-        gate: &G,
         cells: &ViewCells,
     ) -> Result<Words, ReadError>
-        requires pass { IsIdle book.now pass.old }
-        requires read { IsReadOf book.now.fixed pass.old.seen self.old v.now cells.now }
-        ensures read { IfOk result (λ words. HasRead book.now.fixed
+        requires pass { IsIdle around.now.book.now pass.old }
+        requires read { IsReadOf around.now.book.now.fixed pass.old.seen self.old v.now cells.now }
+        ensures read { IfOk result (λ words. HasRead around.now.book.now.fixed
             (length pass.old.seen) pass.new.seen self.old self.new v.now words) }
-        ensures turned { OnOk result (HasPassed book.now pass.old pass.new []) }
-        ensures txn { IsTxnIn book.now.fixed pass.new.seen self.new }
-        ensures errors { IfErr result (IsReadError book.now pass.old pass.new self.old v.now) }
+        ensures turned { OnOk result (HasPassed around.now.book.now pass.old pass.new []) }
+        ensures txn { IsTxnIn around.now.book.now.fixed pass.new.seen self.new }
+        ensures errors { IfErr result (IsReadError around.now.book.now pass.old pass.new self.old v.now) }
         ensures same { OnErr result (self.new ≡ self.old) }
     {
-        match self.sources(alloc, cells) {
-            Ok(sources) => self.read_by(alloc, rt, book, pass, v, gate, cells, &sources),
+        match self.sources(around.alloc, cells) {
+            Ok(sources) => self.read_by(around, pass, v, cells, &sources),
             Err(_) => Err(ReadError::Memory),
         }
     }
 
     fn read_by<K: KvStore, R: Wait, G: Gate>(
         &mut self,
-        alloc: Global,
-        rt: &R,
-        book: &TurnBook<State<K>>,
+        around: &Around<K, R, G>,
         pass: &mut Pass<State<K>>,
         v: &View,
-        gate: &G,
         cells: &ViewCells,
         sources: &[Source],
     ) -> Result<Words, ReadError>
-        requires pass { IsIdle book.now pass.old }
-        requires read { IsReadOf book.now.fixed pass.old.seen self.old v.now cells.now }
+        requires pass { IsIdle around.now.book.now pass.old }
+        requires read { IsReadOf around.now.book.now.fixed pass.old.seen self.old v.now cells.now }
         requires sources { sources.now ≡ sources_of self.old.staged self.old.kept cells.now.pieces }
-        ensures read { IfOk result (λ words. HasRead book.now.fixed
+        ensures read { IfOk result (λ words. HasRead around.now.book.now.fixed
             (length pass.old.seen) pass.new.seen self.old self.new v.now words) }
-        ensures turned { OnOk result (HasPassed book.now pass.old pass.new []) }
-        ensures txn { IsTxnIn book.now.fixed pass.new.seen self.new }
-        ensures errors { IfErr result (IsReadError book.now pass.old pass.new self.old v.now) }
+        ensures turned { OnOk result (HasPassed around.now.book.now pass.old pass.new []) }
+        ensures txn { IsTxnIn around.now.book.now.fixed pass.new.seen self.new }
+        ensures errors { IfErr result (IsReadError around.now.book.now pass.old pass.new self.old v.now) }
         ensures same { OnErr result (self.new ≡ self.old) }
     {
-        match fetch(alloc, rt, gate, book, pass, cells.pieces.items(), sources) {
-            Ok(fetched) => self.read_fetched(alloc, rt, book, pass, v, cells, sources, fetched),
+        match fetch(around, pass, cells.pieces.items(), sources) {
+            Ok(fetched) => self.read_fetched(around, pass, v, cells, sources, fetched),
             Err(e) => Err(e),
         }
     }
 
     // The read, once its chunks were fetched.
-    fn read_fetched<K: KvStore, R: Wait>(
+    fn read_fetched<K: KvStore, R: Wait, G: Gate>(
         &mut self,
-        alloc: Global,
-        rt: &R,
-        book: &TurnBook<State<K>>,
+        around: &Around<K, R, G>,
         pass: &mut Pass<State<K>>,
         v: &View,
         cells: &ViewCells,
         sources: &[Source],
         fetched: Vec<Kept>,
     ) -> Result<Words, ReadError>
-        requires pass { IsIdle book.now pass.old }
-        requires read { (seen : ℕ) × IsReadBy book.now.fixed seen pass.old.seen self.old v.now cells.now fetched.items }
+        requires pass { IsIdle around.now.book.now pass.old }
+        requires read { (seen : ℕ) × IsReadBy around.now.book.now.fixed seen pass.old.seen self.old v.now cells.now fetched.items }
         requires sources { sources.now ≡ sources_of self.old.staged self.old.kept cells.now.pieces }
         ensures read { IfOk result (λ words. (seen : ℕ)
-            → IsReadBy book.now.fixed seen pass.old.seen self.old v.now cells.now fetched.items
-            → HasRead book.now.fixed seen pass.new.seen self.old self.new v.now words) }
+            → IsReadBy around.now.book.now.fixed seen pass.old.seen self.old v.now cells.now fetched.items
+            → HasRead around.now.book.now.fixed seen pass.new.seen self.old self.new v.now words) }
         ensures ok { OnOk result (pass.new ≡ pass.old) }
-        ensures txn { IsTxnIn book.now.fixed pass.new.seen self.new }
-        ensures errors { IfErr result (λ e. IsStrayRefusal book.now pass.old pass.new
+        ensures txn { IsTxnIn around.now.book.now.fixed pass.new.seen self.new }
+        ensures errors { IfErr result (λ e. IsStrayRefusal around.now.book.now pass.old pass.new
             (strays_by self.old cells.now fetched.items) e) }
         ensures same { OnErr result (self.new ≡ self.old) }
     {
-        match self.checked(alloc, rt, book, pass, v, cells, sources, &fetched) {
-            Ok(()) => self.show(alloc, v, cells, sources, fetched),
+        match self.checked(around, pass, v, cells, sources, &fetched) {
+            Ok(()) => self.show(around.alloc, v, cells, sources, fetched),
             Err(e) => Err(e),
         }
     }
 
     // Refuses where a cell was outside when its chunk was read.
-    fn checked<K: KvStore, R: Wait>(
+    fn checked<K: KvStore, R: Wait, G: Gate>(
         &self,
-        alloc: Global,
-        rt: &R,
-        book: &TurnBook<State<K>>,
+        around: &Around<K, R, G>,
         pass: &mut Pass<State<K>>,
         v: &View,
         cells: &ViewCells,
         sources: &[Source],
         fetched: &[Kept],
     ) -> Result<(), ReadError>
-        requires pass { IsIdle book.now pass.old }
-        requires read { (seen : ℕ) × IsReadBy book.now.fixed seen pass.old.seen self.now v.now cells.now fetched.now }
+        requires pass { IsIdle around.now.book.now pass.old }
+        requires read { (seen : ℕ) × IsReadBy around.now.book.now.fixed seen pass.old.seen self.now v.now cells.now fetched.now }
         requires sources { sources.now ≡ sources_of self.now.staged self.now.kept cells.now.pieces }
         ensures none { OnOk result (strays_by self.now cells.now fetched.now ≡ []) }
         ensures ok { OnOk result (pass.new ≡ pass.old) }
-        ensures errors { IfErr result (IsStrayRefusal book.now pass.old pass.new
+        ensures errors { IfErr result (IsStrayRefusal around.now.book.now pass.old pass.new
             (strays_by self.now cells.now fetched.now)) }
     {
-        match self.strays(alloc, cells, sources, fetched) {
-            Ok(strays) => unless_stray(rt, book, pass, &strays),
+        match self.strays(around.alloc, cells, sources, fetched) {
+            Ok(strays) => unless_stray(around.rt, around.book, pass, &strays),
             Err(_) => Err(ReadError::Memory),
         }
     }

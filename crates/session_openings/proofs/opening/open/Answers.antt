@@ -13,7 +13,7 @@ use Rattle.session_openings.proofs.opening.open.Goals as goal
 
 pub returns-then-is_some-clause-told : goal.returns-then-is_some-clause-told
 returns-then-is_some-clause-told g c = λ line.
-    told_without c.args.book.now c.args.pass.now (session_state (get_by_text c.args.names.now) (length c.args.pass.now.seen) c.args.txn.now) line (opening c.args.name.now (leaves_of c.args.plan) (build_of c.args.plan)) body.InTransaction
+    told_without c.args.around.now.book.now c.args.pass.now (session_state (get_by_text c.args.names.now) (length c.args.pass.now.seen) c.args.txn.now) line (opening c.args.name.now (leaves_of c.args.plan) (build_of c.args.plan)) body.InTransaction
     (refusal _ _ old.in_transaction (outside_some c.args.txn.now _ (search rules)) refl)
 
 pub returns-then-is_some-clause-events : goal.returns-then-is_some-clause-events
@@ -23,11 +23,11 @@ pub returns-then-is_some-clause-bound : goal.returns-then-is_some-clause-bound
 returns-then-is_some-clause-bound g c = inr (refl, refl)
 
 pub returns-then-is_some-clause-passed : goal.returns-then-is_some-clause-passed
-returns-then-is_some-clause-passed g c = passed_alone c.args.book.now c.args.pass.now c.requires.pass
+returns-then-is_some-clause-passed g c = passed_alone c.args.around.now.book.now c.args.pass.now c.requires.pass
 
 pub returns-clause-told : goal.returns-clause-told
 returns-clause-told g c = λ line.
-    told_opened c.args.book.now c.args.pass.now c.open_plan.new.pass c.args.plan (get_by_text c.args.names.now) (get_by_text c.open_plan.new.names) c.args.name.now c.open_plan.result c.args.txn.now line (search rules) c.open_plan.ensures
+    told_opened c.args.around.now.book.now c.args.pass.now c.open_plan.new.pass c.args.plan (get_by_text c.args.names.now) (get_by_text c.open_plan.new.names) c.args.name.now c.open_plan.result c.args.txn.now line (search rules) c.open_plan.ensures
 
 pub returns-clause-events : goal.returns-clause-events
 returns-clause-events g c = c.open_plan.ensures.events

@@ -15,11 +15,11 @@ returns-in-Ok-clause-ok g c =
     let new = c.open_in_turn.new.pass in
     let arrays = c.args.opened.arrays.items in
     let events = c.args.opened.events.items in
-    subst (λ rs. OpensOne c.args.book.now old new (stored node leaf) arrays events rs c.with_array.result.events.items) (sym c.with_array.ensures.arrays)
-    (subst (λ es. OpensOne c.args.book.now old new (stored node leaf) arrays events (arrays ++ c.in-Ok.found.array ∷ []) es) (sym c.with_array.ensures.events)
-    (opens_one_stored c.args.book.now old new node leaf c.in-Ok.found arrays events c.requires.pass c.in-Ok.ensures))
+    subst (λ rs. OpensOne c.args.around.now.book.now old new (stored node leaf) arrays events rs c.with_array.result.events.items) (sym c.with_array.ensures.arrays)
+    (subst (λ es. OpensOne c.args.around.now.book.now old new (stored node leaf) arrays events (arrays ++ c.in-Ok.found.array ∷ []) es) (sym c.with_array.ensures.events)
+    (opens_one_stored c.args.around.now.book.now old new node leaf c.in-Ok.found arrays events c.requires.pass c.in-Ok.ensures))
 
 pub returns-in-Err-clause-err : goal.returns-in-Err-clause-err
 returns-in-Err-clause-err g c =
-    refuses_stored c.args.book.now c.args.pass.now c.open_in_turn.new.pass (unwrap_or (node_of (length c.args.opened.arrays.items) c.args.tree.now) []) (asked_leaf c.args.asked.now) c.args.opened.arrays.items c.args.opened.events.items c.in-Err.e c.refused.result c.in-Err.ensures
+    refuses_stored c.args.around.now.book.now c.args.pass.now c.open_in_turn.new.pass (unwrap_or (node_of (length c.args.opened.arrays.items) c.args.tree.now) []) (asked_leaf c.args.asked.now) c.args.opened.arrays.items c.args.opened.events.items c.in-Err.e c.refused.result c.in-Err.ensures
     c.refused.ensures

@@ -28,23 +28,23 @@ returns-in-Ok-clause-told g c = λ line start is.
     let names = get_by_text c.args.names.now in
     let later = get_by_text c.resolved.new.names in
     let t = transaction_in c.args.txn.now in
-    subst (IsTold (fixed_by c.args.book.now.fixed start) old.number new.seen (session_state names (length old.seen) c.args.txn.now) line (resolving c.args.name.now) later t c.resolved.result)
-    (sym (own_of_turn c.args.book.now old new new.seen [] c.requires.pass c.resolved.ensures.turn))
-    (told_renewed (fixed_by c.args.book.now.fixed start) old.number new.seen names (length old.seen) t line c.args.name.now c.in-Ok.view p.0 (rises c.args.book.now old new c.resolved.ensures.turn) p.3 later c.resolved.result (c.resolved.ensures.answer p.0 p.1))
+    subst (IsTold (fixed_by c.args.around.now.book.now.fixed start) old.number new.seen (session_state names (length old.seen) c.args.txn.now) line (resolving c.args.name.now) later t c.resolved.result)
+    (sym (own_of_turn c.args.around.now.book.now old new new.seen [] c.requires.pass c.resolved.ensures.turn))
+    (told_renewed (fixed_by c.args.around.now.book.now.fixed start) old.number new.seen names (length old.seen) t line c.args.name.now c.in-Ok.view p.0 (rises c.args.around.now.book.now old new c.resolved.ensures.turn) p.3 later c.resolved.result (c.resolved.ensures.answer p.0 p.1))
 
 pub returns-in-Ok-clause-anywhere : goal.returns-in-Ok-clause-anywhere
 returns-in-Ok-clause-anywhere g c = λ fixed line.
     let p = c.in-Ok.ensures.array in
     let old = c.args.pass.now in
     let new = c.resolved.new.pass in
-    told_renewed fixed old.number new.seen (get_by_text c.args.names.now) (length old.seen) (transaction_in c.args.txn.now) line c.args.name.now c.in-Ok.view p.0 (rises c.args.book.now old new c.resolved.ensures.turn) p.3
+    told_renewed fixed old.number new.seen (get_by_text c.args.names.now) (length old.seen) (transaction_in c.args.txn.now) line c.args.name.now c.in-Ok.view p.0 (rises c.args.around.now.book.now old new c.resolved.ensures.turn) p.3
     (get_by_text c.resolved.new.names) c.resolved.result (c.resolved.ensures.answer p.0 p.1)
 
 pub returns-in-Ok-clause-none : goal.returns-in-Ok-clause-none
-returns-in-Ok-clause-none g c = own_of_turn c.args.book.now c.args.pass.now c.resolved.new.pass c.resolved.new.pass.seen [] c.requires.pass c.resolved.ensures.turn
+returns-in-Ok-clause-none g c = own_of_turn c.args.around.now.book.now c.args.pass.now c.resolved.new.pass c.resolved.new.pass.seen [] c.requires.pass c.resolved.ensures.turn
 
 pub returns-in-Ok-clause-passed : goal.returns-in-Ok-clause-passed
-returns-in-Ok-clause-passed g c = passed_of_turn c.args.book.now c.args.pass.now c.resolved.new.pass [] c.resolved.ensures.turn.turned
+returns-in-Ok-clause-passed g c = passed_of_turn c.args.around.now.book.now c.args.pass.now c.resolved.new.pass [] c.resolved.ensures.turn.turned
 
 pub returns-in-Ok-clause-views : goal.returns-in-Ok-clause-views
 returns-in-Ok-clause-views g c =
@@ -63,7 +63,7 @@ returns-in-Ok-clause-known g c =
 
 pub returns-in-Err-clause-told : goal.returns-in-Err-clause-told
 returns-in-Err-clause-told g c = λ line.
-    told_without c.args.book.now c.args.pass.now (session_state (get_by_text c.args.names.now) (length c.args.pass.now.seen) c.args.txn.now) line (resolving c.args.name.now) c.in-Err.body c.in-Err.ensures.err
+    told_without c.args.around.now.book.now c.args.pass.now (session_state (get_by_text c.args.names.now) (length c.args.pass.now.seen) c.args.txn.now) line (resolving c.args.name.now) c.in-Err.body c.in-Err.ensures.err
 
 pub returns-in-Err-clause-anywhere : goal.returns-in-Err-clause-anywhere
 returns-in-Err-clause-anywhere g c = λ fixed line.
@@ -73,4 +73,4 @@ pub returns-in-Err-clause-none : goal.returns-in-Err-clause-none
 returns-in-Err-clause-none g c = none_added c.args.pass.now
 
 pub returns-in-Err-clause-passed : goal.returns-in-Err-clause-passed
-returns-in-Err-clause-passed g c = passed_alone c.args.book.now c.args.pass.now c.requires.pass
+returns-in-Err-clause-passed g c = passed_alone c.args.around.now.book.now c.args.pass.now c.requires.pass

@@ -7,7 +7,7 @@ use Rattle.session_runs.proofs.answering.answered.Goals as goal
 
 pub returns-in-Err-clause-told : goal.returns-in-Err-clause-told
 returns-in-Err-clause-told g c =
-    line_refused c.args.book.now c.args.pass.now (get_by_text c.args.names.now) c.args.txn.now c.args.line (line_of_bytes c.args.mounts.now c.args.bytes.now) c.in-Err.error c.refused.result (λ other. ap line_in (c.in-Err.ensures.err other)) c.refused.ensures
+    line_refused c.args.around.now.book.now c.args.pass.now (get_by_text c.args.names.now) c.args.txn.now c.args.line (line_of_bytes c.args.mounts.now c.args.bytes.now) c.in-Err.error c.refused.result (λ other. ap line_in (c.in-Err.ensures.err other)) c.refused.ensures
 
 pub returns-in-Err-clause-failures : goal.returns-in-Err-clause-failures
 returns-in-Err-clause-failures g c = form_tells c.args.pass.now c.in-Err.error c.refused.result c.refused.ensures

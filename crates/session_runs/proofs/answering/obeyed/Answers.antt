@@ -14,73 +14,73 @@ use Rattle.session_runs.proofs.answering.obeyed.Goals as goal
 
 pub returns-in-Open-clause-told : goal.returns-in-Open-clause-told
 returns-in-Open-clause-told g c =
-    subst (λ command. IsLineTold c.args.book.now c.args.pass.now c.opened.new.pass (get_by_text c.args.names.now) c.args.txn.now c.args.line (line_of (form_of command)) (get_by_text c.opened.new.names) c.args.txn.now c.opened.result) (sym c.in-Open.is)
-    (line_by c.args.book.now c.args.pass.now (get_by_text c.args.names.now) c.args.txn.now c.args.line _ (get_by_text c.opened.new.names) c.args.txn.now c.opened.result c.opened.new.pass (c.opened.ensures.told c.args.line))
+    subst (λ command. IsLineTold c.args.around.now.book.now c.args.pass.now c.opened.new.pass (get_by_text c.args.names.now) c.args.txn.now c.args.line (line_of (form_of command)) (get_by_text c.opened.new.names) c.args.txn.now c.opened.result) (sym c.in-Open.is)
+    (line_by c.args.around.now.book.now c.args.pass.now (get_by_text c.args.names.now) c.args.txn.now c.args.line _ (get_by_text c.opened.new.names) c.args.txn.now c.opened.result c.opened.new.pass (c.opened.ensures.told c.args.line))
 
 pub returns-in-Open-clause-on : goal.returns-in-Open-clause-on
-returns-in-Open-clause-on g c = λ other. goes_by c.args.book.now c.args.pass.now c.opened.new.pass (get_by_text c.args.names.now) (get_by_text c.opened.new.names) c.args.txn.now c.requires.on c.opened.ensures.passed c.opened.ensures.views c.opened.ensures.known
+returns-in-Open-clause-on g c = λ other. goes_by c.args.around.now.book.now c.args.pass.now c.opened.new.pass (get_by_text c.args.names.now) (get_by_text c.opened.new.names) c.args.txn.now c.requires.on c.opened.ensures.passed c.opened.ensures.views c.opened.ensures.known
 
 pub returns-in-View-clause-told : goal.returns-in-View-clause-told
 returns-in-View-clause-told g c =
-    subst (λ command. IsLineTold c.args.book.now c.args.pass.now c.args.pass.now (get_by_text c.args.names.now) c.args.txn.now c.args.line (line_of (form_of command)) (get_by_text c.viewed.new.names) c.args.txn.now c.viewed.result) (sym c.in-View.is)
-    (line_alone c.args.book.now c.args.pass.now (get_by_text c.args.names.now) c.args.txn.now c.args.line _ (get_by_text c.viewed.new.names) c.args.txn.now c.viewed.result (c.viewed.ensures.told _ c.args.line c.args.txn.now))
+    subst (λ command. IsLineTold c.args.around.now.book.now c.args.pass.now c.args.pass.now (get_by_text c.args.names.now) c.args.txn.now c.args.line (line_of (form_of command)) (get_by_text c.viewed.new.names) c.args.txn.now c.viewed.result) (sym c.in-View.is)
+    (line_alone c.args.around.now.book.now c.args.pass.now (get_by_text c.args.names.now) c.args.txn.now c.args.line _ (get_by_text c.viewed.new.names) c.args.txn.now c.viewed.result (c.viewed.ensures.told _ c.args.line c.args.txn.now))
 
 pub returns-in-View-clause-on : goal.returns-in-View-clause-on
-returns-in-View-clause-on g c = λ other. goes_alone c.args.book.now c.args.pass.now (get_by_text c.args.names.now) (get_by_text c.viewed.new.names) c.args.txn.now c.args.txn.now c.requires.on c.viewed.ensures.views (c.viewed.ensures.known c.args.pass.now.seen c.requires.on.known) c.requires.on.txn
+returns-in-View-clause-on g c = λ other. goes_alone c.args.around.now.book.now c.args.pass.now (get_by_text c.args.names.now) (get_by_text c.viewed.new.names) c.args.txn.now c.args.txn.now c.requires.on c.viewed.ensures.views (c.viewed.ensures.known c.args.pass.now.seen c.requires.on.known) c.requires.on.txn
 
 pub returns-in-Join-clause-told : goal.returns-in-Join-clause-told
 returns-in-Join-clause-told g c =
-    subst (λ command. IsLineTold c.args.book.now c.args.pass.now c.args.pass.now (get_by_text c.args.names.now) c.args.txn.now c.args.line (line_of (form_of command)) (get_by_text c.joined.new.names) c.args.txn.now c.joined.result) (sym c.in-Join.is)
-    (line_alone c.args.book.now c.args.pass.now (get_by_text c.args.names.now) c.args.txn.now c.args.line _ (get_by_text c.joined.new.names) c.args.txn.now c.joined.result (c.joined.ensures.told _ c.args.line c.args.txn.now))
+    subst (λ command. IsLineTold c.args.around.now.book.now c.args.pass.now c.args.pass.now (get_by_text c.args.names.now) c.args.txn.now c.args.line (line_of (form_of command)) (get_by_text c.joined.new.names) c.args.txn.now c.joined.result) (sym c.in-Join.is)
+    (line_alone c.args.around.now.book.now c.args.pass.now (get_by_text c.args.names.now) c.args.txn.now c.args.line _ (get_by_text c.joined.new.names) c.args.txn.now c.joined.result (c.joined.ensures.told _ c.args.line c.args.txn.now))
 
 pub returns-in-Join-clause-on : goal.returns-in-Join-clause-on
-returns-in-Join-clause-on g c = λ other. goes_alone c.args.book.now c.args.pass.now (get_by_text c.args.names.now) (get_by_text c.joined.new.names) c.args.txn.now c.args.txn.now c.requires.on c.joined.ensures.views (c.joined.ensures.known c.args.pass.now.seen c.requires.on.known) c.requires.on.txn
+returns-in-Join-clause-on g c = λ other. goes_alone c.args.around.now.book.now c.args.pass.now (get_by_text c.args.names.now) (get_by_text c.joined.new.names) c.args.txn.now c.args.txn.now c.requires.on c.joined.ensures.views (c.joined.ensures.known c.args.pass.now.seen c.requires.on.known) c.requires.on.txn
 
 pub returns-in-Read-clause-on : goal.returns-in-Read-clause-on
-returns-in-Read-clause-on g c = λ other. goes_with c.args.book.now c.args.pass.now c.shown.new.pass (get_by_text c.args.names.now) c.args.txn.now c.shown.new.txn c.requires.on c.shown.ensures.passed c.shown.ensures.txn
+returns-in-Read-clause-on g c = λ other. goes_with c.args.around.now.book.now c.args.pass.now c.shown.new.pass (get_by_text c.args.names.now) c.args.txn.now c.shown.new.txn c.requires.on c.shown.ensures.passed c.shown.ensures.txn
 
 pub returns-in-Write-clause-told : goal.returns-in-Write-clause-told
 returns-in-Write-clause-told g c =
-    subst (λ command. IsLineTold c.args.book.now c.args.pass.now c.written.new.pass (get_by_text c.args.names.now) c.args.txn.now c.args.line (line_of (form_of command)) (get_by_text c.args.names.now) c.written.new.txn c.written.result) (sym c.in-Write.is)
-    (line_by c.args.book.now c.args.pass.now (get_by_text c.args.names.now) c.args.txn.now c.args.line _ (get_by_text c.args.names.now) c.written.new.txn c.written.result c.written.new.pass c.written.ensures.told)
+    subst (λ command. IsLineTold c.args.around.now.book.now c.args.pass.now c.written.new.pass (get_by_text c.args.names.now) c.args.txn.now c.args.line (line_of (form_of command)) (get_by_text c.args.names.now) c.written.new.txn c.written.result) (sym c.in-Write.is)
+    (line_by c.args.around.now.book.now c.args.pass.now (get_by_text c.args.names.now) c.args.txn.now c.args.line _ (get_by_text c.args.names.now) c.written.new.txn c.written.result c.written.new.pass c.written.ensures.told)
 
 pub returns-in-Write-clause-on : goal.returns-in-Write-clause-on
-returns-in-Write-clause-on g c = λ other. goes_with c.args.book.now c.args.pass.now c.written.new.pass (get_by_text c.args.names.now) c.args.txn.now c.written.new.txn c.requires.on c.written.ensures.passed (c.written.ensures.txn other)
+returns-in-Write-clause-on g c = λ other. goes_with c.args.around.now.book.now c.args.pass.now c.written.new.pass (get_by_text c.args.names.now) c.args.txn.now c.written.new.txn c.requires.on c.written.ensures.passed (c.written.ensures.txn other)
 
 pub returns-in-Begin-clause-told : goal.returns-in-Begin-clause-told
 returns-in-Begin-clause-told g c =
-    subst (λ command. IsLineTold c.args.book.now c.args.pass.now c.args.pass.now (get_by_text c.args.names.now) c.args.txn.now c.args.line (line_of (form_of command)) (get_by_text c.args.names.now) c.begin.new.txn c.begin.result) (sym c.in-Begin.is)
-    (line_alone c.args.book.now c.args.pass.now (get_by_text c.args.names.now) c.args.txn.now c.args.line _ (get_by_text c.args.names.now) c.begin.new.txn c.begin.result (c.begin.ensures.told (get_by_text c.args.names.now) _))
+    subst (λ command. IsLineTold c.args.around.now.book.now c.args.pass.now c.args.pass.now (get_by_text c.args.names.now) c.args.txn.now c.args.line (line_of (form_of command)) (get_by_text c.args.names.now) c.begin.new.txn c.begin.result) (sym c.in-Begin.is)
+    (line_alone c.args.around.now.book.now c.args.pass.now (get_by_text c.args.names.now) c.args.txn.now c.args.line _ (get_by_text c.args.names.now) c.begin.new.txn c.begin.result (c.begin.ensures.told (get_by_text c.args.names.now) _))
 
 pub returns-in-Begin-clause-on : goal.returns-in-Begin-clause-on
-returns-in-Begin-clause-on g c = λ other. goes_alone c.args.book.now c.args.pass.now (get_by_text c.args.names.now) (get_by_text c.args.names.now) c.args.txn.now c.begin.new.txn c.requires.on c.requires.on.views c.requires.on.known (c.begin.ensures.txn c.args.book.now.fixed c.args.pass.now.seen c.requires.on.rested.past.outline c.requires.on.txn)
+returns-in-Begin-clause-on g c = λ other. goes_alone c.args.around.now.book.now c.args.pass.now (get_by_text c.args.names.now) (get_by_text c.args.names.now) c.args.txn.now c.begin.new.txn c.requires.on c.requires.on.views c.requires.on.known (c.begin.ensures.txn c.args.around.now.book.now.fixed c.args.pass.now.seen c.requires.on.rested.past.outline c.requires.on.txn)
 
 pub returns-in-Commit-clause-on : goal.returns-in-Commit-clause-on
-returns-in-Commit-clause-on g c = λ other. goes_with c.args.book.now c.args.pass.now c.commit.new.pass (get_by_text c.args.names.now) c.args.txn.now c.commit.new.txn c.requires.on c.commit.ensures.passed c.commit.ensures.txn
+returns-in-Commit-clause-on g c = λ other. goes_with c.args.around.now.book.now c.args.pass.now c.commit.new.pass (get_by_text c.args.names.now) c.args.txn.now c.commit.new.txn c.requires.on c.commit.ensures.passed c.commit.ensures.txn
 
 pub returns-in-Abort-clause-told : goal.returns-in-Abort-clause-told
 returns-in-Abort-clause-told g c =
-    subst (λ command. IsLineTold c.args.book.now c.args.pass.now c.args.pass.now (get_by_text c.args.names.now) c.args.txn.now c.args.line (line_of (form_of command)) (get_by_text c.args.names.now) c.abort.new.txn c.abort.result) (sym c.in-Abort.is)
-    (line_alone c.args.book.now c.args.pass.now (get_by_text c.args.names.now) c.args.txn.now c.args.line _ (get_by_text c.args.names.now) c.abort.new.txn c.abort.result (c.abort.ensures.told (get_by_text c.args.names.now) _))
+    subst (λ command. IsLineTold c.args.around.now.book.now c.args.pass.now c.args.pass.now (get_by_text c.args.names.now) c.args.txn.now c.args.line (line_of (form_of command)) (get_by_text c.args.names.now) c.abort.new.txn c.abort.result) (sym c.in-Abort.is)
+    (line_alone c.args.around.now.book.now c.args.pass.now (get_by_text c.args.names.now) c.args.txn.now c.args.line _ (get_by_text c.args.names.now) c.abort.new.txn c.abort.result (c.abort.ensures.told (get_by_text c.args.names.now) _))
 
 pub returns-in-Abort-clause-on : goal.returns-in-Abort-clause-on
-returns-in-Abort-clause-on g c = λ other. goes_alone c.args.book.now c.args.pass.now (get_by_text c.args.names.now) (get_by_text c.args.names.now) c.args.txn.now c.abort.new.txn c.requires.on c.requires.on.views c.requires.on.known (c.abort.ensures.txn c.args.book.now.fixed c.args.pass.now.seen c.requires.on.txn)
+returns-in-Abort-clause-on g c = λ other. goes_alone c.args.around.now.book.now c.args.pass.now (get_by_text c.args.names.now) (get_by_text c.args.names.now) c.args.txn.now c.abort.new.txn c.requires.on c.requires.on.views c.requires.on.known (c.abort.ensures.txn c.args.around.now.book.now.fixed c.args.pass.now.seen c.requires.on.txn)
 
 pub returns-in-Resize-clause-told : goal.returns-in-Resize-clause-told
 returns-in-Resize-clause-told g c =
-    subst (λ command. IsLineTold c.args.book.now c.args.pass.now c.resized.new.pass (get_by_text c.args.names.now) c.args.txn.now c.args.line (line_of (form_of command)) (get_by_text c.args.names.now) c.args.txn.now c.resized.result) (sym c.in-Resize.is)
-    (line_by c.args.book.now c.args.pass.now (get_by_text c.args.names.now) c.args.txn.now c.args.line _ (get_by_text c.args.names.now) c.args.txn.now c.resized.result c.resized.new.pass (c.resized.ensures.told c.args.line))
+    subst (λ command. IsLineTold c.args.around.now.book.now c.args.pass.now c.resized.new.pass (get_by_text c.args.names.now) c.args.txn.now c.args.line (line_of (form_of command)) (get_by_text c.args.names.now) c.args.txn.now c.resized.result) (sym c.in-Resize.is)
+    (line_by c.args.around.now.book.now c.args.pass.now (get_by_text c.args.names.now) c.args.txn.now c.args.line _ (get_by_text c.args.names.now) c.args.txn.now c.resized.result c.resized.new.pass (c.resized.ensures.told c.args.line))
 
 pub returns-in-Resize-clause-on : goal.returns-in-Resize-clause-on
-returns-in-Resize-clause-on g c = λ other. goes_by c.args.book.now c.args.pass.now c.resized.new.pass (get_by_text c.args.names.now) (get_by_text c.args.names.now) c.args.txn.now c.requires.on c.resized.ensures.passed c.requires.on.views (names_then c.args.pass.now.seen c.resized.new.pass.seen (get_by_text c.args.names.now) c.resized.ensures.passed.before c.requires.on.known)
+returns-in-Resize-clause-on g c = λ other. goes_by c.args.around.now.book.now c.args.pass.now c.resized.new.pass (get_by_text c.args.names.now) (get_by_text c.args.names.now) c.args.txn.now c.requires.on c.resized.ensures.passed c.requires.on.views (names_then c.args.pass.now.seen c.resized.new.pass.seen (get_by_text c.args.names.now) c.resized.ensures.passed.before c.requires.on.known)
 
 pub returns-in-Resolve-clause-told : goal.returns-in-Resolve-clause-told
 returns-in-Resolve-clause-told g c =
-    subst (λ command. IsLineTold c.args.book.now c.args.pass.now c.resolved.new.pass (get_by_text c.args.names.now) c.args.txn.now c.args.line (line_of (form_of command)) (get_by_text c.resolved.new.names) c.args.txn.now c.resolved.result) (sym c.in-Resolve.is)
-    (line_by c.args.book.now c.args.pass.now (get_by_text c.args.names.now) c.args.txn.now c.args.line _ (get_by_text c.resolved.new.names) c.args.txn.now c.resolved.result c.resolved.new.pass (c.resolved.ensures.told c.args.line))
+    subst (λ command. IsLineTold c.args.around.now.book.now c.args.pass.now c.resolved.new.pass (get_by_text c.args.names.now) c.args.txn.now c.args.line (line_of (form_of command)) (get_by_text c.resolved.new.names) c.args.txn.now c.resolved.result) (sym c.in-Resolve.is)
+    (line_by c.args.around.now.book.now c.args.pass.now (get_by_text c.args.names.now) c.args.txn.now c.args.line _ (get_by_text c.resolved.new.names) c.args.txn.now c.resolved.result c.resolved.new.pass (c.resolved.ensures.told c.args.line))
 
 pub returns-in-Resolve-clause-on : goal.returns-in-Resolve-clause-on
-returns-in-Resolve-clause-on g c = λ other. goes_by c.args.book.now c.args.pass.now c.resolved.new.pass (get_by_text c.args.names.now) (get_by_text c.resolved.new.names) c.args.txn.now c.requires.on c.resolved.ensures.passed c.resolved.ensures.views c.resolved.ensures.known
+returns-in-Resolve-clause-on g c = λ other. goes_by c.args.around.now.book.now c.args.pass.now c.resolved.new.pass (get_by_text c.args.names.now) (get_by_text c.resolved.new.names) c.args.txn.now c.requires.on c.resolved.ensures.passed c.resolved.ensures.views c.resolved.ensures.known
 
 pub returns-in-View-clause-failures : goal.returns-in-View-clause-failures
 returns-in-View-clause-failures g c =

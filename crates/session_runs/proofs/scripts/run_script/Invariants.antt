@@ -9,8 +9,8 @@ use Rattle.session_runs.proofs.scripts.run_script.Given as goal
 
 abbrev pub invariant-loop-rest : goal.invariant-loop-rest
 invariant-loop-rest g l = record {
-  under : IsUnderWay l.book l.mounts l.script (option_copied l.rest) l.line (session_with l.session.pass (get_by_text l.session.names) l.session.txn l.session.log.items l.session.ended);
-  passed : HasPassed l.book l.fn.session.pass l.session.pass;
+  under : IsUnderWay l.around.book.now l.mounts l.script (option_copied l.rest) l.line (session_with l.session.pass (get_by_text l.session.names) l.session.txn l.session.log.items l.session.ended);
+  passed : HasPassed l.around.book.now l.fn.session.pass l.session.pass;
   short : MatchOption l.rest (l.line < 2 ^ 63) (λ r. l.line + length r.now < 2 ^ 62);
 }
 

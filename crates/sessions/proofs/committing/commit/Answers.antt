@@ -11,23 +11,23 @@ pub returns-in-Some-clause-told : goal.returns-in-Some-clause-told
 returns-in-Some-clause-told g c =
     let old = c.args.pass.now in
     let new = c.committed.new.pass in
-    subst (λ o. IsCommitTold c.args.book.now old new o c.committed.new.txn c.committed.result) c.in-Some.ensures.value
-    (committed_told c.args.book.now old new c.in-Some.t c.committed.new.txn c.committed.result c.requires.pass c.committed.ensures)
+    subst (λ o. IsCommitTold c.args.around.now.book.now old new o c.committed.new.txn c.committed.result) c.in-Some.ensures.value
+    (committed_told c.args.around.now.book.now old new c.in-Some.t c.committed.new.txn c.committed.result c.requires.pass c.committed.ensures)
 
 pub returns-in-Some-clause-txn : goal.returns-in-Some-clause-txn
 returns-in-Some-clause-txn g c =
-    committed_sound c.args.book.now c.args.pass.now c.committed.new.pass c.in-Some.t c.committed.new.txn c.committed.result c.requires.pass
-    (subst (HasSoundTxn c.args.book.now.fixed c.args.pass.now.seen) (sym c.in-Some.ensures.value) c.requires.txn) c.committed.ensures
+    committed_sound c.args.around.now.book.now c.args.pass.now c.committed.new.pass c.in-Some.t c.committed.new.txn c.committed.result c.requires.pass
+    (subst (HasSoundTxn c.args.around.now.book.now.fixed c.args.pass.now.seen) (sym c.in-Some.ensures.value) c.requires.txn) c.committed.ensures
 
 pub returns-in-None-clause-told : goal.returns-in-None-clause-told
 returns-in-None-clause-told g c =
     let old = c.args.pass.now in
-    subst (λ o. IsCommitTold c.args.book.now old old o c.take.new.self NoTransaction) c.in-None.ensures.value
-    (subst (λ o. IsCommitTold c.args.book.now old old None o NoTransaction) (sym c.in-None.ensures.after) (commit_without c.args.book.now old))
+    subst (λ o. IsCommitTold c.args.around.now.book.now old old o c.take.new.self NoTransaction) c.in-None.ensures.value
+    (subst (λ o. IsCommitTold c.args.around.now.book.now old old None o NoTransaction) (sym c.in-None.ensures.after) (commit_without c.args.around.now.book.now old))
 
 pub returns-in-Some-clause-failures : goal.returns-in-Some-clause-failures
 returns-in-Some-clause-failures g c =
-    committed_tells c.args.book.now c.args.pass.now c.committed.new.pass c.in-Some.t c.committed.new.txn c.committed.result c.requires.pass c.committed.ensures
+    committed_tells c.args.around.now.book.now c.args.pass.now c.committed.new.pass c.in-Some.t c.committed.new.txn c.committed.result c.requires.pass c.committed.ensures
 
 pub returns-in-None-clause-failures : goal.returns-in-None-clause-failures
 returns-in-None-clause-failures g c = ap failures_of (none_added c.args.pass.now)

@@ -7,13 +7,13 @@ use Rattle.sessions.proofs.reading.answered.Goals as goal
 
 pub returns-in-Some-clause-told : goal.returns-in-Some-clause-told
 returns-in-Some-clause-told g c names asked act =
-    inside_told c.args.book.now c.args.pass.now c.read_in.new.pass c.requires.pass c.in-Some.t c.read_in.new.t c.args.v.now (downsampling_of c.args.down.now) names c.args.line asked c.args.txn.now c.in-Some.is act c.read_in.result c.read_in.ensures.answer
+    inside_told c.args.around.now.book.now c.args.pass.now c.read_in.new.pass c.requires.pass c.in-Some.t c.read_in.new.t c.args.v.now (downsampling_of c.args.down.now) names c.args.line asked c.args.txn.now c.in-Some.is act c.read_in.result c.read_in.ensures.answer
 
 pub returns-in-Some-clause-txn : goal.returns-in-Some-clause-txn
 returns-in-Some-clause-txn g c =
-    read_sound c.args.book.now c.args.pass.now c.read_in.new.pass c.in-Some.t c.read_in.new.t c.args.v.now (downsampling_of c.args.down.now) c.read_in.result c.requires.pass c.requires.view
-    (subst (HasSoundTxn c.args.book.now.fixed c.args.pass.now.seen) c.in-Some.is c.requires.txn) c.read_in.ensures.txn c.read_in.ensures.answer
+    read_sound c.args.around.now.book.now c.args.pass.now c.read_in.new.pass c.in-Some.t c.read_in.new.t c.args.v.now (downsampling_of c.args.down.now) c.read_in.result c.requires.pass c.requires.view
+    (subst (HasSoundTxn c.args.around.now.book.now.fixed c.args.pass.now.seen) c.in-Some.is c.requires.txn) c.read_in.ensures.txn c.read_in.ensures.answer
 
 pub returns-in-Some-clause-failures : goal.returns-in-Some-clause-failures
 returns-in-Some-clause-failures g c =
-    read_tells c.args.book.now c.args.pass.now c.read_in.new.pass c.requires.pass c.in-Some.t c.read_in.new.t c.args.v.now (downsampling_of c.args.down.now) c.read_in.result c.read_in.ensures.answer
+    read_tells c.args.around.now.book.now c.args.pass.now c.read_in.new.pass c.requires.pass c.in-Some.t c.read_in.new.t c.args.v.now (downsampling_of c.args.down.now) c.read_in.result c.read_in.ensures.answer

@@ -16,7 +16,7 @@ returns-in-Ok-clause-told g c =
 
 pub returns-in-Err-clause-told : goal.returns-in-Err-clause-told
 returns-in-Err-clause-told g c =
-    refused_before c.args.book.now c.args.pass.now (get_by_text c.args.names.now) c.args.txn.now c.args.line (reading c.args.name.now (changes_of None c.args.steps.now) (downsampling_of c.args.down.now)) c.in-Err.body
+    refused_before c.args.around.now.book.now c.args.pass.now (get_by_text c.args.names.now) c.args.txn.now c.args.line (reading c.args.name.now (changes_of None c.args.steps.now) (downsampling_of c.args.down.now)) c.in-Err.body
     (c.in-Err.ensures.err (transaction_in c.args.txn.now))
 
 pub returns-in-Err-clause-failures : goal.returns-in-Err-clause-failures

@@ -5,8 +5,8 @@ use Rattle.sessions.proofs.reading.read_alone.Goals as goal
 
 pub returns-clause-told : goal.returns-clause-told
 returns-clause-told g c names asked act =
-    outside_told c.args.book.now c.args.pass.now c.read_in.new.pass c.requires.pass c.begin-t.result c.read_in.new.t c.args.v.now (downsampling_of c.args.down.now) names c.args.line asked c.begin-t.ensures act c.read_in.result c.read_in.ensures.answer
+    outside_told c.args.around.now.book.now c.args.pass.now c.read_in.new.pass c.requires.pass c.begin-t.result c.read_in.new.t c.args.v.now (downsampling_of c.args.down.now) names c.args.line asked c.begin-t.ensures act c.read_in.result c.read_in.ensures.answer
 
 pub returns-clause-failures : goal.returns-clause-failures
 returns-clause-failures g c =
-    read_tells c.args.book.now c.args.pass.now c.read_in.new.pass c.requires.pass c.begin-t.result c.read_in.new.t c.args.v.now (downsampling_of c.args.down.now) c.read_in.result c.read_in.ensures.answer
+    read_tells c.args.around.now.book.now c.args.pass.now c.read_in.new.pass c.requires.pass c.begin-t.result c.read_in.new.t c.args.v.now (downsampling_of c.args.down.now) c.read_in.result c.read_in.ensures.answer

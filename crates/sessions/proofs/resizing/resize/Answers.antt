@@ -22,19 +22,19 @@ returns-in-Ok-clause-told g c = λ line.
     let old = c.args.pass.now in
     let new = c.resize_in_turn.new.pass in
     let p = c.in-Ok.ensures.array in
-    subst (IsToldBy c.args.book.now old new (session_state names (length old.seen) c.args.txn.now) line (resizing c.args.name.now c.args.shape.now) names (transaction_in c.args.txn.now)) (sym c.resized_body.ensures)
-    (told_resized c.args.book.now old new names c.args.txn.now line c.args.name.now c.args.shape.now p.0 c.resize_in_turn.result c.requires.pass p.2
-    (subst (λ n. IsResizeTurn c.args.book.now old new n c.args.shape.now c.resize_in_turn.result) (sym p.1) c.resize_in_turn.ensures))
+    subst (IsToldBy c.args.around.now.book.now old new (session_state names (length old.seen) c.args.txn.now) line (resizing c.args.name.now c.args.shape.now) names (transaction_in c.args.txn.now)) (sym c.resized_body.ensures)
+    (told_resized c.args.around.now.book.now old new names c.args.txn.now line c.args.name.now c.args.shape.now p.0 c.resize_in_turn.result c.requires.pass p.2
+    (subst (λ n. IsResizeTurn c.args.around.now.book.now old new n c.args.shape.now c.resize_in_turn.result) (sym p.1) c.resize_in_turn.ensures))
 
 pub returns-in-Err-clause-told : goal.returns-in-Err-clause-told
 returns-in-Err-clause-told g c = λ line.
-    told_without c.args.book.now c.args.pass.now (session_state (get_by_text c.args.names.now) (length c.args.pass.now.seen) c.args.txn.now) line (resizing c.args.name.now c.args.shape.now) c.in-Err.body c.in-Err.ensures.err
+    told_without c.args.around.now.book.now c.args.pass.now (session_state (get_by_text c.args.names.now) (length c.args.pass.now.seen) c.args.txn.now) line (resizing c.args.name.now c.args.shape.now) c.in-Err.body c.in-Err.ensures.err
 
 pub returns-in-Ok-clause-failures : goal.returns-in-Ok-clause-failures
 returns-in-Ok-clause-failures g c =
     let old = c.args.pass.now in
     let new = c.resize_in_turn.new.pass in
-    subst (TellsFailures (added_by old new)) (sym c.resized_body.ensures) (resize_tells c.args.book.now old new c.in-Ok.array c.args.shape.now c.requires.pass c.resize_in_turn.result c.resize_in_turn.ensures)
+    subst (TellsFailures (added_by old new)) (sym c.resized_body.ensures) (resize_tells c.args.around.now.book.now old new c.in-Ok.array c.args.shape.now c.requires.pass c.resize_in_turn.result c.resize_in_turn.ensures)
 
 pub returns-in-Err-clause-failures : goal.returns-in-Err-clause-failures
 returns-in-Err-clause-failures g c =

@@ -12,7 +12,7 @@ use Rattle.sessions.proofs.staging.write.Goals as goal
 
 pub returns-in-Some-clause-txn : goal.returns-in-Some-clause-txn
 returns-in-Some-clause-txn g c =
-    c.stage.ensures.txn c.args.book.now.fixed c.args.pass.now.seen c.requires.known (subst (HasSoundTxn c.args.book.now.fixed c.args.pass.now.seen) c.in-Some.is c.requires.txn)
+    c.stage.ensures.txn c.args.around.now.book.now.fixed c.args.pass.now.seen c.requires.known (subst (HasSoundTxn c.args.around.now.book.now.fixed c.args.pass.now.seen) c.in-Some.is c.requires.txn)
 
 pub returns-in-Some-clause-failures : goal.returns-in-Some-clause-failures
 returns-in-Some-clause-failures g c =

@@ -13,7 +13,7 @@ use Rattle.sessions.proofs.writing.write_alone.Goals as goal
 
 pub returns-in-Err-clause-told : goal.returns-in-Err-clause-told
 returns-in-Err-clause-told g c =
-    told_without c.args.book.now c.args.pass.now (session_state (get_by_text c.args.names.now) (length c.args.pass.now.seen) None) c.args.line
+    told_without c.args.around.now.book.now c.args.pass.now (session_state (get_by_text c.args.names.now) (length c.args.pass.now.seen) None) c.args.line
     (writing c.args.name.now (changes_of None c.args.steps.now) (values_of (view c.args.values))) c.in-Err.body (c.in-Err.ensures.err None)
 
 pub returns-in-Err-clause-failures : goal.returns-in-Err-clause-failures

@@ -13,20 +13,20 @@ use Rattle.transactions.proofs.preparing.commit_kept.Goals as goal
 pub ask_in_turn-requires-clause-parts : goal.ask_in_turn-requires-clause-parts
 ask_in_turn-requires-clause-parts g c =
     let t = txn_of c.args.line c.args.mode c.args.ops.now c.args.staging.now c.args.kept.now in
-    parts_later c.args.book.now.fixed c.args.pass.now.seen t c.in_ok-parts.parts.items c.requires.txn c.in_ok-parts.ensures.apart c.in_ok-parts.ensures.parts
+    parts_later c.args.around.now.book.now.fixed c.args.pass.now.seen t c.in_ok-parts.parts.items c.requires.txn c.in_ok-parts.ensures.apart c.in_ok-parts.ensures.parts
 
 pub write_all-requires : goal.write_all-requires
-write_all-requires g c = all_ready c.args.book.now.fixed c.ask_in_turn.new.pass.seen c.in_ok-asked.asked.items c.in_ok-asked.ensures.asked
+write_all-requires g c = all_ready c.args.around.now.book.now.fixed c.ask_in_turn.new.pass.seen c.in_ok-asked.asked.items c.in_ok-asked.ensures.asked
 
 pub returns-in_err-marks : goal.returns-in_err-marks
-returns-in_err-marks g c = wanting_answer c.args.book.now c.args.pass.now c.ask_in_turn.new.pass _ c.from_residual-in_err-marks.result c.in_ok-asked.ensures.turned c.from_residual-in_err-marks.ensures.1
+returns-in_err-marks g c = wanting_answer c.args.around.now.book.now c.args.pass.now c.ask_in_turn.new.pass _ c.from_residual-in_err-marks.result c.in_ok-asked.ensures.turned c.from_residual-in_err-marks.ensures.1
 
 pub returns-in_err-ops : goal.returns-in_err-ops
-returns-in_err-ops g c = wanting_answer c.args.book.now c.args.pass.now c.ask_in_turn.new.pass _ c.from_residual-in_err-ops.result c.in_ok-asked.ensures.turned c.from_residual-in_err-ops.ensures.1
+returns-in_err-ops g c = wanting_answer c.args.around.now.book.now c.args.pass.now c.ask_in_turn.new.pass _ c.from_residual-in_err-ops.result c.in_ok-asked.ensures.turned c.from_residual-in_err-ops.ensures.1
 
 pub commit_in_turn-requires-clause-prepared : goal.commit_in_turn-requires-clause-prepared
 commit_in_turn-requires-clause-prepared g c =
-    let book = c.args.book.now in
+    let book = c.args.around.now.book.now in
     let t = txn_of c.args.line c.args.mode c.args.ops.now c.args.staging.now c.args.kept.now in
     let old = c.args.pass.now in
     let mid = c.ask_in_turn.new.pass in
@@ -52,7 +52,7 @@ commit_in_turn-requires-clause-prepared g c =
 
 pub returns : goal.returns
 returns g c =
-    let book = c.args.book.now in
+    let book = c.args.around.now.book.now in
     let t = txn_of c.args.line c.args.mode c.args.ops.now c.args.staging.now c.args.kept.now in
     let old = c.args.pass.now in
     let mid = c.ask_in_turn.new.pass in

@@ -10,8 +10,8 @@ located-requires-clause-alike g c = alike_known c.args.pass.now.seen c.args.v.no
 
 pub returns-in-Err-clause-errors : goal.returns-in-Err-clause-errors
 returns-in-Err-clause-errors g c =
-    subst (IsReadError c.args.book.now c.args.pass.now c.args.pass.now c.args.self.now c.args.v.now) (sym c.unlocated.ensures)
-    (locate_refused c.args.book.now c.args.pass.now c.args.self.now c.args.v.now c.in-Err.e c.in-Err.ensures.err)
+    subst (IsReadError c.args.around.now.book.now c.args.pass.now c.args.pass.now c.args.self.now c.args.v.now) (sym c.unlocated.ensures)
+    (locate_refused c.args.around.now.book.now c.args.pass.now c.args.self.now c.args.v.now c.in-Err.e c.in-Err.ensures.err)
 
 pub returns-in-Ok-clause-found : goal.returns-in-Ok-clause-found
 returns-in-Ok-clause-found g c = if_err_any c.read_cells.result (found_unless c.args.v.now c.in-Ok.ensures.sites)

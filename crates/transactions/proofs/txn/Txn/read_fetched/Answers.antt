@@ -9,17 +9,17 @@ use Rattle.transactions.proofs.ReadLaws.{all_told, has_read, if_ok_four, leaves_
 use Rattle.transactions.proofs.txn.Txn.read_fetched.Goals as goal
 
 pub show-requires-clause-cells : goal.show-requires-clause-cells
-show-requires-clause-cells g c = may_stage c.args.book.now.fixed c.args.pass.now.seen c.args.self.now c.args.v.now c.args.cells.now c.requires.read.1.of_view
+show-requires-clause-cells g c = may_stage c.args.around.now.book.now.fixed c.args.pass.now.seen c.args.self.now c.args.v.now c.args.cells.now c.requires.read.1.of_view
 
 pub show-requires-clause-sized : goal.show-requires-clause-sized
-show-requires-clause-sized g c = sized c.args.book.now.fixed c.requires.read.0 c.args.pass.now.seen c.args.self.now c.args.v.now c.args.cells.now c.args.fetched.items c.requires.read.1
+show-requires-clause-sized g c = sized c.args.around.now.book.now.fixed c.requires.read.0 c.args.pass.now.seen c.args.self.now c.args.v.now c.args.cells.now c.args.fetched.items c.requires.read.1
 
 pub show-requires-clause-new : goal.show-requires-clause-new
-show-requires-clause-new g c = new_are c.args.book.now.fixed c.requires.read.0 c.args.pass.now.seen c.args.self.now c.args.v.now c.args.cells.now c.args.fetched.items c.requires.read.1
+show-requires-clause-new g c = new_are c.args.around.now.book.now.fixed c.requires.read.0 c.args.pass.now.seen c.args.self.now c.args.v.now c.args.cells.now c.args.fetched.items c.requires.read.1
 
 pub returns-in-Ok-clause-read : goal.returns-in-Ok-clause-read
 returns-in-Ok-clause-read g c =
-    let fixed = c.args.book.now.fixed in
+    let fixed = c.args.around.now.book.now.fixed in
     let events = c.args.pass.now.seen in
     let t = c.args.self.now in
     let v = c.args.v.now in
@@ -35,10 +35,10 @@ returns-in-Ok-clause-read g c =
 
 pub returns-in-Ok-clause-txn : goal.returns-in-Ok-clause-txn
 returns-in-Ok-clause-txn g c =
-    subst (λ (p : PassView Event Opening). IsTxnIn c.args.book.now.fixed p.seen c.show.new.self) (sym c.in-Ok.ensures.ok)
-    (shown_txn c.args.book.now.fixed c.requires.read.0 c.args.pass.now.seen c.args.self.now c.args.v.now c.args.cells.now c.args.fetched.items c.requires.read.1 c.show.new.self c.show.result c.show.ensures.ok c.show.ensures.same)
+    subst (λ (p : PassView Event Opening). IsTxnIn c.args.around.now.book.now.fixed p.seen c.show.new.self) (sym c.in-Ok.ensures.ok)
+    (shown_txn c.args.around.now.book.now.fixed c.requires.read.0 c.args.pass.now.seen c.args.self.now c.args.v.now c.args.cells.now c.args.fetched.items c.requires.read.1 c.show.new.self c.show.result c.show.ensures.ok c.show.ensures.same)
 
 pub returns-in-Err-clause-txn : goal.returns-in-Err-clause-txn
 returns-in-Err-clause-txn g c =
-    passed_txn c.args.book.now c.args.pass.now c.checked.new.pass c.args.self.now c.requires.read.1.of_view.txn
-    (stray_passed c.args.book.now c.args.pass.now c.checked.new.pass _ c.in-Err.e c.in-Err.ensures.errors)
+    passed_txn c.args.around.now.book.now c.args.pass.now c.checked.new.pass c.args.self.now c.requires.read.1.of_view.txn
+    (stray_passed c.args.around.now.book.now c.args.pass.now c.checked.new.pass _ c.in-Err.e c.in-Err.ensures.errors)
