@@ -1,5 +1,5 @@
 -- What the rows of a block's walk store.
-use Rattle.std.proofs.Common.{◌≡◌, ℕ, ◌+◌, ◌*◌, ◌<◌, ◌≤◌, ◌^◌, Bool, List, [], ◌++◌, length, get_or, reverse, sym, ap, subst, ◌∙◌, arith, zero-add, mul_comm}
+use Rattle.std.proofs.Common.{◌≡◌, ℕ, ◌+◌, ◌*◌, ◌<◌, ◌≤◌, ◌^◌, Bool, List, ◌++◌, length, get_or, reverse, sym, ap, subst, ◌∙◌, arith, zero-add, mul_comm}
 use Rattle.std.proofs.Math.Nat.{mul-le-mul, mul-le-mul_left}
 use Rattle.cells.specs.Bytes.{byte_count, word_bytes}
 use Rattle.cells.specs.Elements.{element_bytes}
@@ -9,7 +9,7 @@ use Rattle.cells.proofs.Laws.{f_place-lt, cell_count-reverse, IsInside-reverse, 
 use Rattle.chunk_elements.specs.Blocks.{AreWithin, StoresWords, AreStored, AddsBlock}
 use Rattle.chunk_elements.specs.Rows.{word_in, words_of_rows, elements_of_rows, of_long}
 use Rattle.chunk_elements.proofs.FitLaws.{Fit, cell_count-within, fit_from_within, within_from_fit, within-reverse}
-use Rattle.chunk_elements.proofs.LongLaws.{cell_count-of_long, cell_count-of_long_sizes, fit-of_long, words_of_rows-of_long, elements_of_rows-of_long}
+use Rattle.chunk_elements.proofs.LongLaws.{cell_count-of_long, cell_count-of_long_sizes, fit-of_long}
 use Rattle.chunk_elements.proofs.PartLaws.{bytes_of_part}
 use Rattle.chunk_elements.proofs.RowLaws.{inside-fit, get_or-words_of_rows, get_or-lacking, length-words_of_rows, All-words_of_rows}
 use Rattle.chunk_elements.proofs.ElementLaws.{length-elements_of_rows, element-elements_of_rows}
@@ -95,27 +95,6 @@ pub few : (block sizes most stored bytes : List ℕ) (item b : ℕ) → AreWithi
     → AreFew item (cell_count most) (cell_count stored) b (length bytes)
 few block sizes most stored bytes item b within volume is least full left =
     few_by_numbers item (cell_count most) (cell_count stored) b (length bytes) (cell_count block) (cell_count sizes) is left.cells left.stored_cells least volume (cell_count-within block sizes within) full
-
--- the words that are read from what is left
-pub AreStored-long : (dtype : Dtype) (big : Bool) (block sizes bytes most stored before out : List ℕ) (item : ℕ) → AreWithin block sizes → ((i : ℕ) → get_or bytes i 0 < 256) → length bytes ≡ cell_count sizes * byte_count dtype
-    → most ≡ of_long block block sizes → stored ≡ of_long sizes block sizes → item ≡ byte_count dtype → before ≡ [] → out ≡ before ++ words_of_rows dtype big most stored item 0 bytes
-    → AreStored dtype big block sizes bytes out
-AreStored-long dtype big block sizes bytes most stored before out item within small full m s i none is =
-    let same : out ≡ words_of_rows dtype big block sizes (byte_count dtype) 0 bytes =
-    is ∙ ap (λ l. l ++ words_of_rows dtype big most stored item 0 bytes) none
-    ∙ ap (λ l. words_of_rows dtype big l stored item 0 bytes) m
-    ∙ ap (λ l. words_of_rows dtype big (of_long block block sizes) l item 0 bytes) s
-    ∙ ap (λ n. words_of_rows dtype big (of_long block block sizes) (of_long sizes block sizes) n 0 bytes) i
-    ∙ words_of_rows-of_long dtype big block sizes (byte_count dtype) 0 bytes (fit_from_within block sizes within) in
-    subst (AreStored dtype big block sizes bytes) (sym same) (AreStored-words_of_rows dtype big block sizes bytes within small full)
-
--- the elements that are written of what is left
-pub elements_of_rows-long : (dtype : Dtype) (big : Bool) (block sizes words most stored before out : List ℕ) → AreWithin block sizes → most ≡ of_long block block sizes → stored ≡ of_long sizes block sizes
-    → out ≡ before ++ elements_of_rows dtype big most stored 1 0 words → out ≡ before ++ elements_of_rows dtype big block sizes 1 0 words
-elements_of_rows-long dtype big block sizes words most stored before out within m s is =
-    is ∙ ap (λ l. before ++ elements_of_rows dtype big l stored 1 0 words) m
-    ∙ ap (λ l. before ++ elements_of_rows dtype big (of_long block block sizes) l 1 0 words) s
-    ∙ ap (λ l. before ++ l) (elements_of_rows-of_long dtype big block sizes 1 0 words (fit_from_within block sizes within))
 
 -- rows of the dimensions backwards add a block
 pub AddsBlock-backwards : (dtype : Dtype) (big : Bool) (block sizes words most stored before out : List ℕ) → AreWithin block sizes → most ≡ reverse block → stored ≡ reverse sizes

@@ -1,15 +1,15 @@
 -- A chunk is its words in the stored order, one after another.
-use Rattle.std.proofs.Common.{◌≡◌, ℕ, ◌+◌, ◌*◌, ◌<◌, ◌≤◌, Bool, false, List, [], length, take, drop, get_or, sym, ap, subst, ◌∙◌, arith}
+use Rattle.std.proofs.Common.{◌≡◌, ℕ, ◌+◌, ◌*◌, ◌<◌, ◌≤◌, Bool, false, List, length, drop, get_or, sym, ap, subst, ◌∙◌, arith}
 use Rattle.std.specs.Prelude.{All}
 use Rattle.std.proofs.Math.Nat.{mul-le-mul_left}
 use Rattle.std.proofs.lemmas.List.{length-take-le, length-drop}
-use Rattle.std.proofs.lemmas.List.Elements.{All-from_get_or, All-get_or}
+use Rattle.std.proofs.lemmas.List.Elements.{All-get_or}
 use Rattle.cells.specs.Numbers.{IsWord}
 use Rattle.cells.specs.Bytes.{byte_count, word_bytes, word_of_bytes}
-use Rattle.cells.specs.Places.{cell_count, IsInside, place_of, c_place, c_index}
+use Rattle.cells.specs.Places.{cell_count, IsInside, place_of, c_place}
 use Rattle.cells.specs.declared.dtype.Dtype.{Dtype}
 use Rattle.cells.specs.declared.order.Order.TheVariants.{C, F}
-use Rattle.cells.proofs.Laws.{word_of_bytes-word_bytes, word_bytes-word_of_bytes, IsWord-word_of_bytes, place_of-lt, c_place-lt, IsInside-c_index, c_place-c_index, cell_count-pos}
+use Rattle.cells.proofs.Laws.{word_of_bytes-word_bytes, word_bytes-word_of_bytes, IsWord-word_of_bytes, place_of-lt, c_place-lt, cell_count-pos}
 use Rattle.cells.specs.Dense.{DenseCells, IsDense}
 use Rattle.cells.specs.Items.{SpellsItems}
 use Rattle.cells.specs.Shapes.{IsChunkShape}
@@ -57,17 +57,6 @@ SpellsChunk-from_f m bytes words is full are stores = record {
       let less = c_place-lt m.chunks index within in
       All-get_or (IsWord m.dtype) words (c_place m.chunks index) 0 (omega (arith, less, full)) are;
 }
-
--- words of which each is one of the dtype
-pub All-from_each : (dtype : Dtype) (words : List ℕ) → ((p : ℕ) → p < length words → IsWord dtype (get_or words p 0)) → All (IsWord dtype) words
-All-from_each dtype words each = All-from_get_or (IsWord dtype) words 0 each
-
--- the words that a chunk's bytes spell are words of its dtype
-pub All-from_chunk : (m : Layout) (bytes words : List ℕ) → length words ≡ cell_count m.chunks → SpellsChunk m bytes (λ index. get_or words (c_place m.chunks index) 0) → All (IsWord m.dtype) words
-All-from_chunk m bytes words full spells =
-    All-from_get_or (IsWord m.dtype) words 0
-    (λ p less. let below : p < cell_count m.chunks = omega arith in
-    subst (λ q. IsWord m.dtype (get_or words q 0)) (c_place-c_index m.chunks p below) (spells.are_words (c_index m.chunks p) (IsInside-c_index m.chunks p below)))
 
 -- a chunk's bytes spell no other words
 pub SpellsChunk-unique : (m : Layout) (bytes : List ℕ) (word : List ℕ → ℕ) → SpellsChunk m bytes word → (index : List ℕ) → IsInside m.chunks index → word index ≡ chunk_word m bytes index

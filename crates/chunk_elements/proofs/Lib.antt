@@ -4,8 +4,9 @@ pub mod ElementLaws
 pub mod FitLaws
 pub mod Laws
 pub mod LongLaws
+pub mod MoveLaws
 pub mod PartLaws
+pub mod PutLaws
 pub mod RowLaws
 pub mod RowSteps
-pub mod WholeLaws
-pub mod WordLaws
+pub mod TakeLaws

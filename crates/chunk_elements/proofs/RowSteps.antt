@@ -1,13 +1,13 @@
 -- Rows, one after another.
-use Rattle.std.proofs.Common.{◌≡◌, ℕ, zero, suc, ◌+◌, ◌*◌, ◌-◌, ◌<◌, ◌≤◌, ◌^◌, List, [], ◌∷◌, ◌++◌, length, get_or, take, drop, replicate, Bool, refl, sym, ap, ◌∙◌, arith, add-zero, zero-add, append_assoc}
+use Rattle.std.proofs.Common.{◌≡◌, ℕ, zero, suc, ◌+◌, ◌*◌, ◌-◌, ◌<◌, ◌≤◌, ◌^◌, List, [], ◌∷◌, ◌++◌, length, get_or, take, drop, replicate, Bool, refl, sym, ap, ◌∙◌, arith, add-zero, zero-add}
 use Rattle.std.specs.List.{flat_map, range_with_len}
 use Rattle.std.proofs.Math.Nat.{mul-le-mul_left}
-use Rattle.std.proofs.Math.Seq.{take-length}
+use Rattle.std.proofs.Math.Seq.{take-append_seam, take-length}
 use Rattle.std.proofs.lemmas.List.{flat_map_more}
 use Rattle.cells.specs.Places.{cell_count}
 use Rattle.cells.specs.declared.dtype.Dtype.{Dtype}
 use Rattle.chunk_elements.specs.Blocks.{AreWithin}
-use Rattle.chunk_elements.specs.Rows.{words_of_rows, elements_of_rows}
+use Rattle.chunk_elements.specs.Rows.{words_of_rows}
 
 -- the sizes behind the first
 abbrev pub behind : List ℕ → List ℕ
@@ -60,38 +60,6 @@ reads_row (b ∷ bs) (s ∷ ss) stride from i item len one one' within some room
     rw (behind-cons b bs, behind-cons s ss)
     (omega arith, within-behind b s bs ss within, reads_row_by_numbers b s (cell_count bs) (cell_count ss) stride from i item len (within-first b s bs ss within) some room fits small less)
 
--- what a row of words needs, and that its numbers fit
-pub record WritesRow (b p stride from i len : ℕ) : Type 0 where
-  pub cells : 0 < p
-  pub room : from + i * stride + stride * b * p < len + stride * b
-  pub fits : stride * b * p ≤ 2 ^ 24
-  pub stride_fits : stride * b ≤ 2 ^ 24
-  pub step_fits : i * stride ≤ 2 ^ 24
-  pub from_fits : from + i * stride ≤ 2 ^ 26
-
-writes_row_by_numbers : (b p stride from i len : ℕ) → i < b → 0 < b * p → from + stride * (b * p) < len + stride → stride * (b * p) ≤ 2 ^ 24 → len ≤ 2 ^ 24 → WritesRow b p stride from i len
-writes_row_by_numbers b zero stride from i len within some room fits small = absurd (omega arith)
-writes_row_by_numbers b (suc p) stride from i len within some room fits small =
-    let steps : stride * (i + 1) ≤ stride * b = mul-le-mul_left stride (omega arith) in
-    record {
-      cells = omega arith;
-      room = omega (arith, steps);
-      fits = omega arith;
-      stride_fits = omega arith;
-      step_fits = omega (arith, steps);
-      from_fits = omega (arith, steps);
-    }
-
-pub writes_row : (block sizes : List ℕ) (stride from i len : ℕ) → 1 ≤ length block → 1 ≤ length sizes → AreWithin block sizes → 0 < cell_count block
-    → from + stride * cell_count block < len + stride → stride * cell_count block ≤ 2 ^ 24 → len ≤ 2 ^ 24 → i < get_or sizes 0 0
-    → (length (behind block) < length block) × AreWithin (behind block) (behind sizes) × WritesRow (get_or block 0 0) (cell_count (behind block)) stride from i len
-writes_row [] sizes stride from i len one one' within some room fits small less = absurd (omega arith)
-writes_row (b ∷ bs) [] stride from i len one one' within some room fits small less = absurd (omega arith)
-writes_row (b ∷ bs) (s ∷ ss) stride from i len one one' within some room fits small less =
-    let most = within-first b s bs ss within in
-    rw (behind-cons b bs, behind-cons s ss)
-    (omega arith, within-behind b s bs ss within, writes_row_by_numbers b (cell_count bs) stride from i len (omega arith) some room fits small)
-
 -- a number more
 range_more : (a n : ℕ) → range_with_len a (n + 1) ≡ range_with_len a n ++ (a + n) ∷ []
 range_more a zero = rw add-zero refl
@@ -104,22 +72,6 @@ range_more a (suc n) =
 pub rows_more : (row : ℕ → List ℕ) (before out more : List ℕ) (i : ℕ) → out ≡ before ++ flat_map row (range_with_len 0 i) → more ≡ out ++ row i → more ≡ before ++ flat_map row (range_with_len 0 (i + 1))
 rows_more row before out more i is next =
     next ∙ rw is (flat_map_more row before (range_with_len 0 i) i ∙ ap (λ l. before ++ flat_map row l) (sym (range_more 0 i ∙ rw zero-add refl)))
-
--- all rows, and what follows them
-pub rows_and_more : (row : ℕ → List ℕ) (before out more after whole : List ℕ) (i n : ℕ) → out ≡ before ++ flat_map row (range_with_len 0 i) → i ≡ n → flat_map row (range_with_len 0 n) ++ after ≡ whole → more ≡ out ++ after → more ≡ before ++ whole
-rows_and_more row before out more after whole i n is end all next =
-    next ∙ ap (λ l. l ++ after) (is ∙ ap (λ k. before ++ flat_map row (range_with_len 0 k)) end) ∙ append_assoc before (flat_map row (range_with_len 0 n)) after ∙ ap (λ l. before ++ l) all
-
-pub all_rows : (row : ℕ → List ℕ) (before out whole : List ℕ) (i n : ℕ) → out ≡ before ++ flat_map row (range_with_len 0 i) → i ≡ n → flat_map row (range_with_len 0 n) ≡ whole → out ≡ before ++ whole
-all_rows row before out whole i n is end all = is ∙ ap (λ k. before ++ flat_map row (range_with_len 0 k)) end ∙ ap (λ l. before ++ l) all
-
--- the rows that aren't stored are few
-pub zeros_fit : (block sizes : List ℕ) → 1 ≤ length block → 1 ≤ length sizes → cell_count block ≤ 2 ^ 24 → (get_or block 0 0 - get_or sizes 0 0) * cell_count (behind block) ≤ 2 ^ 24
-zeros_fit [] sizes one one' fits = absurd (omega arith)
-zeros_fit (b ∷ bs) [] one one' fits = absurd (omega arith)
-zeros_fit (b ∷ bs) (s ∷ ss) one one' fits =
-    let whole : cell_count bs * (b - s) ≤ cell_count bs * b = mul-le-mul_left (cell_count bs) (omega arith) in
-    rw behind-cons (omega (arith, whole))
 
 -- the rows behind the first dimension have no more cells than the block
 pub behind_fits : (block : List ℕ) → 1 ≤ length block → 0 < cell_count block → cell_count block ≤ 2 ^ 24 → cell_count (behind block) ≤ 2 ^ 24
@@ -136,9 +88,6 @@ words_of_all_rows dtype big [] sizes stride from elements one one' = absurd (ome
 words_of_all_rows dtype big (b ∷ bs) [] stride from elements one one' = absurd (omega arith)
 words_of_all_rows dtype big (b ∷ bs) (s ∷ ss) stride from elements one one' = rw (behind-cons b bs, behind-cons s ss) refl
 
-pub elements_of_all_rows : (dtype : Dtype) (big : Bool) (block sizes : List ℕ) (stride from : ℕ) (words : List ℕ) → 1 ≤ length block → 1 ≤ length sizes
-    → flat_map (λ i. elements_of_rows dtype big (behind block) (behind sizes) (stride * get_or block 0 0) (from + i * stride) words) (range_with_len 0 (get_or sizes 0 0))
-    ≡ elements_of_rows dtype big block sizes stride from words
-elements_of_all_rows dtype big [] sizes stride from words one one' = absurd (omega arith)
-elements_of_all_rows dtype big (b ∷ bs) [] stride from words one one' = absurd (omega arith)
-elements_of_all_rows dtype big (b ∷ bs) (s ∷ ss) stride from words one one' = rw (behind-cons b bs, behind-cons s ss) refl
+-- what was written over whole contents
+pub whole_over : (n : ℕ) (new rest : List ℕ) → length new ≡ n → take n (new ++ rest) ≡ new
+whole_over n new rest is = ap (λ k. take k (new ++ rest)) (sym is) ∙ take-append_seam new rest

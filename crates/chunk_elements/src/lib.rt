@@ -6,19 +6,18 @@
 //! vector, by the layout that a format states.
 #![tactic(auto)]
 
-mod block;
+mod count;
+mod dense;
 mod element;
 mod error;
 mod long;
-mod row;
-mod rows;
-mod whole;
-mod words;
+mod moving;
+mod putting;
+mod taking;
 
-pub use block::{put_block, words_of_block};
 pub use cells::{
     Dense, Dtype, LARGEST_RANK, List, MOST_CHUNK_CELLS, Order, Sizes, count_cells, is_chunk_shape,
     is_shape, put_word, take_word,
 };
+pub use dense::{bytes_of_dense, dense_of, dense_of_block, put_dense};
 pub use error::ChunkError;
-pub use words::{bytes_of, words_of};

@@ -1,5 +1,5 @@
 -- Bytes without a fault spell a block, and what is written for one.
-use Rattle.std.proofs.Common.{◌≡◌, ℕ, ◌*◌, ◌<◌, ◌≤◌, ◌^◌, List, ◌++◌, length, get_or, drop, true, None, sym, ap, subst, ◌∙◌, arith}
+use Rattle.std.proofs.Common.{◌≡◌, ℕ, ◌*◌, ◌<◌, List, length, get_or, drop, true, None, sym, ap, subst, ◌∙◌, arith}
 use Rattle.std.specs.Prelude.{All}
 use Rattle.std.proofs.lemmas.List.{length-drop}
 use Rattle.std.proofs.lemmas.List.Elements.{All-get_or}
@@ -67,19 +67,6 @@ pub SpellsBlock-dense : (m : Metadata) (bytes words : List ℕ) (d : DenseCells)
 SpellsBlock-dense m bytes words d small none stored same are =
     subst (λ shape. SpellsBlock m bytes (λ index. get_or d.words (c_place shape index) 0)) (sym same)
     (subst (λ ws. SpellsBlock m bytes (λ index. get_or ws (c_place m.block index) 0)) (sym are) (SpellsBlock-stored m bytes words small none stored))
-
--- stored words stand in the block's shape
-pub IsDense-stored : (m : Metadata) (sizes elements shape words held : List ℕ) → IsMetadata m → AreStored m.dtype true m.block sizes elements words → shape ≡ m.block → held ≡ words
-    → IsDense (record { dtype = m.dtype; shape = shape; words = held })
-IsDense-stored m sizes elements shape words held rules stored same are =
-    let volume : cell_count m.block ≤ 2 ^ 24 = rules.block.volume in
-    let of_dtype : All (IsWord m.dtype) words = stored.are_words in
-    record {
-      rank = omega (arith, ap length same, rules.ranks, rules.dimensions.rank);
-      small = rw same volume;
-      full = ap length are ∙ stored.full ∙ ap cell_count (sym same);
-      of_dtype = rw are of_dtype;
-    }
 
 -- a header and a block's elements are what is written for it
 pub WritesBlock-dense : (m : Metadata) (index bytes : List ℕ) (d : DenseCells) → IsDense d → d.dtype ≡ m.dtype → d.shape ≡ m.block

@@ -1,14 +1,10 @@
 -- Stored sizes that fit a block.
-use Rattle.std.proofs.Common.{◌≡◌, ℕ, zero, suc, ◌+◌, ◌<◌, ◌≤◌, ◌^◌, List, [], ◌∷◌, ◌++◌, length, get_or, take, drop, reverse, Bool, true, false, Option, Some, None, refl, arith}
-use Rattle.std.proofs.Math.Nat.{mul-le-mul}
+use Rattle.std.proofs.Common.{◌≡◌, ℕ, ◌+◌, ◌<◌, ◌^◌, List, [], ◌∷◌, length, take, drop, Bool, true, false, Option, Some, None, refl, arith}
 use Rattle.std.proofs.lemmas.Bool.{ltb-false}
 use Rattle.std.proofs.lemmas.Int.{ints}
-use Rattle.std.proofs.lemmas.List.{reverse-append}
 use Rattle.chunk_elements.specs.Numbers.{IsWord}
-use Rattle.chunk_elements.specs.Places.{cell_count}
 use Rattle.chunk_elements.proofs.Laws.{IsWord-word_of_bytes}
-use Rattle.chunk_elements.specs.declared.Dtype.{Dtype}
-use Rattle.chunk_elements.specs.declared.Dtype.TheVariants.{I8, U8, I16, U16, I32, U32, I64, U64}
+use Rattle.chunk_elements.specs.declared.Dtype.TheVariants.{U16, U32}
 use Rattle.std.specs.Prelude.{nat_lt, if◌then◌else◌}
 use Rattle.chunk_elements.specs.Blocks.{AreWithin}
 use Rattle.chunk_elements.proofs.Laws.{Fit, within_from_fit}

@@ -1,16 +1,16 @@
-ghost use Rattle.std.specs.Prelude.{◌≡◌, ◌≢◌, ◌↔◌, ℕ, ◌*◌, ◌≤◌, ◌<◌, ◌^◌, ◌++◌, IfOk, IfErr, OnOk, Some, None, true, drop, length, slice_index};
+ghost use Rattle.std.specs.Prelude.{◌≡◌, ◌≢◌, ◌↔◌, ℕ, ◌*◌, ◌≤◌, ◌<◌, ◌^◌, ◌++◌, IfOk, IfErr, OnOk, Some, None, true, length, slice_index};
 ghost use Rattle.chunk_elements.specs.Numbers.{IsWord};
 ghost use Rattle.chunk_elements.specs.Bytes.{word_bytes};
-ghost use Rattle.chunk_elements.specs.Places.{cell_count};
-ghost use Rattle.chunk_elements.specs.Shapes.{IsChunkShape};
 ghost use Rattle.n5_blocks.specs.Block.{AreWithin, IsReached, IsZeroOutside, SpellsBlock, WritesBlock, cut_sizes, header, word_at};
-ghost use Rattle.n5_blocks.specs.Faults.{block_fault, cells_fault, header_len, sizes_in};
-ghost use Rattle.chunk_elements.specs.Blocks.{AddsBlock, AreStored};
+ghost use Rattle.n5_blocks.specs.Faults.{block_fault};
+ghost use Rattle.chunk_elements.specs.Blocks.{AddsBlock};
+ghost use Rattle.chunk_elements.specs.Dense.{IsDense};
+ghost use Rattle.chunk_elements.specs.Shapes.{IsChunkShape};
 ghost use Rattle.n5_blocks.specs.declared.chunk.BlockError.{BlockError};
 
 use crate::faults::{block_fault, cells_of, header_len, sizes_in};
 use crate::metadata::N5Meta;
-use chunk_elements::{Dense, Dtype, Sizes, put_block, put_word, words_of_block};
+use chunk_elements::{Dense, Dtype, Sizes, dense_of_block, put_dense, put_word};
 use std::alloc::{AllocError, Global};
 use thiserror::Error;
 
@@ -64,13 +64,7 @@ pub fn decode(alloc: Global, m: &N5Meta, bytes: &[u8]) -> Result<Dense, BlockErr
     if let Some(fault) = block_fault(m, bytes) {
         return Err(fault);
     }
-    let Ok(words) = read_words(alloc, m.dtype, m.block.items(), bytes) else {
-        return Err(BlockError::Memory);
-    };
-    let Ok(shape) = Vec::from_slice(alloc, m.block.items()) else {
-        return Err(BlockError::Memory);
-    };
-    let Ok(cells) = Dense::of_words(alloc, m.dtype, Sizes::wrap(shape), &words) else {
+    let Ok(cells) = read_cells(alloc, m, bytes) else {
         return Err(BlockError::Memory);
     };
     Ok(cells)
@@ -90,8 +84,7 @@ pub fn encode(alloc: Global, m: &N5Meta, chunk: &[u64], d: &Dense) -> Result<Vec
     ensures { IfOk result (λ bytes. WritesBlock m.now chunk.now bytes.items (word_at d.now)) }
 {
     let sizes = cut_sizes(alloc, m.block.items(), m.dimensions.items(), chunk)?;
-    let words = d.to_words(alloc)?;
-    write_block(alloc, m.dtype, m.block.items(), sizes.as_slice(), &words)
+    write_block(alloc, d, sizes.as_slice())
 }
 
 /// The sizes of a block as far as the array reaches.
@@ -118,42 +111,40 @@ pub fn cut_sizes(
     Ok(sizes)
 }
 
-// The words of a block's cells in C order.
-fn read_words(
-    alloc: Global,
-    dtype: Dtype,
-    block: &[u64],
-    bytes: &[u8],
-) -> Result<Vec<u64>, AllocError>
-    requires rank { length block.now ≤ 32 }
-    requires block { IsChunkShape block.now }
-    requires sound { cells_fault dtype block.now bytes.now ≡ None }
-    ensures { IfOk result (λ words. AreStored dtype true block.now (sizes_in (length block.now) bytes.now)
-        (drop (header_len (length block.now)) bytes.now) words.items) }
+// The numbers that a block's bytes spell.
+fn read_cells(alloc: Global, m: &N5Meta, bytes: &[u8]) -> Result<Dense, AllocError>
+    requires sound { block_fault m.now bytes.now ≡ None }
+    ensures dtype { IfOk result (λ d. d.dtype ≡ m.now.dtype) }
+    ensures shape { IfOk result (λ d. d.shape ≡ m.now.block) }
+    ensures spells { IfOk result (λ d. SpellsBlock m.now bytes.now (word_at d)) }
 {
-    let elements = &bytes[header_len(block.len())..];
-    let sizes = sizes_in(block.len(), bytes);
-    words_of_block(alloc, dtype, true, block, &sizes[..block.len()], elements)
+    let rank = m.block.items().len();
+    let shape = Vec::from_slice(alloc, m.block.items())?;
+    let sizes = sizes_in(rank, bytes);
+    let cells = dense_of_block(
+        alloc,
+        m.dtype,
+        true,
+        Sizes::wrap(shape),
+        &sizes[..rank],
+        &bytes[header_len(rank)..],
+    )?;
+    Ok(cells)
 }
 
-// The bytes of a block, whose words are given in C order, that store the cells of these sizes.
-fn write_block(
-    alloc: Global,
-    dtype: Dtype,
-    block: &[u64],
-    sizes: &[u64],
-    words: &[u64],
-) -> Result<Vec<u8>, AllocError>
-    requires rank { length block.now ≤ 32 }
-    requires block { IsChunkShape block.now }
-    requires within { AreWithin block.now sizes.now }
-    requires count { length words.now ≡ cell_count block.now }
-    ensures { IfOk result (λ bytes. AddsBlock dtype true block.now sizes.now words.now (header sizes.now) bytes.items) }
+// The bytes of a block that store the cells of these sizes.
+fn write_block(alloc: Global, d: &Dense, sizes: &[u64]) -> Result<Vec<u8>, AllocError>
+    requires block { IsChunkShape d.now.shape }
+    requires within { AreWithin d.now.shape sizes.now }
+    ensures adds { IfOk result (λ bytes. AddsBlock d.now.dtype true d.now.shape sizes.now d.now.words (header sizes.now)
+        bytes.items) }
+    ensures well_formed { IsDense d.now }
 {
-    let len = header_len(sizes.len()) + cells_of(sizes) * dtype.byte_count();
+    let item = d.dtype().byte_count();
+    let len = header_len(sizes.len()) + cells_of(sizes) * item;
     let mut bytes = Vec::with_capacity(alloc, len)?;
     put_header(sizes, &mut bytes)?;
-    put_block(alloc, dtype, true, block, sizes, words, bytes)
+    put_dense(alloc, true, d, sizes, bytes)
 }
 
 // Appends the header of a block of these sizes.

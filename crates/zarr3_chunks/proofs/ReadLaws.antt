@@ -196,10 +196,6 @@ codecs_judged : (dtype : Dtype) (o : Option Data) (items : Option (List Data)) (
 codecs_judged dtype o None big found is = absurd (let no_such : ⊥ = cc in no_such)
 codecs_judged dtype o (Some ds) big found is = codecs_by dtype o ds big found (ok_from_then (are_named ds) (sole_codec dtype ds) big Bad is).1
 
--- a byte order of one byte is never "big"
-one_byte_judged : (dtype : Dtype) (big : Bool) → (byte_count dtype ≡ 1) → unsaid dtype ≡ Ok big → big ≡ false
-one_byte_judged dtype big one is = (unsaid_judged dtype big is).1
-
 endian_one_byte : (dtype : Dtype) (text : List ℕ) (big : Bool) → byte_count dtype ≡ 1 → endian_named dtype text ≡ Ok big → big ≡ false
 endian_one_byte dtype text big one is =
     elim (one_of_two text (codes "little") (codes "big") false (not (is_byte dtype)) big is) [

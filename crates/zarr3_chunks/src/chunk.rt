@@ -7,7 +7,9 @@ ghost use Rattle.chunk_elements.specs.declared.error.ChunkError.TheVariants as e
 ghost use Rattle.zarr3_chunks.specs.Chunk.{SpellsChunk, chunk_len};
 
 use crate::metadata::Zarr3Meta;
-use chunk_elements::{ChunkError, Dense, MOST_CHUNK_CELLS, Sizes, bytes_of, count_cells, words_of};
+use chunk_elements::{
+    ChunkError, Dense, MOST_CHUNK_CELLS, Sizes, bytes_of_dense, count_cells, dense_of,
+};
 use std::alloc::{AllocError, Global};
 
 /// The numbers that a chunk's bytes spell: the elements in C order in the stated byte order, and nothing else.
@@ -33,13 +35,7 @@ pub fn decode(alloc: Global, m: &Zarr3Meta, bytes: &[u8]) -> Result<Dense, Chunk
             want: want as u64,
         });
     }
-    let Ok(words) = read_words(alloc, m, count, bytes) else {
-        return Err(ChunkError::Memory);
-    };
-    let Ok(shape) = Vec::from_slice(alloc, m.chunks.items()) else {
-        return Err(ChunkError::Memory);
-    };
-    let Ok(cells) = Dense::of_words(alloc, m.dtype, Sizes::wrap(shape), &words) else {
+    let Ok(cells) = read_cells(alloc, m, bytes) else {
         return Err(ChunkError::Memory);
     };
     Ok(cells)
@@ -56,8 +52,7 @@ pub fn encode(alloc: Global, m: &Zarr3Meta, d: &Dense) -> Result<Vec<u8>, AllocE
     requires shape { d.now.shape ≡ m.now.chunks }
     ensures { IfOk result (λ bytes. SpellsChunk m.now bytes.items (word_at d.now)) }
 {
-    let words = d.to_words(alloc)?;
-    write_words(alloc, m, &words)
+    bytes_of_dense(alloc, m.big, d)
 }
 
 // The number of cells of a chunk.
@@ -71,28 +66,14 @@ fn cells_of(m: &Zarr3Meta) -> usize
     count as usize
 }
 
-// The words that a chunk's bytes spell.
-fn read_words(
-    alloc: Global,
-    m: &Zarr3Meta,
-    count: usize,
-    bytes: &[u8],
-) -> Result<Vec<u64>, AllocError>
-    requires count { count ≡ cell_count m.now.chunks }
+// The cells that a chunk's bytes spell.
+fn read_cells(alloc: Global, m: &Zarr3Meta, bytes: &[u8]) -> Result<Dense, AllocError>
     requires full { length bytes.now ≡ chunk_len m.now }
-    requires small { count ≤ 2 ^ 24 }
-    ensures { IfOk result (λ words. (length words.items ≡ cell_count m.now.chunks)
-        × SpellsChunk m.now bytes.now (λ index. slice_index words.items (c_place m.now.chunks index))) }
+    ensures dtype { IfOk result (λ d. d.dtype ≡ m.now.dtype) }
+    ensures shape { IfOk result (λ d. d.shape ≡ m.now.chunks) }
+    ensures spells { IfOk result (λ d. SpellsChunk m.now bytes.now (word_at d)) }
 {
-    words_of(alloc, m.dtype, m.big, count, bytes)
-}
-
-// The bytes that spell words.
-fn write_words(alloc: Global, m: &Zarr3Meta, words: &[u64]) -> Result<Vec<u8>, AllocError>
-    requires count { length words.now ≡ cell_count m.now.chunks }
-    requires words { (place : ℕ) → place < length words.now → IsWord m.now.dtype (slice_index words.now place) }
-    ensures { IfOk result (λ bytes. SpellsChunk m.now bytes.items
-        (λ index. slice_index words.now (c_place m.now.chunks index))) }
-{
-    bytes_of(alloc, m.dtype, m.big, words)
+    let shape = Vec::from_slice(alloc, m.chunks.items())?;
+    let cells = dense_of(alloc, m.dtype, m.big, Sizes::wrap(shape), bytes)?;
+    Ok(cells)
 }

@@ -8,8 +8,8 @@ ghost use Rattle.zarr_chunks.specs.Chunk.{SpellsChunk, chunk_len, word_at};
 
 use crate::metadata::ZarrMeta;
 use chunk_elements::{
-    ChunkError, Dense, Dtype, MOST_CHUNK_CELLS, Order, Sizes, bytes_of, count_cells, put_block,
-    words_of, words_of_block,
+    ChunkError, Dense, MOST_CHUNK_CELLS, Order, Sizes, bytes_of_dense, count_cells, dense_of,
+    dense_of_block, put_dense,
 };
 use std::alloc::{AllocError, Global};
 
@@ -36,7 +36,7 @@ pub fn decode(alloc: Global, m: &ZarrMeta, bytes: &[u8]) -> Result<Dense, ChunkE
             want: want as u64,
         });
     }
-    let Ok(cells) = read_cells(alloc, m, count, bytes) else {
+    let Ok(cells) = read_cells(alloc, m, bytes) else {
         return Err(ChunkError::Memory);
     };
     Ok(cells)
@@ -55,18 +55,30 @@ pub fn encode(alloc: Global, m: &ZarrMeta, d: &Dense) -> Result<Vec<u8>, AllocEr
 {
     match m.order {
         Order::C if !m.big => Vec::from_slice(alloc, d.bytes()),
-        _ => spell_words(alloc, m, d),
+        Order::C => spell_elements(alloc, m, d),
+        Order::F => spell_block(alloc, m, d),
     }
 }
 
-// The same by way of words.
-fn spell_words(alloc: Global, m: &ZarrMeta, d: &Dense) -> Result<Vec<u8>, AllocError>
+// The same in C order.
+fn spell_elements(alloc: Global, m: &ZarrMeta, d: &Dense) -> Result<Vec<u8>, AllocError>
+    requires order { m.now.order ≡ ordering.C }
     requires dtype { d.now.dtype ≡ m.now.dtype }
     requires shape { d.now.shape ≡ m.now.chunks }
     ensures { IfOk result (λ bytes. SpellsChunk m.now bytes.items (word_at d.now)) }
 {
-    let words = d.to_words(alloc)?;
-    write_words(alloc, m, &words)
+    bytes_of_dense(alloc, m.big, d)
+}
+
+// The same in F order.
+fn spell_block(alloc: Global, m: &ZarrMeta, d: &Dense) -> Result<Vec<u8>, AllocError>
+    requires order { m.now.order ≡ ordering.F }
+    requires dtype { d.now.dtype ≡ m.now.dtype }
+    requires shape { d.now.shape ≡ m.now.chunks }
+    ensures { IfOk result (λ bytes. SpellsChunk m.now bytes.items (word_at d.now)) }
+{
+    let bytes = Vec::with_capacity(alloc, d.bytes().len())?;
+    put_dense(alloc, m.big, d, m.chunks.items(), bytes)
 }
 
 // The number of cells of a chunk.
@@ -81,8 +93,7 @@ fn cells_of(m: &ZarrMeta) -> usize
 }
 
 // The cells that a chunk's bytes spell.
-fn read_cells(alloc: Global, m: &ZarrMeta, count: usize, bytes: &[u8]) -> Result<Dense, AllocError>
-    requires count { count ≡ cell_count m.now.chunks }
+fn read_cells(alloc: Global, m: &ZarrMeta, bytes: &[u8]) -> Result<Dense, AllocError>
     requires full { length bytes.now ≡ chunk_len m.now }
     ensures dtype { IfOk result (λ d. d.dtype ≡ m.now.dtype) }
     ensures shape { IfOk result (λ d. d.shape ≡ m.now.chunks) }
@@ -90,7 +101,8 @@ fn read_cells(alloc: Global, m: &ZarrMeta, count: usize, bytes: &[u8]) -> Result
 {
     match m.order {
         Order::C if !m.big => keep_bytes(alloc, m, bytes),
-        _ => take_words(alloc, m, count, bytes),
+        Order::C => take_elements(alloc, m, bytes),
+        Order::F => take_block(alloc, m, bytes),
     }
 }
 
@@ -108,63 +120,35 @@ fn keep_bytes(alloc: Global, m: &ZarrMeta, bytes: &[u8]) -> Result<Dense, AllocE
     Ok(Dense::from_bytes(m.dtype, Sizes::wrap(shape), items))
 }
 
-// By way of words.
-fn take_words(alloc: Global, m: &ZarrMeta, count: usize, bytes: &[u8]) -> Result<Dense, AllocError>
-    requires count { count ≡ cell_count m.now.chunks }
+// Elements one after another in C order.
+fn take_elements(alloc: Global, m: &ZarrMeta, bytes: &[u8]) -> Result<Dense, AllocError>
+    requires order { m.now.order ≡ ordering.C }
     requires full { length bytes.now ≡ chunk_len m.now }
     ensures dtype { IfOk result (λ d. d.dtype ≡ m.now.dtype) }
     ensures shape { IfOk result (λ d. d.shape ≡ m.now.chunks) }
     ensures spells { IfOk result (λ d. SpellsChunk m.now bytes.now (word_at d)) }
 {
-    let words = read_words(alloc, m, count, bytes)?;
     let shape = Vec::from_slice(alloc, m.chunks.items())?;
-    Dense::of_words(alloc, m.dtype, Sizes::wrap(shape), &words)
+    let cells = dense_of(alloc, m.dtype, m.big, Sizes::wrap(shape), bytes)?;
+    Ok(cells)
 }
 
-// The words that a chunk's bytes spell, in C order.
-fn read_words(
-    alloc: Global,
-    m: &ZarrMeta,
-    count: usize,
-    bytes: &[u8],
-) -> Result<Vec<u64>, AllocError>
-    requires count { count ≡ cell_count m.now.chunks }
+// The first index fastest.
+fn take_block(alloc: Global, m: &ZarrMeta, bytes: &[u8]) -> Result<Dense, AllocError>
+    requires order { m.now.order ≡ ordering.F }
     requires full { length bytes.now ≡ chunk_len m.now }
-    ensures { IfOk result (λ words. (length words.items ≡ cell_count m.now.chunks)
-        × SpellsChunk m.now bytes.now (λ index. slice_index words.items (c_place m.now.chunks index))) }
+    ensures dtype { IfOk result (λ d. d.dtype ≡ m.now.dtype) }
+    ensures shape { IfOk result (λ d. d.shape ≡ m.now.chunks) }
+    ensures spells { IfOk result (λ d. SpellsChunk m.now bytes.now (word_at d)) }
 {
-    let chunks = m.chunks.items();
-    match m.order {
-        Order::C => words_of(alloc, m.dtype, m.big, count, bytes),
-        Order::F => words_of_block(alloc, m.dtype, m.big, chunks, chunks, bytes),
-    }
-}
-
-// The bytes that spell words, given in C order.
-fn write_words(alloc: Global, m: &ZarrMeta, words: &[u64]) -> Result<Vec<u8>, AllocError>
-    requires count { length words.now ≡ cell_count m.now.chunks }
-    requires words { (place : ℕ) → place < length words.now → IsWord m.now.dtype (slice_index words.now place) }
-    ensures { IfOk result (λ bytes. SpellsChunk m.now bytes.items
-        (λ index. slice_index words.now (c_place m.now.chunks index))) }
-{
-    match m.order {
-        Order::C => bytes_of(alloc, m.dtype, m.big, words),
-        Order::F => bytes_of_block(alloc, m.dtype, m.big, m.chunks.items(), words),
-    }
-}
-
-// The bytes of words, given in C order, one after another in F order.
-fn bytes_of_block(
-    alloc: Global,
-    dtype: Dtype,
-    big: bool,
-    chunks: &[u64],
-    words: &[u64],
-) -> Result<Vec<u8>, AllocError>
-    requires chunks { IsChunkShape chunks.now }
-    requires count { length words.now ≡ cell_count chunks.now }
-    ensures { IfOk result (λ bytes. StoresWords dtype big chunks.now chunks.now bytes.items words.now) }
-{
-    let bytes = Vec::with_capacity(alloc, words.len() * dtype.byte_count())?;
-    put_block(alloc, dtype, big, chunks, chunks, words, bytes)
+    let shape = Vec::from_slice(alloc, m.chunks.items())?;
+    let cells = dense_of_block(
+        alloc,
+        m.dtype,
+        m.big,
+        Sizes::wrap(shape),
+        m.chunks.items(),
+        bytes,
+    )?;
+    Ok(cells)
 }
