@@ -135,7 +135,8 @@ fn put_numbers_of(
     words: &[u64],
 ) -> Result<(), AllocError>
     ensures { OnOk result (out.new.items ≡ out.old.items
-        ++ (codes ",\"origin\":" ++ indices_text origin.now ++ codes ",\"values\":" ++ values_text dtype shape.now words.now)) }
+        ++ (codes ",\"origin\":" ++ indices_text origin.now ++ codes ",\"values\":"
+        ++ values_text dtype shape.now words.now)) }
 {
     if !has_few_lists(shape) {
         return Err(AllocError);

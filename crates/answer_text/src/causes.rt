@@ -197,7 +197,8 @@ fn put_length_why(
     want: u64,
 ) -> Result<(), AllocError>
     ensures { OnOk result (out.new.items ≡ out.old.items
-        ++ (codes "{\"have\":" ++ decimal have ++ codes ",\"key\":" ++ text_of key.now ++ codes ",\"want\":" ++ decimal want ++ codes ",\"why\":\"length\"}")) }
+        ++ (codes "{\"have\":" ++ decimal have ++ codes ",\"key\":" ++ text_of key.now ++ codes ",\"want\":"
+        ++ decimal want ++ codes ",\"why\":\"length\"}")) }
 {
     put_around(out, "{\"have\":", have, ",\"key\":")?;
     put_text_around(alloc, out, "", key, ",\"want\":")?;
@@ -226,7 +227,8 @@ fn put_size_why(
     key: &str,
 ) -> Result<(), AllocError>
     ensures { OnOk result (out.new.items ≡ out.old.items
-        ++ (codes "{\"dim\":" ++ decimal dim ++ codes ",\"have\":" ++ decimal have ++ codes ",\"key\":" ++ text_of key.now ++ codes ",\"why\":\"size\"}")) }
+        ++ (codes "{\"dim\":" ++ decimal dim ++ codes ",\"have\":" ++ decimal have ++ codes ",\"key\":"
+        ++ text_of key.now ++ codes ",\"why\":\"size\"}")) }
 {
     put_around(out, "{\"dim\":", dim, ",\"have\":")?;
     put_around(out, "", have, ",\"key\":")?;

@@ -119,7 +119,8 @@ fn put_behind(
     requires cells { 0 < cell_count block.now }
     requires volume { cell_count block.now ≤ 2 ^ 24 }
     requires full { length items.now ≡ cell_count block.now * byte_count kind.dtype }
-    ensures { IfOk result (λ all. (words : List ℕ) → SpellsItems kind.dtype items.now words → All (IsWord kind.dtype) words
+    ensures { IfOk result (λ all. (words : List ℕ) → SpellsItems kind.dtype items.now words
+        → All (IsWord kind.dtype) words
         → all.items ≡ bytes.items ++ elements_of_rows kind.dtype kind.big block.now sizes.now 1 0 words) }
 {
     let most = of_long(alloc, block, block, sizes)?;
@@ -155,7 +156,8 @@ fn put_at(kind: Kind, block: &[u64], sizes: &[u64], items: &[u8], start: usize, 
     requires volume { cell_count block.now ≤ 2 ^ 24 }
     requires full { length items.now ≡ cell_count block.now * byte_count kind.dtype }
     requires room { length out.old ≡ start + cell_count sizes.now * byte_count kind.dtype }
-    ensures { out.new ≡ take start out.old ++ moved_rows kind.dtype kind.big block.now sizes.now (byte_count kind.dtype) 0 items.now }
+    ensures { out.new
+        ≡ take start out.old ++ moved_rows kind.dtype kind.big block.now sizes.now (byte_count kind.dtype) 0 items.now }
 {
     let step = Step {
         stride: kind.dtype.byte_count(),
@@ -176,7 +178,9 @@ fn taken(
     requires cells { 0 < cell_count block.now }
     requires volume { cell_count block.now ≤ 2 ^ 24 }
     requires full { length bytes.now ≡ cell_count sizes.now * byte_count kind.dtype }
-    ensures { IfOk result (λ items. items.items ≡ items_of kind.dtype (words_of_rows kind.dtype kind.big block.now sizes.now (byte_count kind.dtype) 0 bytes.now)) }
+    ensures { IfOk result (λ items. items.items
+        ≡ items_of kind.dtype (words_of_rows kind.dtype kind.big block.now sizes.now (byte_count kind.dtype) 0
+        bytes.now)) }
 {
     let most = of_long(alloc, block, block, sizes)?;
     let stored = of_long(alloc, sizes, block, sizes)?;

@@ -21,7 +21,8 @@ pub(crate) fn put_rows(
     requires within { AreWithin block.now sizes.now }
     requires cells { 0 < cell_count block.now }
     requires volume { cell_count block.now ≤ 2 ^ 24 }
-    requires room { step.from + step.stride * cell_count block.now + byte_count kind.dtype ≤ length items.now + step.stride }
+    requires room { step.from + step.stride * cell_count block.now + byte_count kind.dtype
+        ≤ length items.now + step.stride }
     requires stride { step.stride * cell_count block.now ≤ 2 ^ 27 }
     requires small { length items.now ≤ 2 ^ 27 }
     requires full { length out.old ≡ cell_count sizes.now * byte_count kind.dtype }

@@ -35,11 +35,14 @@ pub(crate) fn take_rows(
     requires within { AreWithin block.now sizes.now }
     requires cells { 0 < cell_count block.now }
     requires volume { cell_count block.now ≤ 2 ^ 24 }
-    requires room { step.from + step.stride * cell_count sizes.now + byte_count kind.dtype ≤ length elements.now + step.stride }
+    requires room { step.from + step.stride * cell_count sizes.now + byte_count kind.dtype
+        ≤ length elements.now + step.stride }
     requires stride { step.stride * cell_count block.now ≤ 2 ^ 27 }
     requires small { length elements.now ≤ 2 ^ 27 }
     requires zeros { out.old ≡ replicate (cell_count block.now * byte_count kind.dtype) 0 }
-    ensures { out.new ≡ items_of kind.dtype (words_of_rows kind.dtype kind.big block.now sizes.now step.stride step.from elements.now) }
+    ensures { out.new
+        ≡ items_of kind.dtype (words_of_rows kind.dtype kind.big block.now sizes.now step.stride step.from
+        elements.now) }
 {
     let [size, sizes_behind @ ..] = sizes else {
         take_one(kind, step.from, elements, out);
@@ -92,7 +95,9 @@ fn take_last(kind: Kind, most: u64, size: u64, step: Step, elements: &[u8], out:
     requires stride { step.stride * size ≤ 2 ^ 27 }
     requires small { length elements.now ≤ 2 ^ 27 }
     requires zeros { out.old ≡ replicate (most * byte_count kind.dtype) 0 }
-    ensures { out.new ≡ items_of kind.dtype (words_of_rows kind.dtype kind.big (most ∷ []) (size ∷ []) step.stride step.from elements.now) }
+    ensures { out.new
+        ≡ items_of kind.dtype (words_of_rows kind.dtype kind.big (most ∷ []) (size ∷ []) step.stride step.from
+        elements.now) }
 {
     let count = size as usize;
     let row = Row {

@@ -57,7 +57,8 @@ pub fn fetch<K: KvStore, R: Wait, G: Gate>(
         (new_pieces sources.now pieces.now) fetched.items) }
     ensures ok { OnOk result (HasPassed around.now.book.now pass.old pass.new []) }
     ensures untaken { list_any is_new sources.now ≡ false → pass.new ≡ pass.old }
-    ensures refused { IfErr result (IsFetchError around.now.book.now pass.old pass.new (new_pieces sources.now pieces.now)) }
+    ensures refused { IfErr result (IsFetchError around.now.book.now pass.old pass.new
+        (new_pieces sources.now pieces.now)) }
 {
     if !has_new(sources) {
         return Ok(Vec::new(around.alloc));
@@ -103,12 +104,14 @@ fn decoded<K: KvStore, R: Wait, G: Gate>(
         → AreChunks events (new_pieces sources.now pieces.now) }
     requires named { AllByRecursion (λ (p : PieceOf).
         p.id ≡ id_of (chunk_at p.id)) (new_pieces sources.now pieces.now) }
-    requires looked { AreLookedAt around.now.book.now.fixed pass.old.seen (new_pieces sources.now pieces.now) looks.items }
+    requires looked { AreLookedAt around.now.book.now.fixed pass.old.seen (new_pieces sources.now pieces.now)
+        looks.items }
     requires mark { mark ≡ length pass.old.seen }
     ensures fetched { IfOk result (λ fetched.
         AreFetchedAt around.now.book.now.fixed pass.new.seen mark (new_pieces sources.now pieces.now) fetched.items) }
     ensures ok { OnOk result (HasPassed around.now.book.now pass.old pass.new []) }
-    ensures refused { IfErr result (IsDecodeRefusal around.now.book.now pass.old pass.new (new_pieces sources.now pieces.now)) }
+    ensures refused { IfErr result (IsDecodeRefusal around.now.book.now pass.old pass.new
+        (new_pieces sources.now pieces.now)) }
 {
     match decode_all(around.alloc, around.rt, around.gate, pass.number(), looks) {
         Ok(fresh) => settled(around, pass, pieces, sources, fresh, mark),

@@ -176,7 +176,8 @@ fn fill_outside(shape: &[u64], chunk_shape: &[u64], chunk: &[u64], fill: u64, ce
     ensures dtype { cells.new.dtype ≡ cells.old.dtype }
     ensures shape { cells.new.shape ≡ cells.old.shape }
     ensures words { (place : ℕ) → place < cell_count chunk_shape.now → slice_index cells.new.words place
-        ≡ (if is_place_inside chunk_shape.now shape.now chunk.now place then slice_index cells.old.words place else fill) }
+        ≡ (if is_place_inside chunk_shape.now shape.now chunk.now place then slice_index cells.old.words place else
+        fill) }
 {
     // A look at the shape, by which it is known how many words there are.
     let _ = cells.shape();

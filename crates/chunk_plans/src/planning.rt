@@ -126,7 +126,8 @@ fn plan_stored<'a, K: KvStore>(
 ) -> Result<Planned<'a>, FetchError>
     requires agrees { IsState (K.seen state.old.store) state.old.log }
     requires write { IsWrite state.old.log.events write }
-    requires stored { (k : Known) → known_after state.old.log.events write.array ≡ Some k → is_local k.info.home ≡ false }
+    requires stored { (k : Known) → known_after state.old.log.events write.array ≡ Some k
+        → is_local k.info.home ≡ false }
     ensures array { IfOk result (λ p. p.array ≡ write.entry.array) }
     ensures chunk { IfOk result (λ p. p.chunk.now ≡ write.entry.chunk.now) }
     ensures key { IfOk result (λ p. p.key ≡ write.entry.key) }

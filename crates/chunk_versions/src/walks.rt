@@ -47,7 +47,8 @@ pub fn rule_out(
 )
     requires newest { newest ≤ length puts.now }
     requires linked { AreLinked puts.now (first + length reach.old) }
-    ensures { AreJudged reach.old reach.new (λ k. word_out casts.now (word_from fill puts.now newest (first + k + 1)) ≡ word) }
+    ensures { AreJudged reach.old reach.new (λ k. word_out casts.now (word_from fill puts.now newest (first + k + 1))
+        ≡ word) }
 {
     let mut link = newest;
     let mut until = reach.len();

@@ -120,7 +120,8 @@ pub fn commit_now<K: KvStore>(
         → Agrees opening (K.seen state.old.store) state.old.log → opening.store.contents ≡ Some start
         → IsCommitted start state.old.log t p.entry
         → IsCommitRow
-        (record { start = start; prefixes = opening.store.prefixes }) owner state.old.log.events state.new.log.events t result }
+        (record { start = start; prefixes = opening.store.prefixes }) owner state.old.log.events state.new.log.events t
+        result }
     ensures told { IsTold owner (K.seen state.old.store)
         (K.seen state.new.store) state.old.log state.new.log p.entry result }
     ensures rose { (K.seen state.old.store).faults < (K.seen state.new.store).faults → HasStoreFailed result }

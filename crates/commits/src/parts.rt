@@ -31,7 +31,8 @@ fn add_cells<'a>(
     chunk: &'a [u64],
     cells: Option<Dense>,
 ) -> Result<(), AllocError>
-    ensures { OnOk result (left.new.items ≡ left.old.items ++ cells_by (record { array = array; index = chunk.now }) cells []) }
+    ensures { OnOk result (left.new.items
+        ≡ left.old.items ++ cells_by (record { array = array; index = chunk.now }) cells []) }
 {
     if let Some(cells) = cells {
         left.push(LeftCells {

@@ -29,7 +29,8 @@ pub fn demand_of(
     staging: &Staging,
     words: &[u64],
 ) -> Result<Option<Demand>, AllocError>
-    requires { (history : History) × (ops : List OpOf) × (view : ViewOf) × IsReadIn history ops view words.now cells staging.now }
+    requires { (history : History) × (ops : List OpOf) × (view : ViewOf)
+        × IsReadIn history ops view words.now cells staging.now }
     ensures { IfOk result (TellsSeen cells staging.now words.now) }
 {
     let Some(pieces) = asked_pieces(alloc, &cells, staging, words)? else {
@@ -47,7 +48,8 @@ fn asked_pieces(
     staging: &Staging,
     words: &[u64],
 ) -> Result<Option<Vec<AskedPiece>>, AllocError>
-    requires { (history : History) × (ops : List OpOf) × (view : ViewOf) × IsReadIn history ops view words.now cells.now staging.now }
+    requires { (history : History) × (ops : List OpOf) × (view : ViewOf)
+        × IsReadIn history ops view words.now cells.now staging.now }
     ensures { IfOk result (AreTellingPieces cells.now staging.now words.now) }
 {
     let mut pieces = Vec::new(alloc);
@@ -68,9 +70,11 @@ fn asked_piece(
     words: &[u64],
     at: usize,
 ) -> Result<Option<AskedPiece>, AllocError>
-    requires read { (history : History) × (ops : List OpOf) × (view : ViewOf) × IsReadIn history ops view words.now cells.now staging.now }
+    requires read { (history : History) × (ops : List OpOf) × (view : ViewOf)
+        × IsReadIn history ops view words.now cells.now staging.now }
     requires at { at < length cells.now.pieces }
-    ensures { IfOk result (λ found. (d : PieceOf) → IsTellingPiece cells.now staging.now words.now (get_or cells.now.pieces at d).id found) }
+    ensures { IfOk result (λ found. (d : PieceOf)
+        → IsTellingPiece cells.now staging.now words.now (get_or cells.now.pieces at d).id found) }
 {
     let piece = piece_at(cells.pieces.items(), at);
     let own = staging.words_at(alloc, cells, at)?;
@@ -113,7 +117,8 @@ fn keep_bare(
     word: Option<u64>,
 ) -> Result<bool, AllocError>
     requires { cell.leaf < length lanes.now }
-    ensures covered { IfOk result (λ is. IsTrue is ↔ AreCovered (map (λ (lane : LaneSeen). lane.casts) lanes.now) (cell ∷ []) (word ∷ [])) }
+    ensures covered { IfOk result (λ is. IsTrue is
+        ↔ AreCovered (map (λ (lane : LaneSeen). lane.casts) lanes.now) (cell ∷ []) (word ∷ [])) }
     ensures kept { OnOk result (rest.new.items ≡ rest.old.items ++ bare (cell ∷ []) (word ∷ [])) }
 {
     match word {
@@ -137,7 +142,8 @@ fn pair_of(asked: &[AskedCell], own: &[Option<u64>], at: usize) -> (AskedCell, O
 // Whether a word is shown through the casts of a cell as it was asked for.
 fn is_shown(lanes: &[Lane], cell: AskedCell, word: u64) -> bool
     requires { cell.leaf < length lanes.now }
-    ensures { IsTrue result ↔ (outwards (casts_of (map (λ (lane : LaneSeen). lane.casts) lanes.now) cell) word ≡ cell.word) }
+    ensures { IsTrue result
+        ↔ (outwards (casts_of (map (λ (lane : LaneSeen). lane.casts) lanes.now) cell) word ≡ cell.word) }
 {
     let lane = &lanes[cell.leaf as usize];
     lane.casts.out(word) == cell.word

@@ -39,7 +39,8 @@ pub(crate) fn commit(
     ops: &[Op],
 ) -> Result<bool, AllocError>
     requires { (events : History) × (before : History) × IsNextDone events before opened number ops.now store.old }
-    ensures legal { IfOk result (λ may. (events : History) (before : History) → IsNextDone events before opened number ops.now store.old
+    ensures legal { IfOk result (λ may. (events : History) (before : History)
+        → IsNextDone events before opened number ops.now store.old
         → IsTrue may ↔ IsLegalDone finmap.empty before ops.now) }
     ensures kept { IfOk result (λ may. IsTrue may → (events : History) (before : History)
         → IsNextDone events before opened number ops.now store.old → IsBehind before number ops.now store.new) }
@@ -60,11 +61,13 @@ fn follow(
     number: u64,
     op: &Op,
 ) -> Result<bool, AllocError>
-    requires { (events : History) × (before : History) × (done : List OpOf) × IsNextOp events before opened number done op.now store.old }
+    requires { (events : History) × (before : History) × (done : List OpOf)
+        × IsNextOp events before opened number done op.now store.old }
     ensures legal { IfOk result (λ may. (events : History) (before : History) (done : List OpOf)
         → IsNextOp events before opened number done op.now store.old → IsTrue may ↔ IsRightOp before done op.now) }
     ensures kept { IfOk result (λ may. IsTrue may → (events : History) (before : History) (done : List OpOf)
-        → IsNextOp events before opened number done op.now store.old → IsBehind before number (done ++ op.now ∷ []) store.new) }
+        → IsNextOp events before opened number done op.now store.old
+        → IsBehind before number (done ++ op.now ∷ []) store.new) }
 {
     match op {
         Op::Write { view, words } => follow_write(alloc, store, opened, number, view, words),
@@ -121,7 +124,8 @@ fn follow_read(
 
 // Whether there are so many cells, each in one of the arrays that were opened. An array in which no cell lies doesn't count.
 fn are_there(cells: &ViewCells, opened: u64, words: usize) -> bool
-    ensures { (events : History) (before : History) (v : ViewOf) → IsFront events before opened → IsViewIn events v → HasSites v
+    ensures { (events : History) (before : History) (v : ViewOf) → IsFront events before opened → IsViewIn events v
+        → HasSites v
         → AreCells (sites_of v) cells.now → IsTrue result ↔ HasCells before v words }
 {
     let count = cells.leaves.len();

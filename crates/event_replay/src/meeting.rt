@@ -50,7 +50,8 @@ fn is_piece_met(
     from: u64,
 ) -> Result<bool, AllocError>
     requires { (history : History) × IsPieceIn history casts.now piece.now }
-    ensures { IfOk result (λ met. (history : History) → IsStoreOf history store.now → IsPieceIn history casts.now piece.now
+    ensures { IfOk result (λ met. (history : History) → IsStoreOf history store.now
+        → IsPieceIn history casts.now piece.now
         → from ≤ length history → IsTrue met ↔ IsMetFrom history from casts.now piece.now) }
 {
     let mark = store.find_mark(alloc, piece.id.items(), from, casts, &piece.asked)?;

@@ -44,7 +44,8 @@ pub(crate) fn show_cells(
     cells: ViewCells,
     words: &[u64],
 ) -> Result<bool, AllocError>
-    requires { (history : History) × (number : ℕ) × (done : List Op) × (view : ViewOf) × IsBehind history number done store.now
+    requires { (history : History) × (number : ℕ) × (done : List Op) × (view : ViewOf)
+        × IsBehind history number done store.now
         × MayFollow history (op.Read view words.now) × HasSites view × AreCells (sites_of view) cells }
     ensures { IfOk result (λ has. (history : History) (number : ℕ) (done : List Op) (view : ViewOf)
         → IsBehind history number done store.now → MayFollow history (op.Read view words.now) → HasSites view

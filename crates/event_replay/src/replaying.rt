@@ -43,7 +43,8 @@ fn replay_op(
     op: &Op,
 ) -> Result<bool, AllocError>
     requires { CanGoOn number store.old op.now }
-    ensures reads { IfOk result (λ right. (history : History) (done : List OpOf) → IsBehind history number done store.old
+    ensures reads { IfOk result (λ right. (history : History) (done : List OpOf)
+        → IsBehind history number done store.old
         → MayFollow history op.now → IsTrue right ↔ HasItsWords history done op.now) }
     ensures kept { IfOk result (λ right. IsTrue right → (history : History) (done : List OpOf)
         → IsBehind history number done store.old → MayFollow history op.now

@@ -107,7 +107,8 @@ fn step(
     event: &Event,
 ) -> Result<bool, AllocError>
     requires { (events : History) × (before : History) × IsNext events before opened number event.now store.old }
-    ensures legal { IfOk result (λ may. (events : History) (before : History) → IsNext events before opened number event.now store.old
+    ensures legal { IfOk result (λ may. (events : History) (before : History)
+        → IsNext events before opened number event.now store.old
         → IsTrue may ↔ IsLegalKind finmap.empty before event.now.kind) }
     ensures kept { IfOk result (λ may. IsTrue may → (events : History) (before : History)
         → IsNext events before opened number event.now store.old → IsStoreOf (before ++ event.now ∷ []) store.new) }

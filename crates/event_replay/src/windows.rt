@@ -32,7 +32,8 @@ pub(crate) fn are_met(
 ) -> Result<bool, AllocError>
     requires ends { (most : ℕ) × AreEnds waiting.now most last.now earlier.now × (number ≤ most) }
     requires waiting { (events : History) × AllByRecursion (IsWaitingIn events) waiting.now }
-    ensures { IfOk result (λ met. (events : History) (before : History) → IsFront events before opened → IsStoreOf before store.now
+    ensures { IfOk result (λ met. (events : History) (before : History) → IsFront events before opened
+        → IsStoreOf before store.now
         → length before ≡ number → AllByRecursion (IsWaitingIn events) waiting.now
         → IsTrue met ↔ (IsTrue so_far × AreMetAt events waiting.now number)) }
 {
@@ -57,7 +58,8 @@ fn meets(
     waiting: &Waiting,
 ) -> Result<bool, AllocError>
     requires { (events : History) × IsDemandIn events waiting.now.demand }
-    ensures { IfOk result (λ met. (events : History) (before : History) → IsFront events before opened → IsStoreOf before store.now
+    ensures { IfOk result (λ met. (events : History) (before : History) → IsFront events before opened
+        → IsStoreOf before store.now
         → length before ≡ waiting.now.upto → IsDemandIn events waiting.now.demand
         → IsTrue met ↔ IsMetIn events waiting.now) }
 {

@@ -151,7 +151,8 @@ impl Interval {
     pub fn meet(&self, other: &Interval) -> Interval
         ensures value { result ≡ met self.now other.now }
         ensures members { (x : ℤ) → IsMember result x ↔ (IsMember self.now x × IsMember other.now x) }
-        ensures lo_flag { IsTieFlag self.now.lo self.now.lo_implicit other.now.lo other.now.lo_implicit result.lo result.lo_implicit }
+        ensures lo_flag { IsTieFlag self.now.lo self.now.lo_implicit other.now.lo other.now.lo_implicit result.lo
+            result.lo_implicit }
         ensures hi_flag { IsTieFlag self.now.hi self.now.hi_implicit other.now.hi other.now.hi_implicit
             (int_min self.now.hi other.now.hi) result.hi_implicit }
     {

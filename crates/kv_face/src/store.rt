@@ -27,7 +27,8 @@ pub trait KvStore: Drop {
         ensures names { (seen self.new).names ≡ (seen self.old).names }
         ensures standing { (seen self.new).standing ≡ (seen self.old).standing }
         ensures change_count { (seen self.new).changes ≡ (seen self.old).changes }
-        ensures cause { IsToldExactly ((seen self.old).faults) ((seen self.new).faults) (IsErrOf result KvError.Failed) }
+        ensures cause { IsToldExactly ((seen self.old).faults) ((seen self.new).faults)
+            (IsErrOf result KvError.Failed) }
         ensures counts { NoneFell ((seen self.old).counts) ((seen self.new).counts) };
 
     /// The bytes under a key as `get` gives them, in a form that can be shared, so that a store which keeps them so need not copy them.
@@ -42,7 +43,8 @@ pub trait KvStore: Drop {
         ensures names { (seen self.new).names ≡ (seen self.old).names }
         ensures standing { (seen self.new).standing ≡ (seen self.old).standing }
         ensures change_count { (seen self.new).changes ≡ (seen self.old).changes }
-        ensures cause { IsToldExactly ((seen self.old).faults) ((seen self.new).faults) (IsErrOf result KvError.Failed) }
+        ensures cause { IsToldExactly ((seen self.old).faults) ((seen self.new).faults)
+            (IsErrOf result KvError.Failed) }
         ensures counts { NoneFell ((seen self.old).counts) ((seen self.new).counts) }
     {
         match self.get(key) {
@@ -82,7 +84,8 @@ pub trait KvStore: Drop {
             → OneMore ((seen self.old).changes) ((seen self.new).changes)) }
         ensures count_none { length changes.now ≡ 0 → (seen self.new).changes ≡ (seen self.old).changes }
         ensures count_err { OnErr result ((seen self.new).changes ≡ (seen self.old).changes) }
-        ensures cause { IsToldExactly ((seen self.old).faults) ((seen self.new).faults) (IsErrOf result KvError.Failed) }
+        ensures cause { IsToldExactly ((seen self.old).faults) ((seen self.new).faults)
+            (IsErrOf result KvError.Failed) }
         ensures counts { NoneFell ((seen self.old).counts) ((seen self.new).counts) };
 
     /// Makes all changes as `apply` does, and takes them, so that a store which keeps their bytes need not copy them.
@@ -107,7 +110,8 @@ pub trait KvStore: Drop {
             → OneMore ((seen self.old).changes) ((seen self.new).changes)) }
         ensures count_none { length changes.items ≡ 0 → (seen self.new).changes ≡ (seen self.old).changes }
         ensures count_err { OnErr result ((seen self.new).changes ≡ (seen self.old).changes) }
-        ensures cause { IsToldExactly ((seen self.old).faults) ((seen self.new).faults) (IsErrOf result KvError.Failed) }
+        ensures cause { IsToldExactly ((seen self.old).faults) ((seen self.new).faults)
+            (IsErrOf result KvError.Failed) }
         ensures counts { NoneFell ((seen self.old).counts) ((seen self.new).counts) }
     {
         self.apply(changes.as_slice())

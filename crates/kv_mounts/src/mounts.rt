@@ -102,7 +102,8 @@ fn place_of<K: KvStore>(list: &[Mount<K>], key: &str) -> Option<usize>
 // The place of the mount below which the key of the first of some changes lies.
 fn place_of_first<K: KvStore>(list: &[Mount<K>], changes: &[Change]) -> Option<usize>
     requires { 0 < length changes.now }
-    ensures found { IfSome result (λ i. (i < length list.now) × ((first : ChangeOf) × (first ≡ slice_index_or changes.now 0 first)
+    ensures found { IfSome result (λ i. (i < length list.now)
+        × ((first : ChangeOf) × (first ≡ slice_index_or changes.now 0 first)
         × ((d : Part) → begins (slice_index_or list.now i d).name first.key ≡ true))) }
     ensures none { result ≡ None → (first : ChangeOf) × (first ≡ slice_index_or changes.now 0 first)
         × (list_any (λ (p : Part). begins p.name first.key) list.now ≡ false) }

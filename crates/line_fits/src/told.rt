@@ -101,7 +101,8 @@ pub fn failed_behind(
     failed: Option<u64>,
     text: &[u8],
 ) -> Result<Option<u64>, AllocError>
-    ensures { IfOk result (λ behind. (number : ℕ) (d : Data) → IsAnswerText number text.now d → failed_in d ≡ single failed
+    ensures { IfOk result (λ behind. (number : ℕ) (d : Data) → IsAnswerText number text.now d
+        → failed_in d ≡ single failed
         → IsFailedBehind behind line text.now d) }
 {
     match failed {

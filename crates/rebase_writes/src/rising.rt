@@ -14,7 +14,8 @@ use cells::{Dense, Run};
 /// The word that is staged at a place, if there is one.
 pub(crate) fn word_at(runs: &[Run], words: &[u64], place: usize) -> Option<u64>
     requires { AreRising (length words.now) (2 ^ 24) runs.now }
-    ensures some { IfSome result (λ word. (cells : List (Option ℕ)) → AreRising (length words.now) (length cells) runs.now
+    ensures some { IfSome result (λ word. (cells : List (Option ℕ))
+        → AreRising (length words.now) (length cells) runs.now
         → staged_at (runs_staged runs.now words.now cells) place ≡ Some word) }
     ensures none { IfNone result ((cells : List (Option ℕ))
         → staged_at (runs_staged runs.now words.now cells) place ≡ staged_at cells place) }
@@ -174,7 +175,8 @@ fn add_one(runs: &mut Vec<Run>, kept: &mut Vec<u64>, run: &Run, next: Run, words
     requires room { length kept.old.items < vec_capacity kept.old }
     requires runs_room { length runs.old.items < vec_capacity runs.old }
     ensures rising { (cells : ℕ) → IsRunInside run.now (length words.now) cells
-        → AreRising (length kept.old.items) cells runs.old.items → AreRising (length kept.new.items) cells runs.new.items }
+        → AreRising (length kept.old.items) cells runs.old.items
+        → AreRising (length kept.new.items) cells runs.new.items }
     ensures room { vec_capacity kept.old ≤ vec_capacity kept.new }
     ensures added { (staged : List (Option ℕ)) → runs_staged runs.new.items kept.new.items staged
         ≡ pairs_written (pairs_of run.now) words.now (runs_staged runs.old.items kept.old.items staged) }
@@ -230,7 +232,8 @@ fn run_behind(runs: &[Run], view: u32, run: &Run) -> Option<Run>
 // Whether a run begins behind the end of all others.
 fn begins_behind(runs: &[Run], run: &Run) -> bool
     requires rising { (words : ℕ) × AreRising words (2 ^ 24) runs.now }
-    ensures { IsTrue result → (i : ℕ) (d : Run) → i < length runs.now → last_place (slice_index_or runs.now i d) < run.now.chunk }
+    ensures { IsTrue result → (i : ℕ) (d : Run) → i < length runs.now
+        → last_place (slice_index_or runs.now i d) < run.now.chunk }
 {
     let count = runs.len();
     if count == 0 {
@@ -299,8 +302,10 @@ fn put(runs: &mut Vec<Run>, next: Run)
     requires forward { IsForward next }
     requires inside { IsRunInside next (2 ^ 24) (2 ^ 24) }
     requires others { (count : ℕ) × ((count ≤ 2 ^ 24) × AreRising count (2 ^ 24) runs.old.items) }
-    requires behind { (i : ℕ) (d : Run) → i < length runs.old.items → last_place (slice_index_or runs.old.items i d) < next.chunk }
-    ensures rising { (count words cells : ℕ) → count ≤ words → IsRunInside next words cells → AreRising count cells runs.old.items
+    requires behind { (i : ℕ) (d : Run) → i < length runs.old.items
+        → last_place (slice_index_or runs.old.items i d) < next.chunk }
+    ensures rising { (count words cells : ℕ) → count ≤ words → IsRunInside next words cells
+        → AreRising count cells runs.old.items
         → AreRising words cells runs.new.items }
     ensures staged { (words : List ℕ) (staged : List (Option ℕ)) → runs_staged runs.new.items words staged
         ≡ pairs_written (pairs_of next) words (runs_staged runs.old.items words staged) }
@@ -353,7 +358,8 @@ pub(crate) fn spread(
     requires mask_room { cells ≤ vec_capacity mask.old }
     requires words_room { cells ≤ vec_capacity words.old }
     ensures same { length mask.new.items ≡ length words.new.items }
-    ensures staged { staged_cells mask.new.items words.new.items ≡ runs_staged runs.now kept.now (replicate cells None) }
+    ensures staged { staged_cells mask.new.items words.new.items
+        ≡ runs_staged runs.now kept.now (replicate cells None) }
 {
     mask.clear();
     words.clear();
@@ -379,7 +385,8 @@ fn stage_runs(runs: &[Run], kept: &[u64], mask: &mut [bool], words: &mut [u64])
 /// Puts the words of runs in place of a chunk's own.
 pub(crate) fn lay_runs(runs: &[Run], kept: &[u64], chunk: &mut Dense)
     requires rising { AreRising (length kept.now) (length chunk.old.words) runs.now }
-    requires words { AreWords chunk.old.dtype (runs_staged runs.now kept.now (replicate (length chunk.old.words) None)) }
+    requires words { AreWords chunk.old.dtype
+        (runs_staged runs.now kept.now (replicate (length chunk.old.words) None)) }
     ensures { chunk.new ≡ record chunk.old {
       words =
           laid_over (runs_staged runs.now kept.now (replicate (length chunk.old.words) None)) chunk.old.words;
@@ -418,7 +425,9 @@ fn word_count(run: &Run) -> usize
 
 /// Puts the words that are staged by runs into a view along a run.
 pub(crate) fn show_staged(runs: &[Run], kept: &[u64], run: &Run, out: &mut [u64])
-    requires rising { (cells : ℕ) × (AreRising (length kept.now) cells runs.now × (IsRunInside run.now (length out.old) cells × (cells ≤ 2 ^ 24))) }
+    requires rising { (cells : ℕ)
+        × (AreRising (length kept.now) cells runs.now
+        × (IsRunInside run.now (length out.old) cells × (cells ≤ 2 ^ 24))) }
     ensures { (cells : ℕ) → AreRising (length kept.now) cells runs.now → IsRunInside run.now (length out.old) cells
         → out.new ≡ pairs_shown (pairs_of run.now) (runs_staged runs.now kept.now (replicate cells None)) out.old }
 {
@@ -435,7 +444,8 @@ pub(crate) fn is_staged(runs: &[Run], kept: &[u64], place: usize) -> bool
     requires { AreRising (length kept.now) (2 ^ 24) runs.now }
     ensures some { IsTrue result → (cells : ℕ) → AreRising (length kept.now) cells runs.now
         → IsSome (staged_at (runs_staged runs.now kept.now (replicate cells None)) place) }
-    ensures none { result ≡ false → (cells : ℕ) → staged_at (runs_staged runs.now kept.now (replicate cells None)) place ≡ None }
+    ensures none { result ≡ false → (cells : ℕ)
+        → staged_at (runs_staged runs.now kept.now (replicate cells None)) place ≡ None }
 {
     match word_at(runs, kept, place) {
         Some(_) => true,
@@ -453,7 +463,8 @@ fn is_row(run: &Run) -> bool
 pub(crate) fn cover_range(runs: &[Run], kept: &[u64], from: usize, to: usize) -> bool
     requires rising { AreRising (length kept.now) (2 ^ 24) runs.now }
     requires to { to ≤ 2 ^ 24 }
-    ensures { (cells : ℕ) → AreRising (length kept.now) cells runs.now → to ≤ cells → IsTrue result ↔ ((place : ℕ) → from ≤ place → place < to
+    ensures { (cells : ℕ) → AreRising (length kept.now) cells runs.now → to ≤ cells
+        → IsTrue result ↔ ((place : ℕ) → from ≤ place → place < to
         → IsSome (staged_at (runs_staged runs.now kept.now (replicate cells None)) place)) }
 {
     if has_range(runs, from, to) {
@@ -470,7 +481,8 @@ pub(crate) fn cover_range(runs: &[Run], kept: &[u64], from: usize, to: usize) ->
 // Whether one run without gaps has each place of a range.
 fn has_range(runs: &[Run], from: usize, to: usize) -> bool
     requires rising { (words : ℕ) × AreRising words (2 ^ 24) runs.now }
-    ensures { IsTrue result → (words : List ℕ) (cells : List (Option ℕ)) → AreRising (length words) (length cells) runs.now
+    ensures { IsTrue result → (words : List ℕ) (cells : List (Option ℕ))
+        → AreRising (length words) (length cells) runs.now
         → (place : ℕ) → from ≤ place → place < to → IsSome (staged_at (runs_staged runs.now words cells) place) }
 {
     let count = begun(runs, from);
@@ -488,7 +500,8 @@ fn has_range(runs: &[Run], from: usize, to: usize) -> bool
 pub(crate) fn spare_range(runs: &[Run], kept: &[u64], from: usize, to: usize) -> bool
     requires rising { AreRising (length kept.now) (2 ^ 24) runs.now }
     requires to { to ≤ 2 ^ 24 }
-    ensures { (cells : ℕ) → AreRising (length kept.now) cells runs.now → to ≤ cells → IsTrue result ↔ ((place : ℕ) → from ≤ place → place < to
+    ensures { (cells : ℕ) → AreRising (length kept.now) cells runs.now → to ≤ cells
+        → IsTrue result ↔ ((place : ℕ) → from ≤ place → place < to
         → staged_at (runs_staged runs.now kept.now (replicate cells None)) place ≡ None) }
 {
     if ends_before(runs, from, to) {

@@ -109,10 +109,12 @@ fn open_all<K: KvStore, R: Wait, G: Gate>(
     leaves: Vec<SpecLeaf>,
 ) -> Result<OpenedArrays, Body>
     requires pass { IsRested around.now.book.now pass.old }
-    requires leaves { AllByRecursion (MayBeAsked around.now.book.now.fixed.store.names) (leaves_from tree.now 0 leaves.items) }
+    requires leaves { AllByRecursion (MayBeAsked around.now.book.now.fixed.store.names)
+        (leaves_from tree.now 0 leaves.items) }
     ensures ok { IfOk result (λ o. AreAllOpened around.now.book.now pass.old pass.new
         (leaves_from tree.now 0 leaves.items) [] o.arrays.items o.events.items) }
-    ensures err { IfErr result (λ b. IsLeafRefused around.now.book.now pass.old pass.new (leaves_from tree.now 0 leaves.items) b) }
+    ensures err { IfErr result (λ b. IsLeafRefused around.now.book.now pass.old pass.new
+        (leaves_from tree.now 0 leaves.items) b) }
 {
     let mut opened = none_opened(around.alloc);
     for leaf in leaves {
@@ -148,7 +150,8 @@ fn open_leaf<K: KvStore, R: Wait, G: Gate>(
         (leaf_of
         (unwrap_or
         (node_of
-        (length opened.arrays.items) tree.now) []) leaf) opened.arrays.items opened.events.items o.arrays.items o.events.items) }
+        (length opened.arrays.items) tree.now) []) leaf) opened.arrays.items opened.events.items o.arrays.items
+        o.events.items) }
     ensures err { IfErr result (λ b. RefusesOne around.now.book.now pass.old pass.new
         (leaf_of
         (unwrap_or
@@ -175,7 +178,8 @@ fn open_wanted<K: KvStore, R: Wait, G: Gate>(
         (wanted_leaf
         (unwrap_or
         (node_of
-        (length opened.arrays.items) tree.now) []) wanted) opened.arrays.items opened.events.items o.arrays.items o.events.items) }
+        (length opened.arrays.items) tree.now) []) wanted) opened.arrays.items opened.events.items o.arrays.items
+        o.events.items) }
     ensures err { IfErr result (λ b. RefusesOne around.now.book.now pass.old pass.new
         (wanted_leaf
         (unwrap_or

@@ -78,7 +78,8 @@ impl<K: KvStore> Session<K> {
             × (self.new.log.items ≡ self.old.log.items ++ record { line = line; body = body } ∷ [])
             × TellsFailures (added_by self.old.pass self.new.pass) body) }
         ensures passed { HasPassed around.now.book.now self.old.pass self.new.pass }
-        ensures on { self.new.ended ≡ false → MayGoOn around.now.book.now self.new.pass (get_by_text self.new.names) self.new.txn }
+        ensures on { self.new.ended ≡ false
+            → MayGoOn around.now.book.now self.new.pass (get_by_text self.new.names) self.new.txn }
         ensures ended { OnErr result (self.new.ended ≡ true) }
         ensures same { OnErr result ((self.new.pass ≡ self.old.pass) × (self.new.log.items ≡ self.old.log.items)) }
         ensures names { OnErr result (get_by_text self.new.names ≡ get_by_text self.old.names) }

@@ -139,7 +139,8 @@ fn read_in<K: KvStore, R: Wait, G: Gate>(
     requires factors { MayHaveFactors down.now }
     requires rank { HasRank down.now v.now }
     requires txn { IsTxnIn around.now.book.now.fixed pass.old.seen t.old }
-    ensures answer { IsAnsweredRead around.now.book.now pass.old pass.new t.old t.new v.now (downsampling_of down.now) result }
+    ensures answer { IsAnsweredRead around.now.book.now pass.old pass.new t.old t.new v.now (downsampling_of down.now)
+        result }
     ensures txn { IsTxnIn around.now.book.now.fixed pass.new.seen t.new }
 {
     match t.read(around, pass, v) {

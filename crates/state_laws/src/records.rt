@@ -180,7 +180,10 @@ impl Records {
     pub fn hit(&mut self, key: &str) -> Result<Option<Snapshot>, AllocError>
         ensures value { IfOk result (λ found. found ≡ kept key.now self.old.cache.entries) }
         ensures after { OnOk result (self.new
-            ≡ record self.old { cache = record self.old.cache { entries = after_hit key.now self.old.cache.entries } }) }
+            ≡ record self.old {
+              cache = record self.old.cache
+                  { entries = after_hit key.now self.old.cache.entries };
+            }) }
         ensures err { OnErr result (self.new ≡ self.old) }
         ensures miss { kept key.now self.old.cache.entries ≡ None → IsOk result }
     {
@@ -221,7 +224,12 @@ impl Records {
         requires { 0 < self.old.event_room }
         ensures number { result ≡ length self.old.events + 1 }
         ensures after { self.new
-            ≡ record self.old { events = self.old.events ++ fault owner mount ∷ []; room = self.new.room; event_room = self.new.event_room } }
+            ≡ record self.old {
+              events = self.old.events
+                  ++ fault owner mount ∷ [];
+              room = self.new.room;
+              event_room = self.new.event_room;
+            } }
         ensures room { self.new.event_room + 1 ≡ self.old.event_room }
     {
         let kind = Kind::Fault { mount };

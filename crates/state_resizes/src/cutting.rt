@@ -128,7 +128,8 @@ fn left_of_look(
     requires { (store : StoreSeen) × (log : Log) × IsCutLook store log new.now chunk.now key look }
     ensures left { IfOk result (λ left. (store : StoreSeen) (log : Log) → IsCutLook store log new.now chunk.now key look
         → IsLeftBy store log new.now.array new.now.shape chunk.now left) }
-    ensures refused { IfErr result (λ e. (store : StoreSeen) (log : Log) → IsCutLook store log new.now chunk.now key look
+    ensures refused { IfErr result (λ e. (store : StoreSeen) (log : Log)
+        → IsCutLook store log new.now chunk.now key look
         → IsUnlaid store log new.now e) }
 {
     match look {
@@ -159,7 +160,8 @@ fn read_cut<K: KvStore>(
     requires cut { (k : Known) → known_after state.old.log.events new.now.array ≡ Some k
         → is_cut (chunk_shape k.info) k.shape new.now.shape chunk.now ≡ true }
     requires reached { reaches_into (chunk_shape_of new.now.form) (shape_of new.now.form) chunk.now ≡ true }
-    requires named { (k : Known) → known_after state.old.log.events new.now.array ≡ Some k → key ≡ chunk_key k chunk.now }
+    requires named { (k : Known) → known_after state.old.log.events new.now.array ≡ Some k
+        → key ≡ chunk_key k chunk.now }
     ensures left { IfOk result (IsLeftBy (K.seen state.old.store) state.old.log new.now.array new.now.shape chunk.now) }
     ensures same { OnOk result (IsSameButCache state.old.log state.new.log) }
     ensures read { IsRead (K.seen state.old.store) (K.seen state.new.store) }

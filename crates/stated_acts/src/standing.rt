@@ -79,7 +79,8 @@ impl Standing {
         requires numbers { PrintsNumbers (data_said answer.now) numbers.now }
         requires opened { (v : ViewOf) → opened ≡ Some v → IsView v }
         ensures stands { OnOk result ((history : History) (asked : Asked)
-            → IsActBy (standing_of self.old).transaction asked act → IsOpenedBy history (data_said answer.now) act opened
+            → IsActBy (standing_of self.old).transaction asked act
+            → IsOpenedBy history (data_said answer.now) act opened
             → standing_of self.new ≡ standing_asked history (standing_of self.old) line asked (data_said answer.now)) }
         ensures ended { IfOk result (IsEnded act (transaction_in self.old.transaction)
             (transaction_in self.new.transaction)) }

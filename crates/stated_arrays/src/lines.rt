@@ -114,7 +114,8 @@ fn keep_line(
     requires placed { IsPlaced scripts.now line.now.line }
     requires command { IsCommandOf (line_at scripts.now line.now.line) command.now }
     requires session { line.now.line.session < length standing.old }
-    ensures { OnOk result (IsKeptBehind scripts.now line.now standing.old standing.new lines.old.items lines.new.items) }
+    ensures { OnOk result (IsKeptBehind scripts.now line.now standing.old standing.new lines.old.items
+        lines.new.items) }
 {
     match act_of(alloc, scripts, line.line, command) {
         Ok(act) => keep_act(alloc, line, standing, lines, act),

@@ -73,11 +73,14 @@ impl Walk {
         requires numbers { PrintsNumbers (data_said answer.now) said.now.numbers }
         requires opened { (v : ViewOf) → opened ≡ Some v → IsView v }
         ensures stands { OnOk result ((history : History) (asked : Asked)
-            → IsActBy (standing_of self.old.standing).transaction asked act → IsOpenedBy history (data_said answer.now) act opened
+            → IsActBy (standing_of self.old.standing).transaction asked act
+            → IsOpenedBy history (data_said answer.now) act opened
             → standing_of self.new.standing
-            ≡ standing_asked history (standing_of self.old.standing) said.now.line.number asked (data_said answer.now)) }
+            ≡ standing_asked history (standing_of self.old.standing) said.now.line.number asked
+            (data_said answer.now)) }
         ensures event { IfOk result (λ commit. (history : History) (asked : Asked)
-            → IsActBy (standing_of self.old.standing).transaction asked act → IsOpenedBy history (data_said answer.now) act opened
+            → IsActBy (standing_of self.old.standing).transaction asked act
+            → IsOpenedBy history (data_said answer.now) act opened
             → 0 < length said.now.numbers.done → option_map kind_in commit ≡ commit_by said.now.line.number asked) }
         ensures sound { OnOk result (IsSoundStanding self.new.standing) }
         ensures session { self.new.session ≡ self.old.session }
@@ -103,7 +106,8 @@ impl Walk {
         ensures stands { OnOk result ((history : History) (asked : Asked)
             → IsActBy (standing_of self.old.standing).transaction asked (Writes view words)
             → standing_of self.new.standing
-            ≡ standing_asked history (standing_of self.old.standing) said.now.line.number asked (data_said answer.now)) }
+            ≡ standing_asked history (standing_of self.old.standing) said.now.line.number asked
+            (data_said answer.now)) }
         ensures event { IfOk result (λ commit. (asked : Asked)
             → IsActBy (standing_of self.old.standing).transaction asked (Writes view words)
             → 0 < length said.now.numbers.done → option_map kind_in commit ≡ commit_by said.now.line.number asked) }
@@ -140,11 +144,14 @@ impl Walk {
         requires numbers { PrintsNumbers (data_said answer.now) said.now.numbers }
         requires opened { (v : ViewOf) → opened ≡ Some v → IsView v }
         ensures stands { OnOk result ((history : History) (asked : Asked)
-            → IsActBy (standing_of self.old.standing).transaction asked act → IsOpenedBy history (data_said answer.now) act opened
+            → IsActBy (standing_of self.old.standing).transaction asked act
+            → IsOpenedBy history (data_said answer.now) act opened
             → standing_of self.new.standing
-            ≡ standing_asked history (standing_of self.old.standing) said.now.line.number asked (data_said answer.now)) }
+            ≡ standing_asked history (standing_of self.old.standing) said.now.line.number asked
+            (data_said answer.now)) }
         ensures event { IfOk result (λ commit. (history : History) (asked : Asked)
-            → IsActBy (standing_of self.old.standing).transaction asked act → IsOpenedBy history (data_said answer.now) act opened
+            → IsActBy (standing_of self.old.standing).transaction asked act
+            → IsOpenedBy history (data_said answer.now) act opened
             → 0 < length said.now.numbers.done → option_map kind_in commit ≡ commit_by said.now.line.number asked) }
         ensures sound { OnOk result (IsSoundStanding self.new.standing) }
         ensures session { self.new.session ≡ self.old.session }

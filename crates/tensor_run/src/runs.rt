@@ -60,7 +60,8 @@ fn ran<R: Threads + Wait + Sync>(
     ensures fits { names_folder (map string_bytes words.now) ≡ false → result.logs ≢ []
         → (contents : Option Contents) × IsYesOutcome contents (map string_bytes words.now) (parts_of false) result }
     // With a folder or without, the words behind those that are about the mounts are run over the mounts that those ask for.
-    ensures refused { result.status ≡ 2 ↔ AreRefused (drop (mount_words (map string_bytes words.now)) (map string_bytes words.now)) }
+    ensures refused { result.status ≡ 2
+        ↔ AreRefused (drop (mount_words (map string_bytes words.now)) (map string_bytes words.now)) }
     ensures started { result.logs ≢ [] → (contents : Option Contents)
         × HasRun contents (drop (mount_words (map string_bytes words.now)) (map string_bytes words.now))
         (parts_of (names_folder (map string_bytes words.now))) mounts.new.items result (Unit {0}) }

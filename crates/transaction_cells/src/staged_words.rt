@@ -27,7 +27,8 @@ impl Staging {
     ) -> Result<Vec<Option<u64>>, AllocError>
         requires cells { CanStage self.now cells.now (length cells.now.leaves) }
         requires piece { piece < length cells.now.pieces }
-        ensures { IfOk result (λ words. (d : PieceOf) → words.items ≡ staged_words self.now (slice_index_or cells.now.pieces piece d)) }
+        ensures { IfOk result (λ words. (d : PieceOf)
+            → words.items ≡ staged_words self.now (slice_index_or cells.now.pieces piece d)) }
     {
         let piece = &cells.pieces.items()[piece];
         match self.table.get(piece.id.items()) {

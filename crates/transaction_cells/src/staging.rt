@@ -98,7 +98,8 @@ impl Staging {
     ) -> Result<(), AllocError>
         requires { CanStage self.old cells.now (length (words_seen kept)) }
         ensures ok { OnOk result ((sites : List Site) → AreCells sites cells.now → (words : List ℕ)
-            → words_seen kept.entry ≡ taken_back cells.now.lanes cells.now.leaves words → length words ≡ length (words_seen kept.entry)
+            → words_seen kept.entry ≡ taken_back cells.now.lanes cells.now.leaves words
+            → length words ≡ length (words_seen kept.entry)
             → (id : List ℕ) → staged_of self.new id ≡ written_at id sites words (staged_of self.old id)) }
         ensures err { OnErr result ((id : List ℕ) (place : ℕ) → word_in self.new id place ≡ word_in self.old id place) }
     {

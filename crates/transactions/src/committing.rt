@@ -32,7 +32,8 @@ impl Txn {
         requires pass { IsIdle around.now.book.now pass.old }
         requires txn { IsTxnIn around.now.book.now.fixed pass.old.seen self }
         requires recorded { IsRecorded around.now.book.now.fixed pass.old.seen (transaction_of self) }
-        ensures committed { HasCommitted around.now.book.now pass.old pass.new (transaction_of self) (answer_of result) }
+        ensures committed { HasCommitted around.now.book.now pass.old pass.new (transaction_of self)
+            (answer_of result) }
         ensures left { IfErr result (λ e. e.left ≡ left_after self e.why) }
     {
         let Txn {

@@ -46,7 +46,11 @@ impl Txn {
         requires view { IsView v.now }
         requires new { AreNewTo self.old.kept fetched.items }
         ensures ok { OnOk result (self.new
-            ≡ record self.old { ops = self.old.ops ++ op.Read v.now words.now ∷ []; kept = self.old.kept ++ fetched.items }) }
+            ≡ record self.old {
+              ops = self.old.ops ++ op.Read v.now words.now ∷ [];
+              kept = self.old.kept
+                  ++ fetched.items;
+            }) }
         ensures err { OnErr result (self.new ≡ self.old) }
     {
         let count = self.kept.len();

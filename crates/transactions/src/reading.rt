@@ -139,7 +139,8 @@ impl Txn {
         fetched: Vec<Kept>,
     ) -> Result<Words, ReadError>
         requires pass { IsIdle around.now.book.now pass.old }
-        requires read { (seen : ℕ) × IsReadBy around.now.book.now.fixed seen pass.old.seen self.old v.now cells.now fetched.items }
+        requires read { (seen : ℕ)
+            × IsReadBy around.now.book.now.fixed seen pass.old.seen self.old v.now cells.now fetched.items }
         requires sources { sources.now ≡ sources_of self.old.staged self.old.kept cells.now.pieces }
         ensures read { IfOk result (λ words. (seen : ℕ)
             → IsReadBy around.now.book.now.fixed seen pass.old.seen self.old v.now cells.now fetched.items
@@ -167,7 +168,8 @@ impl Txn {
         fetched: &[Kept],
     ) -> Result<(), ReadError>
         requires pass { IsIdle around.now.book.now pass.old }
-        requires read { (seen : ℕ) × IsReadBy around.now.book.now.fixed seen pass.old.seen self.now v.now cells.now fetched.now }
+        requires read { (seen : ℕ)
+            × IsReadBy around.now.book.now.fixed seen pass.old.seen self.now v.now cells.now fetched.now }
         requires sources { sources.now ≡ sources_of self.now.staged self.now.kept cells.now.pieces }
         ensures none { OnOk result (strays_by self.now cells.now fetched.now ≡ []) }
         ensures ok { OnOk result (pass.new ≡ pass.old) }

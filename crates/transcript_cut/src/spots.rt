@@ -102,7 +102,8 @@ fn put_all(slots: &mut [Option<u64>], said: &[Said])
 // Puts the spot of an answer into the slots of the numbers that it prints.
 fn put_of(slots: &mut [Option<u64>], spot: u64, numbers: &EventNumbers)
     ensures { (k : ℕ) → k < length slots.old
-        → slice_index_or slots.new k None ≡ slot_after (all_numbers numbers.now) spot k (slice_index_or slots.old k None) }
+        → slice_index_or slots.new k None
+        ≡ slot_after (all_numbers numbers.now) spot k (slice_index_or slots.old k None) }
 {
     put_list(slots, spot, &numbers.opened);
     put_list(slots, spot, &numbers.done);

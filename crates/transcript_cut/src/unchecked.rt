@@ -60,9 +60,11 @@ fn keep_lines(
     requires few { length scripts.now < 2 ^ 32 }
     requires mounts { mounts.now ≡ mount ∷ [] }
     requires none { commands.old.items ≡ [] }
-    ensures some { IfOk result (λ found. IfSome found (λ line. IsFirstUnchecked scripts.now (line_at scripts.now line))) }
+    ensures some { IfOk result (λ found. IfSome found
+        (λ line. IsFirstUnchecked scripts.now (line_at scripts.now line))) }
     ensures none { IfOk result (λ found. IfNone found (AreChecked scripts.now)) }
-    ensures kept { IfOk result (λ found. IfNone found (AreCommandsOf (lines_of_scripts 0 scripts.now) commands.new.items)) }
+    ensures kept { IfOk result (λ found. IfNone found
+        (AreCommandsOf (lines_of_scripts 0 scripts.now) commands.new.items)) }
     ensures placed { IfOk result (λ found. IfSome found (IsPlaced scripts.now)) }
 {
     let mut cursor = Cursor::first();

@@ -45,7 +45,8 @@ pub(crate) fn fit_write(
     requires view { IsViewIn (history_of judge.now) view.now }
     ensures fits { IfOk result (λ fit. (t : Option Transaction) (words : ListOf ℕ) → length words ≡ cells
         → length words ≡ length (targets_of view.now)
-        → IsLineFit (history_of judge.now) (IsAnsweredSo (history_of judge.now) line.entry t (Ok (writes view.now words))) fit) }
+        → IsLineFit (history_of judge.now)
+        (IsAnsweredSo (history_of judge.now) line.entry t (Ok (writes view.now words))) fit) }
     ensures plain { IfOk result IsPlainFit }
 {
     let done = line.numbers.done.items();
@@ -153,10 +154,12 @@ fn fit_conflict(
     requires line { PrintsLine (history_of judge.now) line }
     requires own { (upto : ℕ) × (ops : ListOf OpOf) × AllByRecursion (IsOpIn (history_of judge.now)) ops
         × IsOwnOf (history_of judge.now) upto ops own.now }
-    ensures fits { IfOk result (λ fit. (upto : ℕ) (t : Transaction) → AllByRecursion (IsOpIn (history_of judge.now)) t.ops
+    ensures fits { IfOk result (λ fit. (upto : ℕ) (t : Transaction)
+        → AllByRecursion (IsOpIn (history_of judge.now)) t.ops
         → IsOwnOf (history_of judge.now) upto t.ops own.now → t.mode ≡ mode
         → IsLineFit (history_of judge.now)
-        (IsConflictAnswer (history_of judge.now) line.entry.owner t line.entry.line line.entry.text.now (answer_of_line line.entry)) fit) }
+        (IsConflictAnswer (history_of judge.now) line.entry.owner t line.entry.line line.entry.text.now
+        (answer_of_line line.entry)) fit) }
     ensures plain { IfOk result IsPlainFit }
 {
     let read = line.answer.read(alloc)?;
@@ -184,7 +187,8 @@ fn fit_told(
     requires judge { IsJudge judge.now }
     requires own { (upto : ℕ) × (ops : ListOf OpOf) × AllByRecursion (IsOpIn (history_of judge.now)) ops
         × IsOwnOf (history_of judge.now) upto ops own.now }
-    ensures fits { IfOk result (λ fit. (upto : ℕ) (t : Transaction) → AllByRecursion (IsOpIn (history_of judge.now)) t.ops
+    ensures fits { IfOk result (λ fit. (upto : ℕ) (t : Transaction)
+        → AllByRecursion (IsOpIn (history_of judge.now)) t.ops
         → IsOwnOf (history_of judge.now) upto t.ops own.now → t.mode ≡ by.mode
         → IsLineFit (history_of judge.now)
         (IsConflictTold (history_of judge.now) by.owner t conflict.now.key conflict.now.read conflict.now.touch) fit) }

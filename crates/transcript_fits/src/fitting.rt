@@ -118,7 +118,8 @@ fn fit_line(
 ) -> Result<LineFit, AllocError>
     requires judge { IsJudge judge.now }
     requires place { place < length judge.now.source.now.openings.now.takings }
-    requires faced { (asked : Asked) × IsFaced judge.now line place (standing_of stand.now.walk.standing) stand.now.own asked act }
+    requires faced { (asked : Asked)
+        × IsFaced judge.now line place (standing_of stand.now.walk.standing) stand.now.own asked act }
     ensures fits { IfOk result (λ fit. (asked : Asked)
         → IsFaced judge.now line.entry place (standing_of stand.now.walk.standing) stand.now.own asked act
         → IsLineFit (history_of judge.now)
@@ -167,9 +168,11 @@ fn fit_writing(
 ) -> Result<LineFit, AllocError>
     requires judge { IsJudge judge.now }
     requires faced { (place : ℕ) × (asked : Asked)
-        × IsFaced judge.now line place (standing_of stand.now.walk.standing) stand.now.own asked (Writes view.now words.now) }
+        × IsFaced judge.now line place (standing_of stand.now.walk.standing) stand.now.own asked
+        (Writes view.now words.now) }
     ensures fits { IfOk result (λ fit. (place : ℕ) (asked : Asked)
-        → IsFaced judge.now line.entry place (standing_of stand.now.walk.standing) stand.now.own asked (Writes view.now words.now)
+        → IsFaced judge.now line.entry place (standing_of stand.now.walk.standing) stand.now.own asked
+        (Writes view.now words.now)
         → IsLineFit (history_of judge.now)
         (IsAnsweredSo (history_of judge.now) line.entry (standing_of stand.now.walk.standing).transaction asked) fit) }
     ensures plain { IfOk result IsPlainFit }

@@ -38,7 +38,8 @@ pub fn are_answered(
     store: &VersionStore,
 ) -> Result<bool, AllocError>
     requires { IsJudgedSource source.now acts.now events.now store.now }
-    ensures { IfOk result (λ is. (told : ListOf Told) → AreToldIn source.now told → IsTrue is ↔ IsAnswered told events.now) }
+    ensures { IfOk result (λ is. (told : ListOf Told) → AreToldIn source.now told
+        → IsTrue is ↔ IsAnswered told events.now) }
 {
     let counts = counts_of(alloc, events)?;
     let stored = stored_of(alloc, source.openings)?;
@@ -113,7 +114,8 @@ fn judge_line(
     at: usize,
 ) -> Result<LineFit, AllocError>
     requires judge { IsJudge judge.now }
-    requires frame { (session : ℕ) × (begin : ℕ) × (many : ℕ) × IsFrameOf judge.now session begin many frame.now × (at < many)
+    requires frame { (session : ℕ) × (begin : ℕ) × (many : ℕ) × IsFrameOf judge.now session begin many frame.now
+        × (at < many)
         × IsStandAt judge.now session begin at stand.old }
     ensures fits { IfOk result (λ fit. (session : ℕ) (begin : ℕ) (many : ℕ) (told : ListOf Told)
         → IsFrameOf judge.now session begin many frame.now → at < many → IsStandAt judge.now session begin at stand.old

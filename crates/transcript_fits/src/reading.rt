@@ -28,7 +28,8 @@ pub(crate) fn fit_reading(
     requires judge { IsJudge judge.now }
     requires reading { (t : Option Transaction) × IsReading judge.now line t view.now own.now }
     ensures fits { IfOk result (λ fit. (t : Option Transaction) → IsReading judge.now line.entry t view.now own.now
-        → IsLineFit (history_of judge.now) (IsAnsweredSo (history_of judge.now) line.entry t (Ok (reads view.now None))) fit) }
+        → IsLineFit (history_of judge.now) (IsAnsweredSo (history_of judge.now) line.entry t (Ok (reads view.now None)))
+        fit) }
     ensures asked { IfOk result (MayBeAsked (history_of judge.now)) }
     ensures reading { IfOk result IsReadingFit }
 {

@@ -108,7 +108,8 @@ impl Stand {
         act: &Act,
     ) -> Result<(), AllocError>
         requires { (history : History) × (asked : Asked) × IsFollowing history self.old line asked act.now }
-        ensures { OnOk result ((history : History) (asked : Asked) → IsFollowing history self.old line.entry asked act.now
+        ensures { OnOk result ((history : History) (asked : Asked)
+            → IsFollowing history self.old line.entry asked act.now
             → AreOwnBehind history self.old self.new line.entry asked place) }
     {
         match act {
@@ -141,7 +142,8 @@ impl Stand {
         requires sound { IsSoundAct act }
         requires answer { IsAnswerAt judge.now.source.now place (answer_of_line line) }
         ensures walked { OnOk result (HasWalked judge.now self.old self.new place) }
-        ensures own { OnOk result ((history : History) (u : Transaction) → (standing_of self.new.walk.standing).transaction ≡ Some u
+        ensures own { OnOk result ((history : History) (u : Transaction)
+            → (standing_of self.new.walk.standing).transaction ≡ Some u
             → IsOwnOf history self.old.upto u.ops self.old.own → IsOwnOf history self.new.upto u.ops self.new.own) }
         ensures none { OnOk result ((history : History) → (standing_of self.new.walk.standing).transaction ≡ None
             → IsOwnOf history self.new.upto [] self.new.own) }
@@ -176,8 +178,11 @@ impl Stand {
 
     // Whether a transaction under repeatable read stands.
     fn keeps_reads(&self) -> bool
-        ensures yes { IsTrue result → (u : Transaction) × ((standing_of self.now.walk.standing).transaction ≡ Some u) × (u.mode.repeatable_read ≡ true) }
-        ensures no { result ≡ false → (u : Transaction) → (standing_of self.now.walk.standing).transaction ≡ Some u → u.mode.repeatable_read ≡ false }
+        ensures yes { IsTrue result
+            → (u : Transaction) × ((standing_of self.now.walk.standing).transaction ≡ Some u)
+            × (u.mode.repeatable_read ≡ true) }
+        ensures no { result ≡ false → (u : Transaction) → (standing_of self.now.walk.standing).transaction ≡ Some u
+            → u.mode.repeatable_read ≡ false }
     {
         match &self.walk.standing.transaction {
             Some(transaction) => transaction.mode.repeatable_read,
@@ -213,7 +218,8 @@ impl Stand {
 
     // Where no transaction stands there are no operations.
     fn leave(&mut self, alloc: Global)
-        ensures some { (u : Transaction) → (standing_of self.old.walk.standing).transaction ≡ Some u → self.new.own ≡ self.old.own }
+        ensures some { (u : Transaction) → (standing_of self.old.walk.standing).transaction ≡ Some u
+            → self.new.own ≡ self.old.own }
         ensures none { (standing_of self.old.walk.standing).transaction ≡ None
             → (history : History) (upto : ℕ) → IsOwnOf history upto [] self.new.own }
         ensures begun { self.new.begun ≡ self.old.begun }
@@ -232,8 +238,10 @@ impl Stand {
         requires begun { (told : ListOf Told)
             × IsBegunAt told begin place self.now.begun (standing_of self.now.walk.standing).transaction }
         ensures within { begin + result ≤ place }
-        ensures lines { (told : ListOf Told) → IsBegunAt told begin place self.now.begun (standing_of self.now.walk.standing).transaction
-            → lines_before (standing_of self.now.walk.standing).transaction (take (place - begin) told) ≡ take result told }
+        ensures lines { (told : ListOf Told)
+            → IsBegunAt told begin place self.now.begun (standing_of self.now.walk.standing).transaction
+            → lines_before (standing_of self.now.walk.standing).transaction (take (place - begin) told)
+            ≡ take result told }
     {
         if self.keeps_reads() {
             self.begun - begin

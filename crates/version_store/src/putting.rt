@@ -27,7 +27,8 @@ pub(crate) fn put_in(
     id: &[u64],
     words: &[PlacedWord],
 ) -> Result<(), AllocError>
-    requires { (v : Versions) → IsKeptAs opening (found table.old.entries id.now) v → IsVersions v → HasRoom number words.now v }
+    requires { (v : Versions) → IsKeptAs opening (found table.old.entries id.now) v → IsVersions v
+        → HasRoom number words.now v }
     ensures { OnOk result (HasPut opening number id.now words.now table.old.entries table.new.entries) }
 {
     if table.contains_key(id) {
@@ -46,7 +47,8 @@ fn put_kept(
     words: &[PlacedWord],
 ) -> Result<(), AllocError>
     requires there { IsSome (found table.old.entries id.now) }
-    requires room { (v : Versions) → IsKeptAs opening (found table.old.entries id.now) v → IsVersions v → HasRoom number words.now v }
+    requires room { (v : Versions) → IsKeptAs opening (found table.old.entries id.now) v → IsVersions v
+        → HasRoom number words.now v }
     ensures { OnOk result (HasPut opening number id.now words.now table.old.entries table.new.entries) }
 {
     let Some(chunk) = table.get_mut(id) else {
@@ -64,7 +66,8 @@ fn put_new(
     words: &[PlacedWord],
 ) -> Result<(), AllocError>
     requires none { found table.old.entries id.now ≡ None }
-    requires room { (v : Versions) → IsKeptAs opening (found table.old.entries id.now) v → IsVersions v → HasRoom number words.now v }
+    requires room { (v : Versions) → IsKeptAs opening (found table.old.entries id.now) v → IsVersions v
+        → HasRoom number words.now v }
     ensures { OnOk result (HasPut opening number id.now words.now table.old.entries table.new.entries) }
 {
     let mut chunk = new_chunk(alloc, opening)?;
@@ -106,7 +109,8 @@ pub(crate) fn enter_local(
     number: u64,
     start: &Dense,
 ) -> Result<(), AllocError>
-    ensures { OnOk result (HasEntered (array ∷ replicate (length start.now.shape) 0) number start.now.words table.old.entries table.new.entries) }
+    ensures { OnOk result (HasEntered (array ∷ replicate (length start.now.shape) 0) number start.now.words
+        table.old.entries table.new.entries) }
 {
     let id = local_id(alloc, array, start.shape())?;
     enter_words(alloc, table, &id, number, start)
