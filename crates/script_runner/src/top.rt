@@ -33,8 +33,9 @@ use std::thread::Threads;
 /// in the order of the files.
 ///
 /// The words are options and files: `--workers N` (1 to 64) and `--cache CELLS` (up to 134217728), then 1 to 1,024 files. A script has at
-/// most 2^26 bytes, all together at most 2^28. All are read before the first session starts. A transaction that is open at a script's end is
-/// dropped. Each mount comes back finished, or its place is listed. Session i is dealt to worker i modulo their number, of which no clause speaks.
+/// most 2^26 bytes, all together at most 2^28. Where one can't be read, no session starts. Over one empty store that makes all changes of a commit
+/// together, a transaction that is open at a script's end leaves nothing. Where sessions were started, each mount comes back finished, or its
+/// place is listed; else it is as it was. Session i is dealt to worker i modulo their number, of which no clause speaks.
 ///
 /// With `--make NUMBER` no file is named or read: nine scripts are made from the number, the last of them for a session behind the others, and
 /// one line about the run is written in place of the answers.

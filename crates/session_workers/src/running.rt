@@ -30,9 +30,9 @@ pub(crate) struct Ended<K: KvStore> {
     pub whole: bool,
 }
 
-/// Runs each script in a session of its own, over one state that begins over a store with a cache of at most so many cells. Session i runs on
-/// worker i modulo their number; a worker runs its sessions one after the other. The last `behind` sessions start once all others were joined;
-/// they have a worker of their own.
+/// Runs each script in a session of its own, over one state that begins over a store with a cache of at most so many cells. The last `behind`
+/// sessions start once all others were joined, on a worker of their own. Session i runs on worker i modulo their number, and a worker runs its
+/// sessions one after the other; no clause speaks of workers.
 ///
 /// # Errors
 /// There was no memory before the first session was started. The store comes back.
