@@ -6,6 +6,7 @@ pub mod Laws
 pub mod LongLaws
 pub mod MoveLaws
 pub mod PartLaws
+pub mod PlaneLaws
 pub mod PutLaws
 pub mod RowLaws
 pub mod RowSteps

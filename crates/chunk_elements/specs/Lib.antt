@@ -2,6 +2,7 @@ pub mod Words
 pub mod Blocks
 pub mod Chunk
 pub mod Rows
+pub mod Planes
 -- names of crates below, given on to those above
 pub use Rattle.cells.specs.Bytes
 pub use Rattle.cells.specs.Elements

@@ -1,5 +1,5 @@
-//! Elements of chunks: words of the eight dtypes as bytes, in either byte order, one after another or as a block of which some
-//! cells are stored with the first index fastest.
+//! Elements of chunks: cells of the eight dtypes, each of its dtype's size in bytes, in either byte order, one after another or as a block of
+//! which some cells are stored with the first index fastest.
 //!
 //! Other crates rest on three relations. `SpellsWords` ties bytes to the words that they are one after another; `StoresWords` ties
 //! the bytes of stored cells to the words of their block in C order; `SpellsChunk` ties a chunk's bytes to the word at each index
@@ -12,6 +12,7 @@ mod element;
 mod error;
 mod long;
 mod moving;
+mod plane;
 mod putting;
 mod taking;
 

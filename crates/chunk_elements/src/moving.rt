@@ -87,8 +87,16 @@ fn move_by(dtype: Dtype, big: bool, to: bool, row: Row, elements: &[u8], out: &m
     }
 }
 
+/// The same where the dtype and both orders are known when the program is built.
 #[inline(always)]
-fn move_each(dtype: Dtype, big: bool, to: bool, row: Row, elements: &[u8], out: &mut [u8])
+pub(crate) fn move_each(
+    dtype: Dtype,
+    big: bool,
+    to: bool,
+    row: Row,
+    elements: &[u8],
+    out: &mut [u8],
+)
     requires room { row.from + row.stride * row.count + byte_count dtype ≤ length elements.now + row.stride }
     requires stride { row.stride * row.count ≤ 2 ^ 27 }
     requires small { length elements.now ≤ 2 ^ 27 }

@@ -7,6 +7,7 @@ ghost use Rattle.chunk_elements.specs.Rows.{moved_rows};
 
 use crate::count::cells_of;
 use crate::moving::{Row, move_row};
+use crate::plane::{Plane, move_plane};
 use crate::taking::{Kind, Step};
 
 /// Writes the elements of cells of these sizes, the last index fastest, of items of a block in F order.
@@ -39,6 +40,10 @@ pub(crate) fn put_rows(
         put_last(kind, *most, *size, step, items, out);
         return;
     }
+    if sizes_behind.len() == 1 {
+        put_plane(kind, block, sizes, step, items, out);
+        return;
+    }
     let part = cells_of(sizes_behind) * kind.dtype.byte_count();
     for i in 0..*size as usize {
         let next = Step {
@@ -54,6 +59,30 @@ pub(crate) fn put_rows(
             &mut out[i * part..i * part + part],
         );
     }
+}
+
+// Writes the elements of the last two dimensions' cells.
+fn put_plane(kind: Kind, block: &[u64], sizes: &[u64], step: Step, items: &[u8], out: &mut [u8])
+    requires rank { length sizes.now ≡ 2 }
+    requires within { AreWithin block.now sizes.now }
+    requires cells { 0 < cell_count block.now }
+    requires volume { cell_count block.now ≤ 2 ^ 24 }
+    requires room { step.from + step.stride * cell_count block.now + byte_count kind.dtype
+        ≤ length items.now + step.stride }
+    requires stride { step.stride * cell_count block.now ≤ 2 ^ 27 }
+    requires small { length items.now ≤ 2 ^ 27 }
+    requires full { length out.old ≡ cell_count sizes.now * byte_count kind.dtype }
+    ensures { out.new ≡ moved_rows kind.dtype kind.big block.now sizes.now step.stride step.from items.now }
+{
+    let plane = Plane {
+        rows: sizes[0] as usize,
+        columns: sizes[1] as usize,
+        width: sizes[1] as usize * kind.dtype.byte_count(),
+        step: step.stride,
+        stride: step.stride * block[0] as usize,
+        from: step.from,
+    };
+    move_plane(kind.dtype, false, kind.big, plane, items, out);
 }
 
 // Writes one element.

@@ -7,6 +7,7 @@ ghost use Rattle.chunk_elements.specs.Rows.{items_of, words_of_rows};
 
 use crate::count::cells_of;
 use crate::moving::{Row, move_row};
+use crate::plane::{Plane, move_plane};
 use cells::Dtype;
 
 /// What elements are: numbers of a dtype, the highest byte first where `big`.
@@ -55,6 +56,10 @@ pub(crate) fn take_rows(
         take_last(kind, *most, *size, step, elements, out);
         return;
     }
+    if sizes_behind.len() == 1 {
+        take_plane(kind, block, sizes, step, elements, out);
+        return;
+    }
     let part = cells_of(block_behind) * kind.dtype.byte_count();
     for i in 0..*size as usize {
         let next = Step {
@@ -70,6 +75,32 @@ pub(crate) fn take_rows(
             &mut out[i * part..i * part + part],
         );
     }
+}
+
+// Writes the items of the last two dimensions' cells.
+fn take_plane(kind: Kind, block: &[u64], sizes: &[u64], step: Step, elements: &[u8], out: &mut [u8])
+    requires rank { length sizes.now ≡ 2 }
+    requires within { AreWithin block.now sizes.now }
+    requires cells { 0 < cell_count block.now }
+    requires volume { cell_count block.now ≤ 2 ^ 24 }
+    requires room { step.from + step.stride * cell_count sizes.now + byte_count kind.dtype
+        ≤ length elements.now + step.stride }
+    requires stride { step.stride * cell_count block.now ≤ 2 ^ 27 }
+    requires small { length elements.now ≤ 2 ^ 27 }
+    requires zeros { out.old ≡ replicate (cell_count block.now * byte_count kind.dtype) 0 }
+    ensures { out.new
+        ≡ items_of kind.dtype (words_of_rows kind.dtype kind.big block.now sizes.now step.stride step.from
+        elements.now) }
+{
+    let plane = Plane {
+        rows: sizes[0] as usize,
+        columns: sizes[1] as usize,
+        width: block[1] as usize * kind.dtype.byte_count(),
+        step: step.stride,
+        stride: step.stride * sizes[0] as usize,
+        from: step.from,
+    };
+    move_plane(kind.dtype, kind.big, false, plane, elements, out);
 }
 
 // Writes one item.
