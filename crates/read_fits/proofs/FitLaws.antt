@@ -18,22 +18,22 @@ use Rattle.stack_driver.specs.declared.view.View.{View}
 use Rattle.stack_driver.proofs.Laws.{length-cells_of}
 use Rattle.transaction_cells.specs.Staging.{StagedChunk}
 use Rattle.line_fits.specs.Standings.{words_given}
-use Rattle.read_fits.specs.ReadFits.{AreFitFailures, AreFitValues, AreReadFits, AreSeenFits, AreToldWords, HasWordsOf, IsTextOf, IsTextOrNot, IsToldBy}
+use Rattle.read_fits.specs.ReadFits.{AreFitFailures, AreFitValues, AreFitsOf, AreSeenFits, AreToldWords, HasWordsOf, IsTextOf, IsTextOrNot, IsToldBy}
 use Rattle.read_fits.specs.declared.reads.ReadFit.{ReadFit}
 use Rattle.read_fits.specs.declared.reads.ReadFit.TheVariants.{Unfit, IfFetched}
 use Rattle.read_fits.specs.declared.spot.Spot.{Spot}
 use Rattle.read_fits.proofs.ReadAnswers.{fit_failure, fit_text, unfit_failure}
 
 -- an answer with values, and one without
-pub by_values : {E : Type 0} (spot : Spot) (view : View) (staging : List StagedChunk) (text : List ℕ) (d values : Data) (r : Result ReadFit E) → get (codes "values") d ≡ Some values → IfOk r (AreFitValues spot view staging text values)
-    → IfOk r (AreReadFits spot view staging text d)
-by_values spot view staging text d values (Ok fit) there is = λ h owner t read line_is failed. is h owner t d read (record { line_is = line_is; values_are = there })
-by_values spot view staging text d values (Err e) there is = tt
+pub by_values : {E : Type 0} (spot : Spot) (view : View) (staging : List StagedChunk) (text : List ℕ) (found : Option Data) (values : Data) (r : Result ReadFit E) → found ≡ Some values → IfOk r (AreFitValues spot view staging text values)
+    → IfOk r (AreFitsOf spot view staging text found)
+by_values spot view staging text found values (Ok fit) there is = λ d of_it h owner t read line_is failed. is h owner t d read (record { line_is = line_is; values_are = of_it ∙ there })
+by_values spot view staging text found values (Err e) there is = tt
 
-pub by_failure : {E : Type 0} (spot : Spot) (view : View) (staging : List StagedChunk) (text : List ℕ) (d : Data) (r : Result ReadFit E) → get (codes "values") d ≡ None → IfOk r (AreFitFailures spot text)
-    → IfOk r (AreReadFits spot view staging text d)
-by_failure spot view staging text d (Ok fit) none is = λ h owner t read line_is failed. is h owner t view d line_is failed none
-by_failure spot view staging text d (Err e) none is = tt
+pub by_failure : {E : Type 0} (spot : Spot) (view : View) (staging : List StagedChunk) (text : List ℕ) (found : Option Data) (r : Result ReadFit E) → found ≡ None → IfOk r (AreFitFailures spot text)
+    → IfOk r (AreFitsOf spot view staging text found)
+by_failure spot view staging text found (Ok fit) none is = λ d of_it h owner t read line_is failed. is h owner t view d line_is failed (of_it ∙ none)
+by_failure spot view staging text found (Err e) none is = tt
 
 -- what is seen of words that the text tells
 pub by_words : {E : Type 0} (spot : Spot) (view : View) (staging : List StagedChunk) (text : List ℕ) (values : Data) (given : List ℕ) (r : Result ReadFit E) → AreToldWords view spot.line text values (Some given)

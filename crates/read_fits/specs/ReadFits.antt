@@ -116,6 +116,11 @@ AreReadFits spot view staged text d fit =
     → IsAnswerText spot.line text d → failed_in d ≡ single spot.failed
     → IsReadFit history owner (window_at spot) t spot.line view text d fit
 
+-- so it is of each answer with these values, or without any
+abbrev pub AreFitsOf : Spot → View → List StagedChunk → List ℕ → Option Data → ReadFit → Type 0
+AreFitsOf spot view staged text values fit =
+    (d : Data) → get (codes "values") d ≡ values → AreReadFits spot view staged text d fit
+
 -- the words are seen by whoever reads
 abbrev pub AreSeenFits : Spot → View → List StagedChunk → List ℕ → ReadFit → Type 0
 AreSeenFits spot view staged words fit =

@@ -1,5 +1,5 @@
 // Which answers fit a read.
-ghost use Rattle.std.specs.Prelude.{◌≡◌, ◌↔◌, [], ℕ, Option, Some, None, Ok, IfOk, OnOk, IsTrue, length};
+ghost use Rattle.std.specs.Prelude.{◌≡◌, ◌↔◌, [], ℕ, Option, Some, None, Ok, IfOk, OnOk, IsTrue, length, option_map};
 ghost use Rattle.serde_json.specs.Data.{Data};
 ghost use Rattle.serde_json.specs.View.{view as data_in};
 ghost use Rattle.line_fits.specs.AnswerLines.{IsAnswerText};
@@ -16,7 +16,7 @@ ghost use Rattle.transaction_cells.specs.Pieces.{AreCells};
 ghost use Rattle.transaction_cells.specs.Sites.{sites_of};
 ghost use Rattle.read_fits.specs.declared.spot.Spot.{Spot as SpotOf};
 ghost use Rattle.read_fits.specs.declared.reads.ReadFit.TheVariants as fit;
-ghost use Rattle.read_fits.specs.ReadFits.{AreFitFailures, AreFitValues, AreReadFits, AreSeenFits, AreToldWords, IsReadOf, IsTextOf, IsTextOrNot};
+ghost use Rattle.read_fits.specs.ReadFits.{AreFitFailures, AreFitValues, AreFitsOf, AreSeenFits, AreToldWords, IsReadOf, IsTextOf, IsTextOrNot};
 
 use crate::own::Own;
 use crate::spot::Spot;
@@ -41,7 +41,7 @@ pub enum ReadFit {
     IfMet { waiting: Waiting },
 }
 
-/// Whether an answer fits a read of the view, by what its transaction has; outside of one that is of no operation. The time is that of the
+/// Whether an answer with these values, or without any, fits a read of the view, by what its transaction has; outside of one that is of no operation. The time is that of the
 /// view's cells and of the text.
 ///
 /// # Errors
@@ -52,12 +52,13 @@ pub fn fit_read(
     view: &View,
     spot: Spot,
     text: &[u8],
-    answer: &Value,
+    values: Option<&Value>,
 ) -> Result<ReadFit, AllocError>
     requires { (history : History) × (t : Option Transaction) × IsReadOf history spot t view.now own.now.staging }
-    ensures { IfOk result (AreReadFits spot view.now own.now.staging text.now (data_in answer.now)) }
+    ensures { IfOk result (AreFitsOf spot view.now own.now.staging text.now
+        (option_map (λ v. data_in v.now) values.entry)) }
 {
-    match answer.get("values") {
+    match values {
         Some(values) => fit_values(alloc, &own.staging, view, spot, text, values),
         None => fit_failure(alloc, spot, text),
     }

@@ -18,10 +18,11 @@ pub use acts::{Act, act_of};
 pub use line_acts::{Answer, Body, values_body, viewed_body};
 pub use opened_views::view_opened;
 pub use printing::may_print;
-pub use said_answer::{ReadAnswer, SaidAnswer};
+pub use said_answer::{ReadAnswer, SaidAnswer, SaidValues};
 pub use standing::{Ongoing, Standing};
 pub use stated_arrays::{
-    Asked, AskedLine, Asking, BuildCause, BuildError, Command, Cutting, LeafOutcome, OpenPlan,
-    Openings, Said, SpecLeaf, Tree, Wanted, array_opened, array_ref, build, bytes_of, cut, joined,
-    number_events, outcome_after, place_next, read_lines, state_openings, wanted_by, words_told,
+    Asked, AskedLine, Asking, BuildCause, BuildError, Command, Cutting, KeptAnswer, LeafOutcome,
+    OpenPlan, Openings, Said, SpecLeaf, Tree, Wanted, array_opened, array_ref, build, bytes_of,
+    cut, joined, number_events, outcome_after, place_next, read_lines, state_openings, wanted_by,
+    words_told,
 };

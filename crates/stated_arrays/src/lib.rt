@@ -21,7 +21,7 @@ pub use openings::{Openings, state_openings};
 pub use outcomes::{LeafOutcome, array_at, array_opened, outcome_after, place_next};
 pub use told_words::words_told;
 pub use transcript_cut::{
-    AskedLine, Asking, BuildCause, BuildError, Command, Cutting, EventNumbers, LineError, OpenPlan,
-    Said, SpecError, SpecLeaf, Tree, array_ref, build, cut, joined, number_events, read_command,
-    read_lines,
+    AskedLine, Asking, BuildCause, BuildError, Command, Cutting, EventNumbers, KeptAnswer,
+    LineError, OpenPlan, Said, SpecError, SpecLeaf, Tree, array_ref, build, cut, joined,
+    number_events, read_command, read_lines,
 };

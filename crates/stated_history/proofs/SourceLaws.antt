@@ -4,8 +4,6 @@ use Rattle.std.specs.Prelude.{slice_index_or, option_map, is_some, ◌↔◌, Is
 use Rattle.std.specs.List.{AllByRecursion, slice_get}
 use Rattle.serde_json.specs.Data.{Data}
 use Rattle.serde_json.specs.Find.{get}
-use Rattle.serde_json.specs.View.{view as data_in}
-use Rattle.serde_json.specs.declared.value.Value.{Value}
 use Rattle.json_forms.specs.Bytes.{data_of}
 use Rattle.history.specs.Acts as acts
 use Rattle.history.specs.Acts.{Asked}
@@ -15,13 +13,14 @@ use Rattle.history.specs.Lines.{SpecLeaf, given, stored}
 use Rattle.history.specs.Own as own
 use Rattle.history.proofs.Laws.{some_inj}
 use Rattle.stated_acts.specs.SpecOpenings.{leaves_from, leaves_of, build_of}
+use Rattle.stated_acts.specs.declared.KeptAnswer.{KeptAnswer}
 use Rattle.stated_acts.specs.declared.OpenPlan.{OpenPlan}
 use Rattle.stated_acts.specs.declared.SpecLeaf as spec
 use Rattle.stated_acts.specs.declared.Tree.{Tree}
 use Rattle.stack_driver.specs.declared.view.View.{View}
 use Rattle.stated_acts.specs.Openings.{IsStatedBy, AreTakenBy}
 use Rattle.stated_acts.specs.Outlined.{leaves_at, AreOpenedBy}
-use Rattle.stated_acts.specs.Keeping.{IsKeptOf}
+use Rattle.stated_acts.specs.Keeping.{data_kept, IsKeptOf}
 use Rattle.stated_acts.specs.Said.{IsSaid, AreSaid}
 use Rattle.stated_history.specs.Kept.{HoldsAnswer}
 use Rattle.stated_acts.specs.Spans.{bytes_at, line_at, IsPlaced, IsSpanOf}
@@ -289,9 +288,9 @@ got_below (y ∷ xs) zero x is = omega arith
 got_below (y ∷ xs) (suc k) x is = let rest = got_below xs k x is in omega (arith, rest)
 
 -- what is kept of an answer reads as it
-kept_data : (d : Data) (kept : Option Value) (answer : Value) → kept ≡ Some answer → IsKeptOf d kept → data_in answer ≡ d
+kept_data : (d : Data) (kept : Option KeptAnswer) (answer : KeptAnswer) → kept ≡ Some answer → IsKeptOf d kept → data_kept answer ≡ d
 kept_data d None answer is holds = absurd (cc)
-kept_data d (Some v) answer is holds = ap data_in (sym (some_inj v answer is)) ∙ holds
+kept_data d (Some v) answer is holds = ap data_kept (sym (some_inj v answer is)) ∙ holds
 
 -- what is known of a line that something is kept of
 pub record IsLineOf (s : Source) (d : Said) : Type 0 where

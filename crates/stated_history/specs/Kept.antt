@@ -2,14 +2,13 @@
 use Rattle.std.specs.Prelude.{◌≡◌, ◌++◌, ◌∷◌, ℕ, List, [], length, take, Option, Some, None}
 use Rattle.std.specs.List.{slice_get}
 use Rattle.json_forms.specs.Bytes.{data_of}
-use Rattle.serde_json.specs.View.{view as data_in}
-use Rattle.serde_json.specs.declared.value.Value.{Value}
 use Rattle.stated_acts.specs.Acts.{IsActAt, IsSoundAct}
-use Rattle.stated_acts.specs.Keeping.{IsCommandOf}
+use Rattle.stated_acts.specs.Keeping.{data_kept, IsCommandOf}
 use Rattle.stated_acts.specs.Spans.{line_at}
 use Rattle.stated_acts.specs.Transcript.{Told}
 use Rattle.stated_acts.specs.declared.Act.{Act}
 use Rattle.stated_acts.specs.declared.Command.{Command}
+use Rattle.stated_acts.specs.declared.KeptAnswer.{KeptAnswer}
 use Rattle.stated_acts.specs.declared.Said.{Said}
 use Rattle.stated_history.specs.Walks.{AreToldIn, line_said, outlined, standing_before, TellsCommits}
 use Rattle.stated_history.specs.declared.commits.Source.{Source}
@@ -17,7 +16,7 @@ use Rattle.stated_history.specs.declared.kept.StatedLines.{StatedLines}
 
 -- what is kept of the answer to a line is what its text reads as
 abbrev pub HoldsAnswer : List ℕ → Said → Type 0
-HoldsAnswer transcript d = (answer : Value) → d.answer ≡ Some answer → data_of (line_said d transcript) ≡ Some (data_in answer)
+HoldsAnswer transcript d = (kept : KeptAnswer) → d.answer ≡ Some kept → data_of (line_said d transcript) ≡ Some (data_kept kept)
 
 -- this is kept of the line at a place
 abbrev pub IsKeptAt : Source → ℕ → Option Command → Type 0

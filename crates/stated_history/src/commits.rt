@@ -11,7 +11,7 @@ ghost use Rattle.stated_acts.specs.SaidAnswers.{data_said};
 ghost use Rattle.stated_acts.specs.Standings.{standing_of, IsSoundStanding};
 ghost use Rattle.stated_history.specs.Kept.{HasKept, HoldsAnswer, IsKeptAt, TellsLines};
 ghost use Rattle.stated_acts.specs.Cuttings.{lines_kept};
-ghost use Rattle.stated_acts.specs.Keeping.{AreCommandsOf, IsCommandOf};
+ghost use Rattle.stated_acts.specs.Keeping.{data_kept, AreCommandsOf, IsCommandOf};
 ghost use Rattle.stated_history.specs.Walks.{IsSource, outlined, IsReached, IsNotPast, IsInSession};
 ghost use Rattle.stated_history.specs.Walks.{IsAnswerAt, IsFacingLine, IsGoneOnAt, IsReadAlone, TellsAt};
 ghost use Rattle.stated_history.specs.Walks.{IsKeptOutline, IsTakenBy, IsViewTaken, line_said, takings_at};
@@ -25,7 +25,8 @@ use crate::walk::Walk;
 use cells::{List, Name};
 use stack_driver::View;
 use stated_acts::{
-    Act, Command, Openings, Said, SaidAnswer, Standing, act_of, bytes_of, may_print, view_opened,
+    Act, Command, KeptAnswer, Openings, Said, SaidAnswer, Standing, act_of, bytes_of, may_print,
+    view_opened,
 };
 use std::alloc::{AllocError, Global};
 
@@ -294,9 +295,21 @@ pub fn answer_said<'s>(source: &Source<'s>, said: &'s Said) -> SaidAnswer<'s>
     ensures { data_of (line_said said.now source.now.transcript.now) ≡ Some (data_said result) }
 {
     match &said.answer {
-        Some(answer) => SaidAnswer::Kept { answer },
+        Some(kept) => kept_said(kept),
         None => SaidAnswer::Text {
             bytes: &source.transcript[said.text.from..said.text.upto - 1],
+        },
+    }
+}
+
+fn kept_said<'s>(kept: &'s KeptAnswer) -> SaidAnswer<'s>
+    ensures { data_said result ≡ data_kept kept.now }
+{
+    match kept {
+        KeptAnswer::Whole { value } => SaidAnswer::Kept { answer: value },
+        KeptAnswer::Cell { line, word } => SaidAnswer::Cell {
+            line: *line,
+            word: *word,
         },
     }
 }

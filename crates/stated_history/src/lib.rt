@@ -14,7 +14,8 @@ pub use commits::{Source, act_said, answer_said, pass_line, state_commits};
 pub use kept::StatedLines;
 pub use putting::{Commit, commits_complete_the_history, put_commits};
 pub use stated_acts::{
-    Act, Answer, AskedLine, Asking, Body, Command, Cutting, Ongoing, OpenPlan, Openings,
-    ReadAnswer, Said, SaidAnswer, cut, number_events, read_lines, state_openings, viewed_body,
+    Act, Answer, AskedLine, Asking, Body, Command, Cutting, KeptAnswer, Ongoing, OpenPlan,
+    Openings, ReadAnswer, Said, SaidAnswer, SaidValues, cut, number_events, read_lines,
+    state_openings, viewed_body,
 };
 pub use walk::Walk;

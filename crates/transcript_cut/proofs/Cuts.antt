@@ -3,7 +3,7 @@ use Rattle.std.proofs.Common.{◌≡◌, Option, ◌<◌, ◌≤◌, ℕ, ◌+�
 use Rattle.std.proofs.lemmas.List.{take-append-drop, drop-drop, drop_all, map-append}
 use Rattle.std.specs.List.{AllByRecursion, flat_map}
 use Rattle.serde_json.specs.Data.{Data}
-use Rattle.serde_json.specs.declared.value.Value.{Value}
+use Rattle.transcript_cut.specs.declared.said.KeptAnswer.{KeptAnswer}
 use Rattle.json_forms.specs.Bytes.{data_of}
 use Rattle.transcript_laws.proofs.Laws.{some_inj}
 use Rattle.transcript_laws.specs.AnswerLines.{has_lf}
@@ -152,11 +152,11 @@ module _ (scripts : List (List ℕ)) (transcript : List ℕ) where
   abbrev next_told : AskedLine → ℕ → ℕ → Data → Told
   next_told line at size answer = record { session = line.session; number = line.number; asked = asked_by (line_at scripts line); text = take size (drop at transcript); answer = answer }
 
-  abbrev kept_said : AskedLine → ℕ → ℕ → EventNumbers → Option Value → Said
+  abbrev kept_said : AskedLine → ℕ → ℕ → EventNumbers → Option KeptAnswer → Said
   kept_said line at size numbers answer = record { line = line; text = record { from = at; upto = at + size }; numbers = numbers; answer = answer }
 
   -- a line with an answer
-  pub one_more : (said : List Said) (left more : List ScriptLine) (line : AskedLine) (at size : ℕ) (numbers : EventNumbers) (answer : Option Value) → IsCutUpTo said left at → left ≡ line_at scripts line ∷ more → IsPlaced scripts line
+  pub one_more : (said : List Said) (left more : List ScriptLine) (line : AskedLine) (at size : ℕ) (numbers : EventNumbers) (answer : Option KeptAnswer) → IsCutUpTo said left at → left ≡ line_at scripts line ∷ more → IsPlaced scripts line
       → BeginsWithAnswer (drop at transcript) line.number size numbers answer
       → IsCutUpTo (said ++ record { line = line; text = record { from = at; upto = at + size }; numbers = numbers; answer = answer } ∷ []) more (at + size)
   one_more said left more line at size numbers answer is lefts placed begins = record {

@@ -3,7 +3,6 @@ use Rattle.std.proofs.Common.{◌≡◌, ◌<◌, ℕ, ◌+◌, List, [], ◌∷
 use Rattle.std.specs.Prelude.{IsTrue, Option}
 use Rattle.std.proofs.lemmas.List.{length-take-le, take_at}
 use Rattle.serde_json.specs.Data.{Data}
-use Rattle.serde_json.specs.declared.value.Value.{Value}
 use Rattle.json_forms.specs.Bytes.{data_of}
 use Rattle.transcript_laws.specs.AnswerLines.{has_lf, outside, is_compact}
 use Rattle.transcript_laws.specs.Unchecked.{IsMemoryAnswer}
@@ -16,6 +15,7 @@ use Rattle.transcript_cut.specs.Fronts.{BeginsWithAnswer, BeginsWithMemory, Begi
 use Rattle.transcript_cut.specs.declared.answers.Judged.{Judged}
 use Rattle.transcript_cut.specs.declared.answers.Judged.TheVariants.{Answer, Memory, Other}
 use Rattle.transcript_cut.specs.declared.numbers.EventNumbers.{EventNumbers}
+use Rattle.transcript_cut.specs.declared.said.KeptAnswer.{KeptAnswer}
 use Rattle.transcript_cut.proofs.Lines.{lf_in}
 
 -- without an LF nothing begins with a line
@@ -41,7 +41,7 @@ module _ (text : List ℕ) (number spot : ℕ) (end : IsLineEnd text spot) (low 
       let size : length line ≡ spot = length-take-le spot text end.within in
       ap (take (spot + 1)) (end.behind low) ∙ ap (λ n. take (n + 1) (line ++ 10 ∷ rest)) (sym size) ∙ front_and_one line 10 rest
 
-  pub answer_front : (numbers : EventNumbers) (kept : Option Value) (answer : Data) → IsAnswerLine line number answer → PrintsNumbers answer numbers → IsKeptOf answer kept → BeginsWithAnswer text number (spot + 1) numbers kept
+  pub answer_front : (numbers : EventNumbers) (kept : Option KeptAnswer) (answer : Data) → IsAnswerLine line number answer → PrintsNumbers answer numbers → IsKeptOf answer kept → BeginsWithAnswer text number (spot + 1) numbers kept
   answer_front numbers kept answer is prints keeps = record {
     answer = answer;
     within = omega (arith, low);

@@ -3,6 +3,7 @@ pub mod ScriptLines
 pub mod Behind
 pub mod Bytes
 pub mod Values
+pub mod PlainLaws
 pub mod Fronts
 pub mod Cuts
 pub mod Checked

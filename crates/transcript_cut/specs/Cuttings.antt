@@ -1,7 +1,6 @@
 -- What cutting a transcript gives.
 use Rattle.std.specs.Prelude.{◌≡◌, ℕ, ◌+◌, List, [], ◌∷◌, ◌++◌, map, Option, false}
 use Rattle.std.specs.List.{AllByRecursion}
-use Rattle.serde_json.specs.declared.value.Value.{Value}
 use Rattle.transcript_laws.specs.Transcript.{ScriptLine, lines_of_scripts, Told, IsCut}
 use Rattle.transcript_laws.specs.Unchecked.{is_memory_answer, IsCutOff}
 use Rattle.transcript_laws.specs.Verdicts.{FailsPart1}
@@ -17,6 +16,7 @@ use Rattle.transcript_cut.specs.declared.cutting.Found.TheVariants.{Answer, Memo
 use Rattle.transcript_cut.specs.declared.numbers.EventNumbers.{EventNumbers}
 use Rattle.transcript_cut.specs.declared.said.AskedLine.{AskedLine}
 use Rattle.transcript_cut.specs.declared.said.Said.{Said}
+use Rattle.transcript_cut.specs.declared.said.KeptAnswer.{KeptAnswer}
 
 -- the lines of which something is kept
 abbrev pub lines_kept : List (List ℕ) → List Said → List ScriptLine
@@ -55,7 +55,7 @@ IsEnding scripts transcript said (Short line) = IsCutOffAt scripts transcript li
 -- an answer of so many bytes stands at the front of the text, which begins at this byte; and what is kept now
 pub record IsKeptAnswer (text : List ℕ) (line : AskedLine) (at size : ℕ) (old new : List Said) : Type 0 where
   pub numbers : EventNumbers
-  pub answer : Option Value
+  pub answer : Option KeptAnswer
   pub begins : BeginsWithAnswer text line.number size numbers answer
   pub kept : new ≡ old ++ record { line = line; text = record { from = at; upto = at + size }; numbers = numbers; answer = answer } ∷ []
 

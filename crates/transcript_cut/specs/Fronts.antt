@@ -1,7 +1,6 @@
 -- What stands at the front of a text.
 use Rattle.std.specs.Prelude.{◌≡◌, ◌≤◌, ℕ, List, ◌∷◌, ◌++◌, Option, false, length, take}
 use Rattle.serde_json.specs.Data.{Data}
-use Rattle.serde_json.specs.declared.value.Value.{Value}
 use Rattle.transcript_laws.specs.AnswerLines.{has_lf, IsAnswerText}
 use Rattle.transcript_laws.specs.Unchecked.{is_memory_answer, IsMemoryAnswer}
 use Rattle.transcript_cut.specs.Numbers.{PrintsNumbers}
@@ -9,9 +8,10 @@ use Rattle.transcript_cut.specs.Keeping.{IsKeptOf}
 use Rattle.transcript_cut.specs.declared.numbers.EventNumbers.{EventNumbers}
 use Rattle.transcript_cut.specs.declared.answers.Front.{Front}
 use Rattle.transcript_cut.specs.declared.answers.Front.TheVariants.{Answer, Memory, Other}
+use Rattle.transcript_cut.specs.declared.said.KeptAnswer.{KeptAnswer}
 
 -- the first bytes are the answer to the line of a number, which isn't want of memory and prints these numbers, and of which this is kept
-pub record BeginsWithAnswer (text : List ℕ) (number : ℕ) (size : ℕ) (numbers : EventNumbers) (kept : Option Value) : Type 0 where
+pub record BeginsWithAnswer (text : List ℕ) (number : ℕ) (size : ℕ) (numbers : EventNumbers) (kept : Option KeptAnswer) : Type 0 where
   pub answer : Data
   pub within : size ≤ length text
   pub is : IsAnswerText number (take size text) answer

@@ -3,20 +3,27 @@ use Rattle.std.specs.Prelude.{◌≡◌, ℕ, List, [], ◌∷◌, ◌++◌, Opt
 use Rattle.std.specs.List.{AllZip}
 use Rattle.serde_json.specs.Data.{Data}
 use Rattle.serde_json.specs.View.{view}
-use Rattle.serde_json.specs.declared.value.Value.{Value}
 use Rattle.transcript_laws.specs.Form.{Form, form_of, IsSoundOther}
 use Rattle.transcript_laws.specs.Lines.{command_of_line}
 use Rattle.transcript_laws.specs.Transcript.{mount, ScriptLine, lines_of_scripts}
 use Rattle.transcript_laws.specs.Unchecked.{is_unchecked_form, is_unchecked_in, AreChecked, IsFirstUnchecked}
 use Rattle.transcript_laws.specs.declared.Command.{Command}
+use Rattle.transcript_cut.specs.Plain.{cell_answer}
 use Rattle.transcript_cut.specs.Spans.{line_at, IsPlaced}
+use Rattle.transcript_cut.specs.declared.said.KeptAnswer.{KeptAnswer}
+use Rattle.transcript_cut.specs.declared.said.KeptAnswer.TheVariants.{Whole, Cell}
 use Rattle.transcript_cut.specs.declared.unchecked.Asking.{Asking}
 use Rattle.transcript_cut.specs.declared.unchecked.Asking.TheVariants.{Checked, Unchecked}
 
+-- the answer that is kept
+abbrev pub data_kept : KeptAnswer → Data
+data_kept (Whole value) = view value
+data_kept (Cell number word) = cell_answer number word
+
 -- of an answer itself is kept, or nothing
-abbrev pub IsKeptOf : Data → Option Value → Type 0
+abbrev pub IsKeptOf : Data → Option KeptAnswer → Type 0
 IsKeptOf answer None = Unit {0}
-IsKeptOf answer (Some value) = view value ≡ answer
+IsKeptOf answer (Some kept) = data_kept kept ≡ answer
 
 -- the bytes of a line are this command, which opens nothing
 pub record IsReadAs (bytes : List ℕ) (command : Command) : Type 0 where

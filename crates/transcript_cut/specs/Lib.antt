@@ -3,6 +3,7 @@ pub mod Spans
 pub mod Cursors
 pub mod Readings
 pub mod Numbers
+pub mod Plain
 pub mod Keeping
 pub mod Judged
 pub mod Fronts

@@ -5,13 +5,15 @@ ghost use Rattle.serde_json.specs.Find.{get, as_bool};
 ghost use Rattle.json_forms.specs.Bytes.{data_of};
 ghost use Rattle.json_forms.specs.Numbers.{whole_number};
 ghost use Rattle.transcript_laws.specs.Unchecked.{is_memory_answer};
-ghost use Rattle.transcript_cut.specs.Judged.{IsAnswerOf, IsJudged};
+ghost use Rattle.transcript_cut.specs.Judged.{IsAnswerOf, IsJudged, plain_judged, plain_kept};
 ghost use Rattle.transcript_cut.specs.Keeping.{IsKeptOf};
 ghost use Rattle.transcript_cut.specs.Fronts.{IsFront};
 
 use crate::compact::is_compact;
 use crate::line_end::line_end;
 use crate::numbers::{EventNumbers, numbers_in};
+use crate::plain::{Plain, plain_line};
+use crate::said::KeptAnswer;
 use json_forms::{ParseError, has_exactly, parse, whole_number};
 use serde_json::Value;
 use std::alloc::{AllocError, Global};
@@ -23,7 +25,7 @@ pub enum Front {
     Answer {
         length: usize,
         numbers: EventNumbers,
-        answer: Option<Value>,
+        answer: Option<KeptAnswer>,
     },
     /// An answer of want of memory.
     Memory,
@@ -36,7 +38,7 @@ pub enum Front {
 pub enum Judged {
     Answer {
         numbers: EventNumbers,
-        answer: Option<Value>,
+        answer: Option<KeptAnswer>,
     },
     Memory,
     Other,
@@ -65,6 +67,40 @@ pub fn front_of(alloc: Global, text: &[u8], number: u64) -> Result<Front, AllocE
 
 // What a line without an LF is.
 fn judge(alloc: Global, bytes: &[u8], number: u64) -> Result<Judged, AllocError>
+    ensures { IfOk result (IsJudged bytes.now number) }
+{
+    match plain_line(alloc, bytes, number) {
+        Ok(Some(plain)) => judge_plain(alloc, plain, number),
+        Ok(None) => judge_json(alloc, bytes, number),
+        Err(e) => Err(e),
+    }
+}
+
+// What a line is that its bytes tell.
+fn judge_plain(alloc: Global, plain: Plain, number: u64) -> Result<Judged, AllocError>
+    ensures { IfOk result (λ judged. judged ≡ plain_judged plain number) }
+{
+    match plain.numbers(alloc) {
+        Ok(numbers) => Ok(Judged::Answer {
+            numbers,
+            answer: kept_plain(plain, number),
+        }),
+        Err(e) => Err(e),
+    }
+}
+
+// What is kept of it.
+fn kept_plain(plain: Plain, number: u64) -> Option<KeptAnswer>
+    ensures { result ≡ plain_kept plain number }
+{
+    match plain {
+        Plain::Cell { word } => Some(KeptAnswer::Cell { line: number, word }),
+        _ => None,
+    }
+}
+
+// What any other line is.
+fn judge_json(alloc: Global, bytes: &[u8], number: u64) -> Result<Judged, AllocError>
     ensures { IfOk result (IsJudged bytes.now number) }
 {
     match parse(alloc, bytes) {
@@ -96,11 +132,11 @@ fn judge_value(alloc: Global, bytes: &[u8], value: Value, number: u64) -> Result
 
 // What is kept of an answer of these bytes: itself, where it has values and is short, so that it need not be read again. Others are seldom looked
 // at again, and a value in memory takes many times the room of its text.
-fn kept_answer(value: Value, bytes: &[u8]) -> Option<Value>
+fn kept_answer(value: Value, bytes: &[u8]) -> Option<KeptAnswer>
     ensures { IsKeptOf (view value) result }
 {
     if bytes.len() <= 256 && value.get("values").is_some() {
-        Some(value)
+        Some(KeptAnswer::Whole { value })
     } else {
         None
     }

@@ -12,6 +12,7 @@ mod cutting;
 mod line_end;
 mod numbering;
 mod numbers;
+mod plain;
 mod rise;
 mod said;
 mod spots;
@@ -20,7 +21,7 @@ mod unchecked;
 pub use cutting::{Cutting, cut};
 pub use numbering::number_events;
 pub use numbers::EventNumbers;
-pub use said::{AskedLine, Said, Span};
+pub use said::{AskedLine, KeptAnswer, Said, Span};
 pub use transcript_laws::{
     Answer, Body, BuildCause, BuildError, Command, JoinError, LineError, MetaWhy, OpenPlan,
     SpecError, SpecLeaf, Tree, Why, array_ref, build, form_of, given_info, joined, new_info,

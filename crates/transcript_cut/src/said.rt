@@ -16,12 +16,20 @@ pub struct AskedLine {
     pub bytes: Span,
 }
 
-/// What a transcript has for a line: where the answer stands, with its LF, the numbers of events that it prints, and what it reads as, where it
-/// has values and is short.
+/// What is kept of an answer, so that it need not be read again: all of it, or the one cell of a read without dimensions, as a word of `int64`,
+/// with the number of the line.
+#[derive(Drop)]
+pub enum KeptAnswer {
+    Whole { value: Value },
+    Cell { line: u64, word: u64 },
+}
+
+/// What a transcript has for a line: where the answer stands, with its LF, the numbers of events that it prints, and what is kept of it,
+/// where it has values and is short.
 #[derive(Drop)]
 pub struct Said {
     pub line: AskedLine,
     pub text: Span,
     pub numbers: EventNumbers,
-    pub answer: Option<Value>,
+    pub answer: Option<KeptAnswer>,
 }

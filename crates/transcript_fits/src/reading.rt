@@ -33,9 +33,8 @@ pub(crate) fn fit_reading(
     ensures asked { IfOk result (MayBeAsked (history_of judge.now)) }
     ensures reading { IfOk result IsReadingFit }
 {
-    let read = line.answer.read(alloc)?;
-    let answer = read.value();
-    match fit_read(alloc, own, view, spot_of(line), line.text, answer) {
+    let values = line.answer.values(alloc)?;
+    match fit_read(alloc, own, view, spot_of(line), line.text, values.get()) {
         Ok(ReadFit::Unfit) => Ok(LineFit::Unfit),
         Ok(ReadFit::IfFetched) => fit_fetched(alloc, judge, own, line, view),
         Ok(ReadFit::IfMet { waiting }) => Ok(LineFit::IfMet { waiting }),

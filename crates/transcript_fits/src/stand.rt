@@ -165,9 +165,8 @@ impl Stand {
         ensures walk { self.new.walk ≡ self.old.walk }
     {
         if self.keeps_reads() {
-            let read = answer.read(alloc)?;
-            let said = read.value();
-            match said.get("values") {
+            let values = answer.values(alloc)?;
+            match values.get() {
                 Some(_) => self.own.read(alloc, view),
                 None => Ok(()),
             }

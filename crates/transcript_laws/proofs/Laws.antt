@@ -30,6 +30,6 @@ pub use Rattle.state_laws.proofs.Located.{free_of}
 pub use Rattle.state_laws.proofs.Outline.{array_at-outline, count-outline, known-outline, length-outline, outline-more, outline_opening}
 pub use Rattle.state_laws.proofs.Laws.{known_reference, known_shaped}
 pub use Rattle.state_laws.proofs.Laws.{reference_given, there_of}
-pub use Rattle.answer_data.proofs.Laws.{told_data}
+pub use Rattle.answer_data.proofs.Laws.{reads_back, told_data}
 pub use Rattle.answer_data.proofs.Laws.{nested_words-values_data}
 pub use Rattle.history.proofs.Laws.{some_inj}

@@ -9,8 +9,8 @@ use Rattle.transcript_fits.proofs.stand.Stand.read.Goals as goal
 
 pub returns-in-Some-clause-kept : goal.returns-in-Some-clause-kept
 returns-in-Some-clause-kept c =
-    on_ok_weaker c.read-in-Some.result
+    on_ok_weaker c.read.result
     (λ joins. λ h reading.
-    has_joined h c.args.self.now (record { walk = c.args.self.now.walk; own = c.read-in-Some.new.self; begun = c.args.self.now.begun; upto = c.args.self.now.upto }) c.args.view.now (data_said c.args.answer.now) _ (ap (get (codes "values")) (sym (c.value-said.ensures ∙ c.in_ok-read.ensures)) ∙ sym c.in-Some.ensures) (c.keeps_reads.ensures.yes c.if-keeps_reads.true)
+    has_joined h c.args.self.now (record { walk = c.args.self.now.walk; own = c.read.new.self; begun = c.args.self.now.begun; upto = c.args.self.now.upto }) c.args.view.now (data_said c.args.answer.now) _ (sym (c.in-Some.ensures ∙ c.in_ok-values.ensures)) (c.keeps_reads.ensures.yes c.if-keeps_reads.true)
     (λ words. joins h c.args.self.now.upto (ops_in (standing_of c.args.self.now.walk.standing).transaction) words reading.there reading.own))
-    c.read-in-Some.ensures
+    c.read.ensures
