@@ -4,5 +4,7 @@
 pub use Rattle.commits.proofs.AddedLaws.{IsOwn, HasAdded, told_added}
 -- and what it may add is no failed call
 pub use Rattle.commits.proofs.CalmLaws.{IsCalm, may_calm}
+-- whatever the store tells, a commit's answer has its cause
+pub use Rattle.commits.proofs.CauseLaws.{caused}
 -- laws of crates below, given on to those above
 pub use Rattle.chunk_plans.proofs.Laws.{may_ready, ready_right, rising_sorted}

@@ -22,7 +22,9 @@ pub mod OneLaws
 pub mod JointLaws
 pub mod DoneLaws
 pub mod ByKeysLaws
+pub mod MadeEvents
 pub mod RowLaws
+pub mod CauseLaws
 pub mod ToldLaws
 pub mod AddedLaws
 pub mod CalmLaws

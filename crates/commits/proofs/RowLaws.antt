@@ -1,24 +1,20 @@
 -- A commit's answer as a row of a session's step.
-use Rattle.std.proofs.Common.{◌≡◌, ℕ, zero, suc, ◌+◌, ◌<◌, ◌≤◌, List, [], ◌∷◌, ◌++◌, length, take, Bool, true, false, cond, Result, Ok, Err, Option, Some, None, inl, inr, refl, sym, ap, subst, ◌∙◌, arith}
-use Rattle.std.specs.Prelude.{IsTrue, Contains, filter, ◌||◌, nat_eq, nat_le}
-use Rattle.std.specs.List.{AllByRecursion, list_all, list_any, starts_with}
+use Rattle.std.proofs.Common.{◌≡◌, ℕ, suc, ◌+◌, ◌<◌, List, [], ◌∷◌, ◌++◌, length, take, Bool, true, false, cond, Result, Ok, Err, Option, Some, None, inl, inr, refl, sym, ap, subst, ◌∙◌, arith}
+use Rattle.std.specs.Prelude.{IsTrue, ◌||◌, nat_eq, nat_le}
+use Rattle.std.specs.List.{list_all, starts_with}
 use Rattle.std.proofs.lemmas.List.{append_assoc, append-nil, length-append}
 use Rattle.kv_face.specs.Store.{Contents}
 use Rattle.history.specs.declared.event.Event.{Event}
 use Rattle.history.specs.declared.event.Mode.{Mode}
-use Rattle.history.specs.declared.event.Op.{Op}
 use Rattle.history.specs.Answers as body
 use Rattle.history.specs.History.{History}
 use Rattle.history.specs.Arrays.{known_after}
-use Rattle.history.specs.Chunks.{Chunk, chunk_of, is_chunk}
-use Rattle.history.specs.Commit.{CommitTogether, Fixed, HasNoConflict, Key, Transaction, are_together, changed_keys, commit_events, done, done_each, is_write, kept_ops, stored_keys}
+use Rattle.history.specs.Commit.{CommitTogether, Fixed, HasNoConflict, Key, Transaction, are_together, changed_keys, commit_events, done, done_each, kept_ops, stored_keys}
 use Rattle.history.specs.CommitRows.{HasNoDamage, IsChangedOn, IsCommit, IsPart, MayCommit, conflicts, is_damaged, is_done, is_failed, is_shrunk, is_split, is_wanting, left_by, own_after, own_part}
 use Rattle.history.specs.Legal.{IsLegal, IsLegalDone}
 use Rattle.history.specs.Own.{fault, numbered, numbers_of}
-use Rattle.history.specs.ReadRows.{IsOnMount}
 use Rattle.history.specs.Staged.{AreInShapes}
-use Rattle.history.specs.Writes.{Put, puts_of}
-use Rattle.history.proofs.Laws.{chunk_array, commit_keeps_legal, in_shapes, known_after-more, legal_step, same_chunks}
+use Rattle.history.proofs.Laws.{commit_keeps_legal, in_shapes, legal_step}
 use Rattle.chunk_plans.specs.Agreement.{Opening, Agrees}
 use Rattle.chunk_plans.specs.Log.{Log}
 use Rattle.chunk_plans.specs.Seen.{StoreSeen}
@@ -29,86 +25,20 @@ use Rattle.commits.specs.declared.prepared.Prepared.{Prepared}
 use Rattle.commits.specs.declared.refused.CommitRefused.{CommitRefused}
 use Rattle.commits.specs.declared.refused.CommitRefused.TheVariants as refused
 use Rattle.commits.specs.Answers.{IsCommitRow, IsCommitted, Leaves, body_of}
-use Rattle.commits.specs.Keyed.{each_event, key_event}
+use Rattle.commits.specs.Keyed.{each_event}
 use Rattle.commits.specs.Late.{IsFirstLate}
 use Rattle.commits.specs.Made.{IsMade, whole_event}
 use Rattle.commits.specs.Outside.{IsFirstOutside}
 use Rattle.commits.specs.Planning.{IsAmongOn, write_arrays}
-use Rattle.commits.specs.Prepared.{AreWrites, IsStagedWrite, write_keys}
+use Rattle.commits.specs.Prepared.{AreWrites, write_keys}
 use Rattle.commits.specs.Right.{IsRightCommit}
 use Rattle.commits.specs.Ways.{IsOpen, IsUntouched, IsWay}
 use Rattle.commits.specs.Writes.{stored_write_keys}
-use Rattle.commits.proofs.ChangedKeys.{changed_keys_are, stored_keys_are}
+use Rattle.commits.proofs.ChangedKeys.{stored_keys_are}
 use Rattle.commits.proofs.Conflicts.{conflict_of, no_conflict}
 use Rattle.commits.proofs.DamageLaws.{damaged_of, no_damage}
-use Rattle.commits.proofs.EachLaws.{key_known}
+use Rattle.commits.proofs.MadeEvents.{among_same, changed_on, each_events, known_each, known_whole, length_take, numbered_one, take_front, take_numbered, together_as, whole_events}
 use Rattle.commits.proofs.ShrunkLaws.{not_shrunk, shrunk_of}
-
-take_front : (xs ys : List Event) → take (length xs) (xs ++ ys) ≡ xs
-take_front [] [] = refl
-take_front [] (y ∷ ys) = refl
-take_front (x ∷ xs) ys = ap (λ zs. x ∷ zs) (take_front xs ys)
-
-take_numbered : (n count : ℕ) (es : List Event) → take count (numbered n es) ≡ numbered n (take count es)
-take_numbered n zero [] = refl
-take_numbered n zero (e ∷ es) = refl
-take_numbered n (suc count) [] = refl
-take_numbered n (suc count) (e ∷ es) = ap (λ os. record { number = n; event = e } ∷ os) (take_numbered (n + 1) count es)
-
-numbered_one : (n : ℕ) (es : List Event) (e : Event) → numbered n (es ++ e ∷ []) ≡ numbered n es ++ record { number = n + length es; event = e } ∷ []
-numbered_one n [] e = ap (λ m. record { number = m; event = e } ∷ []) (plus_none n)
-  where
-    plus_none : (n : ℕ) → n ≡ n + 0
-    plus_none n = omega arith
-numbered_one n (f ∷ es) e = ap (λ os. record { number = n; event = f } ∷ os) (numbered_one (n + 1) es e ∙ ap (λ m. numbered (n + 1) es ++ record { number = m; event = e } ∷ []) (one_more n (length es)))
-  where
-    one_more : (n m : ℕ) → n + 1 + m ≡ n + suc m
-    one_more n m = omega arith
-
-length_take : (count : ℕ) (es : List Event) → count ≤ length es → length (take count es) ≡ count
-length_take zero [] low = refl
-length_take zero (e ∷ es) low = refl
-length_take (suc count) [] low = absurd (omega (arith, low))
-length_take (suc count) (e ∷ es) low = ap suc (length_take count es (omega (arith, low)))
-
--- the events of keys change no array
-known_each : (owner line : ℕ) (mode : Mode) (ops : List Op) (keys : List Key) (count : ℕ) (h : History) (a : ℕ) → known_after (h ++ take count (each_event owner line mode ops keys)) a ≡ known_after h a
-known_each owner line mode ops [] zero h a = ap (λ es. known_after es a) (append-nil h)
-known_each owner line mode ops [] (suc count) h a = ap (λ es. known_after es a) (append-nil h)
-known_each owner line mode ops (k ∷ keys) zero h a = ap (λ es. known_after es a) (append-nil h)
-known_each owner line mode ops (k ∷ keys) (suc count) h a =
-    ap (λ es. known_after es a) (sym (append_assoc h (key_event owner line mode ops k ∷ []) (take count (each_event owner line mode (filter is_write ops) keys))))
-    ∙ known_each owner line mode (filter is_write ops) keys count (h ++ key_event owner line mode ops k ∷ []) a ∙ key_known owner line mode ops k h a
-
--- a put of a chunk that is written
-put_contained : (events : History) (c : Chunk) (ps : List Put) → list_any (λ p. is_chunk (chunk_of events p.0) c) ps ≡ true → (p : Put) × Contains ps p × (chunk_of events p.0 ≡ c)
-put_contained events c [] is = absurd (cc)
-put_contained events c (p ∷ ps) is = by (is_chunk (chunk_of events p.0) c) refl (λ rest. put_contained events c ps rest)
-  where
-    by : (b : Bool) → is_chunk (chunk_of events p.0) c ≡ b → (list_any (λ q. is_chunk (chunk_of events q.0) c) ps ≡ true → (q : Put) × Contains ps q × (chunk_of events q.0 ≡ c)) → (q : Put) × Contains (p ∷ ps) q × (chunk_of events q.0 ≡ c)
-    by true same rest = (p, (zero, omega arith, refl), same_chunks (chunk_of events p.0) c same)
-    by false other rest =
-        let there = rest (sym (ap (λ b. b || list_any (λ q. is_chunk (chunk_of events q.0) c) ps) other) ∙ is) in
-        let low = there.1.1 in
-        (there.0, (suc there.1.0, omega (arith, low), there.1.2), there.2)
-
--- a store call for an array of the writes is one for an array that is changed
-changed_on : (events : History) (t : Transaction) (ws : List ChunkWrite) (mount : List ℕ) → AllByRecursion (IsStagedWrite events t.ops) ws → IsAmongOn events (write_arrays ws) mount → IsChangedOn events t mount
-changed_on events t [] mount each among = absurd among
-changed_on events t (w ∷ ws) mount each (inl (k, known, on)) =
-    let there = put_contained events (record { array = w.array; index = w.chunk.now }) (puts_of t.ops) each.0.1.written in
-    let array : there.0.0.array ≡ w.array = sym (chunk_array (known_after events there.0.0.array) there.0.0) ∙ ap (λ (c : Chunk). c.array) there.2 in
-    record { put = there.0; among = there.1; on_mount = subst (IsOnMount mount) (sym (ap (known_after events) array ∙ known)) on }
-changed_on events t (w ∷ ws) mount each (inr more) = changed_on events t ws mount each.1 more
-
-among_same : (early late : History) (arrays : List ℕ) (mount : List ℕ) → ((a : ℕ) → known_after late a ≡ known_after early a) → IsAmongOn late arrays mount → IsAmongOn early arrays mount
-among_same early late [] mount same among = among
-among_same early late (a ∷ arrays) mount same (inl (k, known, on)) = inl (k, sym (same a) ∙ known, on)
-among_same early late (a ∷ arrays) mount same (inr more) = inr (among_same early late arrays mount same more)
-
-each_same : (owner : ℕ) (t : Transaction) (line : ℕ) (mode : Mode) (ops : List Op) (keys : List Key) → line ≡ t.line → mode ≡ t.mode → each_event owner line mode ops keys ≡ done_each owner t ops keys
-each_same owner t line mode ops [] one two = refl
-each_same owner t line mode ops (k ∷ keys) one two = λ i. done owner (record t { line = one i; mode = two i }) ops (Some k) ∷ each_same owner t line mode (filter is_write ops) keys one two i
 
 all_begin : (keys : List Key) → list_all (λ key. starts_with nat_eq key []) keys ≡ true
 all_begin [] = refl
@@ -138,10 +68,10 @@ module _ (opening : Opening) (start : Contents) (store : StoreSeen) (log : Log) 
   free_of untouched = no_conflict start log t legal (agrees.holds start told).generations p.footprint.now is.prepared.marks is.reads (λ asked. untouched (asked_same asked))
 
   pub shaped_of : IsFirstOutside events ws None → AreInShapes events t.ops
-  shaped_of none = in_shapes start events t legal is.known (not_shrunk start events t legal ws are none)
+  shaped_of none = in_shapes start events t legal is.known (not_shrunk events t agrees.outline ws are none)
 
   together_is : (b : Bool) → are_together store.prefixes (stored_write_keys events ws) ≡ b → are_together opening.store.prefixes (stored_keys events t.ops) ≡ b
-  together_is b e = ap (λ ps. are_together ps (stored_keys events t.ops)) (sym agrees.frame.prefixes) ∙ ap (are_together store.prefixes) (stored_keys_are events t.ops ws are) ∙ e
+  together_is b e = together_as opening start store log owner t p agrees is.prepared.line is.prepared.mode is.prepared.ops is.prepared.reads are b e
 
   -- the operations may follow
   pub done_legal_of : IsOpen log p → IsLegalDone start events p.ops
@@ -164,7 +94,7 @@ module _ (opening : Opening) (start : Contents) (store : StoreSeen) (log : Log) 
   conflict_row l asked found = conflicts (conflict_of start log t legal (agrees.holds start told).generations p.footprint.now l is.prepared.marks (subst (λ (m : Mode). IsTrue m.repeatable_read) is.prepared.mode asked) found)
 
   shrunk_row : (o : Outside) → IsUntouched log p → IsFirstOutside events ws (Some o) → IsCommit fixed owner events t None (body.shrunk o.key o.now) []
-  shrunk_row o untouched found = is_shrunk (free_of untouched) (shrunk_of start events t legal ws are o found)
+  shrunk_row o untouched found = is_shrunk (free_of untouched) (shrunk_of events t agrees.outline ws are o found)
 
   split_row : (keys : ℕ) → IsOpen log p → are_together store.prefixes (stored_write_keys events ws) ≡ false → p.mode.atomic ≡ true → keys ≡ length (stored_write_keys events ws) → IsCommit fixed owner events t None (body.not_atomic keys) []
   split_row keys is_open apart atomic count =
@@ -299,28 +229,16 @@ module _ (opening : Opening) (start : Contents) (store : StoreSeen) (log : Log) 
         wanting_by made.count made.fewer (sym same ∙ made.added) (λ some. let there = made.planned some in no_damage opening start store log fixed t agrees told refl (length events + 1) step ws there.0 are is.ready there.1)
 
   whole_all : are_together store.prefixes (stored_write_keys events ws) ≡ true → whole_event owner p ∷ [] ≡ commit_events fixed events owner t
-  whole_all together =
-      ap (λ e. e ∷ []) same ∙ sym (ap (λ b. cond b (done owner t (kept_ops t) None ∷ []) (done_each owner t (kept_ops t) (changed_keys events t.ops))) (together_is true together))
-    where
-      same : whole_event owner p ≡ done owner t (kept_ops t) None
-      same i = done owner (record t { line = is.prepared.line i; mode = is.prepared.mode i }) ((is.prepared.ops ∙ sym is.prepared.reads) i) None
+  whole_all together = whole_events opening start store log owner t p agrees is.prepared.line is.prepared.mode is.prepared.ops is.prepared.reads are together
 
   -- made as one event
   pub whole_row : IsOpen log p → are_together store.prefixes (stored_write_keys events ws) ≡ true → (next : StoreSeen) (now : Log) (result : Result (List ℕ) CommitRefused) → IsMade owner store next log now 0 ws (whole_event owner p ∷ []) result
       → IsCommitRow fixed owner events now.events t result
   whole_row is_open together next now result made =
-      made_row is_open 0 next now.events (whole_event owner p ∷ []) (whole_all together) (λ asked. together_is true together) (λ given. refl) known now refl result made
-    where
-      known : (count : ℕ) (a : ℕ) → known_after (events ++ take count (whole_event owner p ∷ [])) a ≡ known_after events a
-      known zero a = ap (λ es. known_after es a) (append-nil events)
-      known (suc zero) a = known_after-more events (whole_event owner p) a
-      known (suc (suc n)) a = known_after-more events (whole_event owner p) a
+      made_row is_open 0 next now.events (whole_event owner p ∷ []) (whole_all together) (λ asked. together_is true together) (λ given. refl) (known_whole owner p events) now refl result made
 
   each_all : are_together store.prefixes (stored_write_keys events ws) ≡ false → each_event owner p.line p.mode p.ops (write_keys ws) ≡ commit_events fixed events owner t
-  each_all apart =
-      each_same owner t p.line p.mode p.ops (write_keys ws) is.prepared.line is.prepared.mode ∙ ap (λ os. done_each owner t os (write_keys ws)) (is.prepared.ops ∙ sym is.prepared.reads)
-      ∙ ap (done_each owner t (kept_ops t)) (sym (changed_keys_are events t.ops ws are))
-      ∙ sym (ap (λ b. cond b (done owner t (kept_ops t) None ∷ []) (done_each owner t (kept_ops t) (changed_keys events t.ops))) (together_is false apart))
+  each_all apart = each_events opening start store log owner t p agrees is.prepared.line is.prepared.mode is.prepared.ops is.prepared.reads are apart
 
   -- made as one event for each key
   pub each_row : IsOpen log p → are_together store.prefixes (stored_write_keys events ws) ≡ false → p.mode.atomic ≡ false → (next : StoreSeen) (now : Log) (result : Result (List ℕ) CommitRefused)

@@ -3,7 +3,7 @@ use Rattle.std.proofs.Common.{◌≡◌, ◌≢◌, ℕ, List, [], ◌∷◌, �
 use Rattle.std.specs.Prelude.{◌||◌}
 use Rattle.std.specs.List.{AllByRecursion}
 use Rattle.std.specs.Option.{option_map}
-use Rattle.kv_face.specs.Store.{Contents}
+use Rattle.std.specs.FinMap as finmap
 use Rattle.chunk_forms.specs.Names.{chunk_name, metadata_name}
 use Rattle.cells.proofs.Laws.{equal_or_not}
 use Rattle.stack_driver.specs.Targets.{Cell, is_cell}
@@ -18,8 +18,10 @@ use Rattle.history.specs.Reads.{is_put}
 use Rattle.history.specs.Refusals.{IsShrunkCommit, IsWrittenOutside, key_of_array}
 use Rattle.history.specs.Store.{resized_after}
 use Rattle.history.specs.Writes.{Put, puts_of}
-use Rattle.history.proofs.Laws.{chunk_array, known_apart, known_good, never_itself, other_way, same_cells, some_inj}
+use Rattle.history.proofs.Laws.{chunk_array, known_apart, never_itself, other_way, same_cells, some_inj}
 use Rattle.chunk_plans.specs.Laid.{IsStagedWithin}
+use Rattle.chunk_plans.specs.Outline.{outline}
+use Rattle.chunk_plans.proofs.Laws.{good_in, known-outline}
 use Rattle.chunk_plans.specs.declared.write.ChunkWrite.{ChunkWrite}
 use Rattle.chunk_plans.specs.Writes.{chunk_of_write}
 use Rattle.commits.specs.declared.outside.Outside.{Outside}
@@ -57,7 +59,7 @@ named_stored (Local start) some = absurd (some refl)
 is_metadata : (k : Known) (key : Key) → metadata_key k ≡ Some key → IsMetadataKey k key
 is_metadata k key is = metadata_by k key (metadata_name (form_of k.info.home)) (named_stored k.info.home) is
 
-module _ (start : Contents) (events : History) (t : Transaction) (legal : IsLegal start events) (writes : List ChunkWrite) (are : AreWrites events t.ops writes) where
+module _ (events : History) (t : Transaction) (legal : IsLegal finmap.empty (outline events)) (writes : List ChunkWrite) (are : AreWrites events t.ops writes) where
   -- a cell that lies outside isn't in a chunk of which each word lies within
   never_within : (x : Cell) (key : Key) (w : ChunkWrite) (k : Known) → IsWrittenOutside events t x key → IsPutAmong events writes x → IsStagedFor events t.ops w k → chunk_of_write w ≡ chunk_of events x → IsWithin k w → ⊥
   never_within x key w k out among is here within =
@@ -66,7 +68,7 @@ module _ (start : Contents) (events : History) (t : Transaction) (legal : IsLega
       let same : among.array ≡ k = some_inj among.array k (sym among.known ∙ known) in
       let rank = subst (λ (l : Known). length x.index ≡ length (chunk_shape l.info)) same among.rank in
       let meta = is_metadata k key (sym (ap key_of_array known) ∙ out.named) in
-      let inside = put_within events t.ops w k is x (known_good start w.array events legal k is.known) rank (sym here) (within meta.stored) out.written in
+      let inside = put_within events t.ops w k is x (good_in events legal w.array k is.known) rank (sym here) (within meta.stored) out.written in
       let clash : true ≡ false = sym inside ∙ sym (ap (λ o. is_present_in o x) known) ∙ out.outside in
       absurd (cc)
 
@@ -98,7 +100,7 @@ module _ (start : Contents) (events : History) (t : Transaction) (legal : IsLega
         let keys : low ≡ high = some_inj low high (sym first ∙ ap metadata_key array ∙ second) in
         ap (is_before high) keys ∙ never_itself high
     | inr apart ↦
-        let texts = known_apart start events legal w.array v.array k l one.known other.known apart in
+        let texts = known_apart finmap.empty (outline events) legal w.array v.array k l (known-outline w.array events ∙ one.known) (known-outline v.array events ∙ other.known) apart in
         let mine = is_metadata k low first in
         let its = is_metadata l high second in
         let order : is_before low high ≡ true =

@@ -11,6 +11,7 @@ pub mod Refused
 pub mod Ways
 pub mod Keyed
 pub mod Answers
+pub mod Caused
 -- names of crates below, given on to those above
 pub use Rattle.chunk_plans.specs.Asking
 pub use Rattle.chunk_plans.specs.Laying

@@ -20,7 +20,7 @@ pub use Rattle.session_turns.proofs.AloneLaws.{told_alone, told_without}
 -- what is asked outside of a transaction
 pub use Rattle.session_turns.proofs.ToldLaws.{outside_some, outside_none}
 -- laws of crates below, given on to those above
-pub use Rattle.transactions.proofs.Laws.{IsCalm, may_calm, none_staged, recorded_begun, recorded_later, recorded_read, recorded_written, txn_later}
+pub use Rattle.transactions.proofs.Laws.{IsCalm, commit_caused, may_calm, none_staged, recorded_begun, recorded_later, recorded_read, recorded_written, txn_later}
 pub use Rattle.state_resizes.proofs.Laws.{body_of, resize_row}
 pub use Rattle.line_acts.proofs.Laws.{answer_at, binds_known, build_within, bytes_of_mount, changes_within, found_all, if_err_map, if_ok_both, if_ok_map, join_within, kept_bound, named_none, refusal, refusal_told}
 pub use Rattle.transactions.proofs.StagedLaws.{on_ok_any}

@@ -5,6 +5,7 @@ pub mod Standing
 pub mod Told
 pub mod Failures
 -- names of crates below, given on to those above
+pub use Rattle.transactions.specs.Caused as CommitCauses
 pub use Rattle.transactions.specs.Committing
 pub use Rattle.transactions.specs.Conditions
 pub use Rattle.transactions.specs.Faults

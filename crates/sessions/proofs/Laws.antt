@@ -4,6 +4,8 @@
 pub use Rattle.sessions.proofs.CommitRows.{sound_later}
 -- a commit, and a write of its own, that are printed as want of memory are answered so
 pub use Rattle.sessions.proofs.EndLaws.{commit_ends, write_ends}
+-- a line that takes no turn, and one that is refused before it takes one, are answered for their causes
+pub use Rattle.sessions.proofs.CauseLaws.{alone_caused, refused_caused}
 -- what a plain line tells of failed calls: none
 pub use Rattle.sessions.proofs.PlainLines.{alone_tells, told_tells_none, plain_view, plain_join, plain_begin, plain_abort, plain_resolve}
 -- laws of crates below, given on to those above

@@ -7,6 +7,7 @@ pub mod StageLaws
 pub mod SoundLaws
 pub mod EndLaws
 pub mod ReadRows
+pub mod CauseLaws
 pub mod Failures
 pub mod PlainLines
 pub mod Laws

@@ -138,7 +138,7 @@ abbrev pub behind : Option TxnSeen → TxnSeen → Option TxnSeen
 behind None later = None
 behind (Some t) later = Some later
 
-still : (st : Option TxnSeen) (line : ℕ) (t later : TxnSeen) → reader line (transaction_in st) ≡ transaction_of t → later ≡ t → transaction_in st ≡ transaction_in (behind st later)
+pub still : (st : Option TxnSeen) (line : ℕ) (t later : TxnSeen) → reader line (transaction_in st) ≡ transaction_of t → later ≡ t → transaction_in st ≡ transaction_in (behind st later)
 still None line t later is same = refl
 still (Some u) line t later is same = ap Some (is ∙ ap transaction_of (sym same))
 

@@ -34,12 +34,12 @@ use Rattle.transactions.specs.Committing.{IsPreparedOf, MayCommitLater}
 use Rattle.transactions.specs.Conditions.{IsTxnIn}
 use Rattle.transactions.specs.Marking.{mark_of_kept}
 use Rattle.transactions.specs.Preparing.{AreWritesFor, MayWriteOf, seen_chunk, seen_part}
-use Rattle.transactions.specs.Recording.{IsRecorded}
+use Rattle.transactions.specs.Recording.{AreOfFootprint, IsRecorded}
 use Rattle.chunk_fetches.specs.Turns.{HasTurned}
 use Rattle.transactions.specs.Txn.{TxnSeen, transaction_of}
 use Rattle.turn_book.specs.Passes.{BookView, PassView}
-use Rattle.transactions.proofs.MarkLaws.{are_marks}
-use Rattle.transactions.proofs.RecordLaws.{recorded_later}
+use Rattle.transactions.proofs.MarkLaws.{are_marks, are_read}
+use Rattle.transactions.proofs.RecordLaws.{footprint_later, recorded_later}
 use Rattle.transactions.proofs.TxnLaws.{txn_later}
 use Rattle.transactions.proofs.WriteLaws.{are_parts, are_writes, moved_all}
 
@@ -69,7 +69,17 @@ module _ (opening : Opening) (seen : History) (t : TxnSeen) (p : Prepared) (txn 
       are_writes events legal t.ops t.staged now.known now.staged opening seen before.0 (sym before.1) has.asked has.unsorted p.writes.items has.distinct has.are_asked has.are_for has.parts has.moves has.sorted
 
   prepared_at : (events : History) → IsPrefix seen events → IsLegal finmap.empty (outline events) → IsPreparedOf events (transaction_of t) p
-  prepared_at events before legal = record { line = has.line; mode = has.mode; ops = has.ops; writes = writes_at events before legal }
+  prepared_at events before legal =
+      let split : IsLegal finmap.empty (outline (seen ++ before.0)) = subst (λ h. IsLegal finmap.empty (outline h)) (sym before.1) legal in
+      let footprint : AreOfFootprint events (transaction_of t) = subst (λ h. AreOfFootprint h (transaction_of t)) before.1 (footprint_later opening seen before.0 (transaction_of t) split txn.known recorded.footprint) in
+      record {
+        line = has.line;
+        mode = has.mode;
+        ops = has.ops;
+        reads = recorded.modes;
+        writes = writes_at events before legal;
+        marks = are_read opening events t p.footprint.now (txn_at events before legal) footprint has.marks;
+      }
 
   module _ (store : StoreSeen) (log : Log) (start : Contents) (before : IsPrefix seen log.events) (agrees : Agrees opening store log) (told : opening.store.contents ≡ Some start) where
     ready_from : (asked : List Asked) (ws : List ChunkWrite) → AllByRecursion (IsAsked opening seen) asked → AreWritesFor asked ws

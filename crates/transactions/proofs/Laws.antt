@@ -8,5 +8,7 @@ pub use Rattle.transactions.proofs.RecordLaws.{recorded_begun, recorded_written,
 pub use Rattle.chunk_fetches.proofs.Laws.{has_turned, past_of}
 -- by no operations nothing is staged
 pub use Rattle.chunk_fetches.proofs.Laws.{none_staged}
+-- whatever the store tells, a commit's answer has its cause
+pub use Rattle.transactions.proofs.CauseLaws.{commit_caused}
 -- what a commit may add is no failed call
 pub use Rattle.commits.proofs.Laws.{IsCalm, may_calm}

@@ -7,6 +7,7 @@ pub mod WriteLaws
 pub mod OwnLaws
 pub mod CommitLaws
 pub mod CommitTurns
+pub mod CauseLaws
 pub mod StagedLaws
 pub mod HadLaws
 pub mod ViewCellLaws

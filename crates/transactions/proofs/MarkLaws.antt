@@ -12,6 +12,7 @@ use Rattle.std.proofs.lemmas.List.Elements.{All-from_recursion, Contains-append_
 use Rattle.std.proofs.lemmas.List.Sorted.{All-permutation, Contains-permutation, IsPermutation-map}
 use Rattle.std.proofs.lemmas.Map.Keys.{IsDistinct-IsPermutation, IsDistinct-head, IsDistinct-tail}
 use Rattle.std.proofs.lemmas.Slice.Eq.{bytes_eq-Decides}
+use Rattle.commits.specs.Caused.{IsReadUnder}
 use Rattle.commits.specs.Prepared.{AreMarks, HasMark, IsMarkOf}
 use Rattle.commits.specs.declared.Mark.{Mark}
 use Rattle.history.specs.Arrays.{Known, known_after}
@@ -32,7 +33,7 @@ use Rattle.chunk_fetches.proofs.Laws.{known-outline}
 use Rattle.chunk_fetches.specs.Kept.{IsKeptIn, chunk_at}
 use Rattle.transactions.specs.Conditions.{IsTxnIn}
 use Rattle.transactions.specs.Marking.{mark_of_kept}
-use Rattle.transactions.specs.Recording.{IsRecorded}
+use Rattle.transactions.specs.Recording.{AreOfFootprint, IsRecorded}
 use Rattle.transactions.specs.Txn.{TxnSeen, marks_of, transaction_of}
 use Rattle.chunk_fetches.specs.declared.kept.Kept.{Kept}
 
@@ -151,6 +152,21 @@ module _ (opening : Opening) (events : History) (outlined : IsLegal finmap.empty
         → AllByRecursion (IsMarkOf events (transaction_of t)) (map mark_of_kept kept)
     are_each [] all needed own = tt
     are_each (k ∷ kept) all needed own = (is_mark k all.0 needed.0 own.0, are_each kept all.1 needed.1 own.1)
+
+-- what is kept, as marks in whatever order, is of chunks that were read
+pub are_read : (opening : Opening) (events : History) (t : TxnSeen) (marks : List Mark) → IsTxnIn opening events t → AreOfFootprint events (transaction_of t) → IsPermutation (map mark_of_kept t.kept) marks
+    → AllByRecursion (λ (m : Mark). IsReadUnder events (transaction_of t) m.key) marks
+are_read opening events t marks txn footprint moved =
+    let made = map mark_of_kept t.kept in
+    let pair : Kept → Chunk × ℕ = λ k. (chunk_at k.id, k.mark) in
+    let needed = all_from_map pair (λ (m : Chunk × ℕ). Contains (footprint_of events t.ops) m.0) t.kept footprint.needed in
+    recursion_from_All (λ (m : Mark). IsReadUnder events (transaction_of t) m.key) marks
+    (All-permutation (λ (m : Mark). IsReadUnder events (transaction_of t) m.key) made marks moved (All-from_recursion (λ (m : Mark). IsReadUnder events (transaction_of t) m.key) made (each t.kept txn.kept needed)))
+  where
+    each : (kept : List Kept) → AllByRecursion (IsKeptIn opening events) kept → AllByRecursion (λ (k : Kept). Contains (footprint_of events t.ops) (chunk_at k.id)) kept
+        → AllByRecursion (λ (m : Mark). IsReadUnder events (transaction_of t) m.key) (map mark_of_kept kept)
+    each [] all needed = tt
+    each (k ∷ kept) all needed = (record { chunk = chunk_at k.id; has = has_key opening events txn.outline k all.0; was_read = needed.0 }, each kept all.1 needed.1)
 
 -- what is kept, as marks in the order of their keys, is what the commit prepares of the footprint
 pub are_marks : (opening : Opening) (events : History) (t : TxnSeen) (start : Contents) (marks : List Mark) → IsTxnIn opening events t → IsRecorded opening events (transaction_of t) → opening.store.contents ≡ Some start

@@ -227,11 +227,15 @@ module _ (opening : Opening) (early more : History) (t : Transaction) (outlined 
       let there = grows_in early front was.seen x.array was.array was.known in
       same_chunk early (early ++ more) (keeps_front early more outlined) x there.0 there.1
 
+  -- the marks stay those of the footprint, whatever the store tells
+  pub footprint_later : AllByRecursion (IsKnownOp early) t.ops → AreOfFootprint early t → AreOfFootprint (early ++ more) t
+  footprint_later known was = same_footprint early (early ++ more) t t (map_same (chunk_of (early ++ more)) (chunk_of early) (WasInside early) chunk_later (first_reads [] t.ops) (first_reads_inside early [] t.ops known)) refl was
+
   pub recorded_later : ((start : Contents) → opening.store.contents ≡ Some start → IsLegal start (early ++ more)) → AllByRecursion (IsKnownOp early) t.ops → IsRecorded opening early t → IsRecorded opening (early ++ more) t
   recorded_later legal known was = record {
     views = was.views;
     sound = was.sound;
     modes = was.modes;
-    footprint = same_footprint early (early ++ more) t t (map_same (chunk_of (early ++ more)) (chunk_of early) (WasInside early) chunk_later (first_reads [] t.ops) (first_reads_inside early [] t.ops known)) refl was.footprint;
+    footprint = footprint_later known was.footprint;
     reads = λ start told. transaction_longer start early more t (legal start told) (was.reads start told);
   }

@@ -1,13 +1,16 @@
 -- A transaction's commit, in one turn.
 use Rattle.std.specs.Prelude.{◌≡◌, ◌⊎◌, ℕ, Bool, true, false, List, [], ◌∷◌, ◌++◌, Option, Some, None, Result, Ok, Err}
 use Rattle.std.specs.FinMap as finmap
+use Rattle.std.specs.List.{AllByRecursion}
 use mathlib.Core.List.{IsPrefix}
 use Rattle.commits.specs.Answers.{IsCommitRow, IsCommitted, IsTold}
+use Rattle.commits.specs.Caused.{IsReadUnder}
 use Rattle.commits.specs.Prepared.{AreWrites}
+use Rattle.commits.specs.declared.Mark.{Mark}
 use Rattle.commits.specs.declared.prepared.Prepared.{Prepared}
 use Rattle.commits.specs.declared.refused.CommitRefused.{CommitRefused}
 use Rattle.commits.specs.declared.refused.CommitRefused.TheVariants as refused
-use Rattle.history.specs.Commit.{Transaction}
+use Rattle.history.specs.Commit.{Transaction, kept_ops}
 use Rattle.history.specs.History.{History}
 use Rattle.history.specs.Legal.{IsLegal}
 use Rattle.history.specs.declared.event.Event.{Event}
@@ -27,7 +30,11 @@ pub record IsPreparedOf (events : History) (t : Transaction) (p : Prepared) : Ty
   pub line : p.line ≡ t.line
   pub mode : p.mode ≡ t.mode
   pub ops : p.ops ≡ t.ops
+  -- Reads are among its operations under repeatable read alone
+  pub reads : kept_ops t ≡ t.ops
   pub writes : AreWrites events t.ops p.writes.items
+  -- the marks are of chunks that it read
+  pub marks : AllByRecursion (λ (m : Mark). IsReadUnder events t m.key) p.footprint.now
 
 -- in a turn behind these events a state that agreed with the opening answered a transaction's commit, and added these events of its own
 pub record IsCommittedIn (opening : Opening) (owner : ℕ) (t : Transaction) (before : History) (own : List Event) (result : Result (List ℕ) CommitRefused) : Type 0 where

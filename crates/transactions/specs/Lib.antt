@@ -13,5 +13,6 @@ pub mod Reading
 pub mod Keeping
 -- names of crates below, given on to those above
 pub use Rattle.commits.specs.Answers
+pub use Rattle.commits.specs.Caused
 pub use Rattle.commits.specs.Agreement
 pub use Rattle.commits.specs.Outline
