@@ -19,6 +19,7 @@ use Rattle.history.specs.Steps.{IsRow, IsAnswered, done_line, open_done, open_un
 use Rattle.history.specs.Viewing.{opened_body}
 use Rattle.kv_face.specs.Store.{Contents}
 use Rattle.sessions.specs.AnswerBodies.{body_of}
+use Rattle.sessions.specs.Caused.{IsCausedBy, by_none, by_opening}
 use Rattle.sessions.specs.Causes.{build_cause}
 use Rattle.sessions.specs.MeaningOpenings.{leaf_of, node_of, leaves_from, leaves_of, build_cause_of, by_built, build_of}
 use Rattle.sessions.proofs.Laws.{build_within}
@@ -192,3 +193,12 @@ view_known first now plan name names later answer over bound =
 -- without a turn nothing is added, and nothing is told
 pub refused_alone : (pass : PassView Event Opening) → AreTold (added_by pass pass) body.InTransaction
 refused_alone pass = subst (λ own. AreTold own body.InTransaction) (sym (none_added pass)) (inl (record { are = tt; told = λ events is. absurd (let no_such : ⊥ = cc in no_such); none = refl }))
+
+-- over any store, a name is bound to the view that the Spec builds, or none is
+pub opening_caused : (book : BookView Opening) (first now : PassView Event Opening) (plan : OpenPlan) (name : Text) (names later : Names) (t : Option TxnSeen) (line : ℕ) (answer : printed.Body) → IsBoundOrNot first now plan name names later answer
+    → IsCausedBy book first now (session_state names (length first.seen) t) line (opening name (leaves_of plan) (build_of plan)) later (transaction_in t) answer
+opening_caused book first now plan name names later t line answer (inl bound) =
+    subst (λ ns. IsCausedBy book first now (session_state names (length first.seen) t) line (opening name (leaves_of plan) (build_of plan)) ns (transaction_in t) answer) (sym bound.bound)
+    (by_opening bound.arrays (build-full plan bound.arrays bound.count ∙ ap by_built bound.made))
+opening_caused book first now plan name names later t line answer (inr same) =
+    subst (λ ns. IsCausedBy book first now (session_state names (length first.seen) t) line (opening name (leaves_of plan) (build_of plan)) ns (transaction_in t) answer) (sym same.0) by_none

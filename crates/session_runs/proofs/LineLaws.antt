@@ -85,14 +85,10 @@ refused_to names t e answer is = by (form_error e) refl
     by None none = inl (is ∙ none_wants e none)
     by (Some form) some = inr (form_body form, ap (λ f. act_of names (transaction_in t) (refused_by f)) some, is ∙ refusal_told e form some)
 
--- it is answered by its refusal or want of memory, without a turn
-pub line_refused : (book : BookView Opening) (pass : PassView Event Opening) (names : Names) (t : Option TxnSeen) (number : ℕ) (asked : Line) (e : LineError) (answer : Body) → (e ≢ line.Memory → asked ≡ refused_by (form_error e))
-    → ((answer ≡ refusal_body e) ⊎ (answer ≡ printed.Memory)) → IsLineTold book pass pass names t number asked names t answer
-line_refused book pass names t number asked e answer is given = record {
-  left = transaction_in t;
-  told = told_without book pass (session_state names (length pass.seen) t) number asked answer (by given);
-  stands = λ other. refl;
-}
+-- it is answered by its refusal or want of memory
+pub form_answered : (names : Names) (t : Option TxnSeen) (asked : Line) (e : LineError) (answer : Body) → (e ≢ line.Memory → asked ≡ refused_by (form_error e)) → ((answer ≡ refusal_body e) ⊎ (answer ≡ printed.Memory))
+    → IsAnswerTo (act_of names (transaction_in t) asked) answer
+form_answered names t asked e answer is given = by given
   where
     is_wanting : (d : LineError) → e ≡ d → answer ≡ refusal_body e → IsAnswerTo (act_of names (transaction_in t) asked) answer
     is_wanting line.Memory same told = inl (told ∙ ap refusal_body same)
@@ -105,3 +101,12 @@ line_refused book pass names t number asked e answer is given = record {
     by : ((answer ≡ refusal_body e) ⊎ (answer ≡ printed.Memory)) → IsAnswerTo (act_of names (transaction_in t) asked) answer
     by (inl told) = is_wanting e refl told
     by (inr wants) = inl wants
+
+-- without a turn
+pub line_refused : (book : BookView Opening) (pass : PassView Event Opening) (names : Names) (t : Option TxnSeen) (number : ℕ) (asked : Line) (e : LineError) (answer : Body) → (e ≢ line.Memory → asked ≡ refused_by (form_error e))
+    → ((answer ≡ refusal_body e) ⊎ (answer ≡ printed.Memory)) → IsLineTold book pass pass names t number asked names t answer
+line_refused book pass names t number asked e answer is given = record {
+  left = transaction_in t;
+  told = told_without book pass (session_state names (length pass.seen) t) number asked answer (form_answered names t asked e answer is given);
+  stands = λ other. refl;
+}

@@ -2,6 +2,7 @@
 use Rattle.std.proofs.Common.{◌≡◌, ◌∙◌, ℕ, ◌+◌, ◌≤◌, Bool, true, false, List, [], ◌∷◌, ◌++◌, length, take, drop, map, Option, Some, None, refl, sym, ap, subst, arith, length-append}
 use Rattle.std.specs.Prelude.{◌≢◌}
 use Rattle.std.specs.List.{AllByRecursion}
+use Rattle.std.specs.FinMap as finmap
 use Rattle.std.proofs.lemmas.List.{map-append}
 use Rattle.std.proofs.Math.Seq.{take-length}
 use mathlib.Core.List.{IsPrefix}
@@ -20,9 +21,11 @@ use Rattle.history.specs.Steps.{IsAnswered, SessionStep, is_memory, IsSessionRun
 use Rattle.history.proofs.Laws.{run_longer}
 use Rattle.kv_face.specs.Store.{Contents}
 use Rattle.session_openings.specs.Bodies.{body_of, answer_of}
-use Rattle.session_runs.specs.Session.{SessionSeen, numbers_from, MayGoOn, IsLineTold, IsOngoing, IsRunTo, IsSessionOn}
+use Rattle.session_runs.specs.Session.{SessionSeen, state_of, numbers_from, MayGoOn, IsLineTold, IsOngoing, IsRunTo, IsSessionOn}
 use Rattle.session_runs.proofs.EndRows.{IsWanting, answer_wants}
+use Rattle.session_runs.proofs.CauseLaws.{caused_blank, caused_first, caused_next, caused_stops}
 use Rattle.session_runs.proofs.Failing.{failed_next}
+use Rattle.session_openings.specs.Caused.{IsCausedBy}
 use Rattle.session_openings.specs.Failures.{TellsFailures, failures_by, failures_of}
 use Rattle.session_openings.specs.Turns.{IsRested, HasPassed, added_by}
 use Rattle.session_openings.specs.Commits.{HasSoundTxn}
@@ -173,13 +176,15 @@ numbers_blank n (Some l ∷ lines) = ap (λ ns. n ∷ ns) (numbers_blank (n + 1)
 -- a session that is given one line more
 pub session_next : (book : BookView Opening) (was now : SessionSeen) (lines : List (Option Line)) (line : ℕ) (asked : Line) (answer : Body) → was.ended ≡ false → HasPassed book was.pass now.pass
     → IsLineTold book was.pass now.pass was.names was.txn line asked now.names now.txn answer → now.log ≡ was.log ++ record { line = line; body = answer } ∷ [] → (now.ended ≡ true → answer ≡ printed.Memory) → (answer ≡ printed.Memory → now.ended ≡ true)
-    → (now.ended ≡ false → MayGoOn book now.pass now.names now.txn) → TellsFailures (added_by was.pass now.pass) answer → line ≡ length lines + 1 → IsSessionOn book was lines → IsSessionOn book now (lines ++ Some asked ∷ [])
-session_next book was now lines line asked answer going passed told logged only all fit tells at on = record {
+    → (now.ended ≡ false → MayGoOn book now.pass now.names now.txn) → TellsFailures (added_by was.pass now.pass) answer
+    → IsCausedBy book was.pass now.pass (session_state was.names (length was.pass.seen) was.txn) line asked now.names (transaction_in now.txn) answer → line ≡ length lines + 1 → IsSessionOn book was lines → IsSessionOn book now (lines ++ Some asked ∷ [])
+session_next book was now lines line asked answer going passed told logged only all fit tells cause at on = record {
   rested = passed.rested;
   answered =
       ap (map (λ (a : Answer). a.line)) logged ∙ map-append (λ (a : Answer). a.line) was.log (record { line = line; body = answer } ∷ []) ∙ ap (λ ns. ns ++ line ∷ []) on.answered
       ∙ sym (numbers_more 1 line lines asked (at ∙ omega arith));
   failed = failed_next book was.pass now.pass was.log now.log (record { line = line; body = answer }) passed logged tells on.failed;
+  caused = caused_next book was now lines line asked answer going passed cause logged at on.caused only;
   told = λ start is. by start is now.ended refl;
   fit = fit;
 }
@@ -201,6 +206,7 @@ session_blank book s lines going on = record {
   rested = on.rested;
   answered = on.answered ∙ sym (numbers_blank 1 lines);
   failed = on.failed;
+  caused = caused_blank (fixed_by book.fixed finmap.empty) s lines going on.caused;
   told = λ start is.
       let run = on.told start is in record {
         answers = run.answers;
@@ -219,14 +225,8 @@ session_first book s rested none unbound idle silent = record {
   rested = rested;
   answered = ap (map (λ (a : Answer). a.line)) silent;
   failed = ap failures_by silent ∙ sym (ap (λ h. failures_of (own_events s.pass.number 1 h)) none);
-  told = λ start is. record {
-    answers = [];
-    printed = silent;
-    last = at_first;
-    run = no_line;
-    seen = sym (ap length none);
-    ongoing = λ on. record { none = tt; stands = ap (λ f. session_state f 0 None) (sym unbound) ∙ ap (λ n. session_state s.names n None) (sym (ap length none)) ∙ ap (λ t. session_state s.names (length s.pass.seen) t) (sym idle) };
-  };
+  caused = caused_first (fixed_by book.fixed finmap.empty) s none silent stands;
+  told = λ start is. record { answers = []; printed = silent; last = at_first; run = no_line; seen = sym (ap length none); ongoing = λ on. record { none = tt; stands = stands } };
   fit = λ on. record {
     rested = rested;
     views = λ name view is. absurd (let no : None ≡ Some view = ap (λ f. f name) (sym unbound) ∙ is in let no_such : ⊥ = cc in no_such);
@@ -234,6 +234,9 @@ session_first book s rested none unbound idle silent = record {
     txn = subst (λ t. HasSoundTxn book.fixed s.pass.seen t) (sym idle) tt;
   };
 }
+  where
+    stands : at_first ≡ state_of s
+    stands = ap (λ f. session_state f 0 None) (sym unbound) ∙ ap (λ n. session_state s.names n None) (sym (ap length none)) ∙ ap (λ t. session_state s.names (length s.pass.seen) t) (sym idle)
 
 -- one that has ended without an answer to a line
 pub session_stops : (book : BookView Opening) (was now : SessionSeen) (lines : List (Option Line)) → now.pass ≡ was.pass → now.log ≡ was.log → now.ended ≡ true → IsSessionOn book was lines → IsSessionOn book now lines
@@ -241,6 +244,7 @@ session_stops book was now lines pass_is log_is ended on = record {
   rested = subst (IsRested book) (sym pass_is) on.rested;
   answered = ap (map (λ (a : Answer). a.line)) log_is ∙ on.answered;
   failed = ap failures_by log_is ∙ on.failed ∙ ap (λ (p : PassView Event Opening). failures_of (own_events p.number 1 p.seen)) (sym pass_is);
+  caused = caused_stops (fixed_by book.fixed finmap.empty) was now lines pass_is log_is ended on.caused;
   told = λ start is.
       let run = on.told start is in record {
         answers = run.answers;

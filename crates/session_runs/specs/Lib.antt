@@ -1,3 +1,4 @@
+pub mod Causes
 pub mod Session
 pub mod Scripts
 -- names of crates below, given on to those above

@@ -1,5 +1,6 @@
 -- A session between two lines, and what it has answered.
 use Rattle.std.specs.Prelude.{◌≡◌, ◌≢◌, ℕ, ◌+◌, List, [], ◌∷◌, map, length, Bool, false, Option, Some, None}
+use Rattle.std.specs.FinMap as finmap
 use Rattle.std.specs.List.{AllByRecursion}
 use Rattle.session_openings.specs.declared.Answer.{Answer}
 use Rattle.session_openings.specs.declared.Body.{Body}
@@ -24,6 +25,7 @@ use Rattle.session_openings.specs.Agreement.{Opening, TakesMount}
 use Rattle.session_openings.specs.Answers.{fixed_by}
 use Rattle.session_openings.specs.Txn.{TxnSeen}
 use Rattle.turn_book.specs.Passes.{BookView, PassView}
+use Rattle.session_runs.specs.Causes.{AreCaused}
 
 -- these are names of mounts, and the book's store takes every key below each
 pub record HasMounts (book : BookView Opening) (mounts : List (List ℕ)) : Type 0 where
@@ -74,17 +76,24 @@ pub record IsRunTo (fixed : Fixed) (s : SessionSeen) (lines : List (Option Line)
   pub seen : last.seen ≡ length s.pass.seen
   pub ongoing : s.ended ≡ false → IsOngoing s answers last
 
+-- over any store each line is answered for its cause, from where the lines before it left the session; the next one begins as it stands
+pub record IsCausedTo (fixed : Fixed) (s : SessionSeen) (lines : List (Option Line)) : Type 0 where
+  pub last : Option SessionState
+  pub are : AreCaused fixed s.pass.number lines s.log s.pass.seen last
+  pub ongoing : s.ended ≡ false → last ≡ Some (state_of s)
+
 -- the numbers of the lines that aren't blank, the first line having this one
 abbrev pub numbers_from : ℕ → List (Option Line) → List ℕ
 numbers_from n [] = []
 numbers_from n (None ∷ lines) = numbers_from (n + 1) lines
 numbers_from n (Some line ∷ lines) = n ∷ numbers_from (n + 1) lines
 
--- a session that was given these lines: each that isn't blank has its answer, and the failed calls that its answers tell are those among its
--- events; where the store told its contents at the start, its log is that of a run; and where it hasn't ended it may be given more
+-- a session that was given these lines: each that isn't blank has its answer, for its cause, and the failed calls that its answers tell are those
+-- among its events; where the store told its contents at the start, its log is that of a run; and where it hasn't ended it may be given more
 pub record IsSessionOn (book : BookView Opening) (s : SessionSeen) (lines : List (Option Line)) : Type 0 where
   pub rested : IsRested book s.pass
   pub answered : map (λ (a : Answer). a.line) s.log ≡ numbers_from 1 lines
   pub failed : failures_by s.log ≡ failures_of (own_events s.pass.number 1 s.pass.seen)
+  pub caused : IsCausedTo (fixed_by book.fixed finmap.empty) s lines
   pub told : (start : Contents) → book.fixed.store.contents ≡ Some start → IsRunTo (fixed_by book.fixed start) s lines
   pub fit : s.ended ≡ false → MayGoOn book s.pass s.names s.txn

@@ -1,12 +1,14 @@
 // What a line is answered.
-ghost use Rattle.std.specs.Prelude.{◌≡◌, ◌≢◌, ◌⊎◌, Err, IfErr};
+ghost use Rattle.std.specs.Prelude.{◌≡◌, ◌≢◌, ◌⊎◌, Err, IfErr, length};
 ghost use Rattle.session_openings.specs.declared.Body.TheVariants as printed;
 ghost use Rattle.indexmap.specs.IndexMap.{get_by_text};
 ghost use Rattle.session_openings.specs.Refusals.{refusal_body};
 ghost use Rattle.session_openings.specs.Form.{form_of, IsSound};
 ghost use Rattle.session_openings.specs.Meanings.{line_of, line_of_bytes};
 ghost use Rattle.session_runs.specs.Session.{HasMounts, MayGoOn, IsLineTold};
+ghost use Rattle.session_openings.specs.Caused.{IsCausedBy};
 ghost use Rattle.session_openings.specs.Failures.{TellsFailures};
+ghost use Rattle.session_openings.specs.Standing.{session_state, transaction_in};
 ghost use Rattle.session_openings.specs.Turns.{HasPassed, added_by};
 
 use crate::commands::{joined, opened, resized, resolved, shown, viewed, written};
@@ -35,6 +37,9 @@ pub(crate) fn answered<K: KvStore, R: Wait, G: Gate>(
     requires mounts { HasMounts around.now.book.now mounts.now }
     ensures told { IsLineTold around.now.book.now pass.old pass.new (get_by_text names.old) txn.old line
         (line_of_bytes mounts.now bytes.now) (get_by_text names.new) txn.new result }
+    ensures caused { IsCausedBy around.now.book.now pass.old pass.new
+        (session_state (get_by_text names.old) (length pass.old.seen) txn.old) line
+        (line_of_bytes mounts.now bytes.now) (get_by_text names.new) (transaction_in txn.new) result }
     ensures failures { TellsFailures (added_by pass.old pass.new) result }
     ensures passed { HasPassed around.now.book.now pass.old pass.new }
     ensures on { result ≢ printed.Memory → MayGoOn around.now.book.now pass.new (get_by_text names.new) txn.new }
@@ -69,6 +74,9 @@ fn obeyed<K: KvStore, R: Wait, G: Gate>(
     requires sound { IsSound mounts.now command }
     ensures told { IsLineTold around.now.book.now pass.old pass.new (get_by_text names.old) txn.old line
         (line_of (form_of command)) (get_by_text names.new) txn.new result }
+    ensures caused { IsCausedBy around.now.book.now pass.old pass.new
+        (session_state (get_by_text names.old) (length pass.old.seen) txn.old) line
+        (line_of (form_of command)) (get_by_text names.new) (transaction_in txn.new) result }
     ensures failures { TellsFailures (added_by pass.old pass.new) result }
     ensures passed { HasPassed around.now.book.now pass.old pass.new }
     ensures on { result ≢ printed.Memory → MayGoOn around.now.book.now pass.new (get_by_text names.new) txn.new }

@@ -13,6 +13,7 @@ ghost use Rattle.session_openings.specs.Numbers.{values_of, downsampling_of};
 ghost use Rattle.session_openings.specs.MeaningOpenings.{leaves_of, build_of};
 ghost use Rattle.serde_json.specs.View.{view as data_in};
 ghost use Rattle.session_openings.specs.Wanted.{MayOpen};
+ghost use Rattle.session_openings.specs.Caused.{IsCausedBy};
 ghost use Rattle.session_openings.specs.Failures.{TellsFailures};
 ghost use Rattle.session_openings.specs.Turns.{IsRested, HasPassed, added_by};
 ghost use Rattle.session_openings.specs.Commits.{HasSoundTxn};
@@ -49,6 +50,9 @@ pub(crate) fn opened<K: KvStore, R: Wait, G: Gate>(
     requires known { AreKnownNames pass.old.seen (get_by_text names.old) }
     requires plan { MayOpen around.now.book.now.fixed.store.names plan }
     ensures told { (line : ℕ) → IsToldBy around.now.book.now pass.old pass.new
+        (session_state (get_by_text names.old) (length pass.old.seen) txn.now) line
+        (opening name (leaves_of plan) (build_of plan)) (get_by_text names.new) (transaction_in txn.now) result }
+    ensures caused { (line : ℕ) → IsCausedBy around.now.book.now pass.old pass.new
         (session_state (get_by_text names.old) (length pass.old.seen) txn.now) line
         (opening name (leaves_of plan) (build_of plan)) (get_by_text names.new) (transaction_in txn.now) result }
     ensures failures { TellsFailures (added_by pass.old pass.new) result }
@@ -138,6 +142,10 @@ pub(crate) fn shown<K: KvStore, R: Wait, G: Gate>(
     requires txn { HasSoundTxn around.now.book.now.fixed pass.old.seen txn.old }
     ensures told { IsReadTold around.now.book.now pass.old pass.new (get_by_text names.now) txn.old txn.new line
         (reading name (changes_of None steps) (downsampling_of down)) result }
+    ensures caused { IsCausedBy around.now.book.now pass.old pass.new
+        (session_state (get_by_text names.now) (length pass.old.seen) txn.old) line
+        (reading name (changes_of None steps) (downsampling_of down)) (get_by_text names.now)
+        (transaction_in txn.new) result }
     ensures failures { TellsFailures (added_by pass.old pass.new) result }
     ensures passed { HasPassed around.now.book.now pass.old pass.new }
     ensures txn { HasSoundTxn around.now.book.now.fixed pass.new.seen txn.new }
@@ -174,6 +182,10 @@ pub(crate) fn written<K: KvStore, R: Wait, G: Gate>(
         (session_state (get_by_text names.now) (length pass.old.seen) txn.old) line
         (writing name (changes_of None steps) (values_of (data_in values))) (get_by_text names.now)
         (transaction_in txn.new) result }
+    ensures caused { IsCausedBy around.now.book.now pass.old pass.new
+        (session_state (get_by_text names.now) (length pass.old.seen) txn.old) line
+        (writing name (changes_of None steps) (values_of (data_in values))) (get_by_text names.now)
+        (transaction_in txn.new) result }
     ensures failures { TellsFailures (added_by pass.old pass.new) result }
     ensures passed { HasPassed around.now.book.now pass.old pass.new }
     ensures txn { result ≢ printed.Memory → HasSoundTxn around.now.book.now.fixed pass.new.seen txn.new }
@@ -205,6 +217,9 @@ pub(crate) fn resized<K: KvStore, R: Wait, G: Gate>(
     ensures told { (line : ℕ) → IsToldBy around.now.book.now pass.old pass.new
         (session_state (get_by_text names.now) (length pass.old.seen) txn.now) line (resizing name shape)
         (get_by_text names.now) (transaction_in txn.now) result }
+    ensures caused { (line : ℕ) → IsCausedBy around.now.book.now pass.old pass.new
+        (session_state (get_by_text names.now) (length pass.old.seen) txn.now) line (resizing name shape)
+        (get_by_text names.now) (transaction_in txn.now) result }
     ensures failures { TellsFailures (added_by pass.old pass.new) result }
     ensures passed { HasPassed around.now.book.now pass.old pass.new }
 {
@@ -223,6 +238,9 @@ pub(crate) fn resolved<K: KvStore, R: Wait, G: Gate>(
     requires views { AreViews (get_by_text names.old) }
     requires known { AreKnownNames pass.old.seen (get_by_text names.old) }
     ensures told { (line : ℕ) → IsToldBy around.now.book.now pass.old pass.new
+        (session_state (get_by_text names.old) (length pass.old.seen) txn.now) line (resolving name)
+        (get_by_text names.new) (transaction_in txn.now) result }
+    ensures caused { (line : ℕ) → IsCausedBy around.now.book.now pass.old pass.new
         (session_state (get_by_text names.old) (length pass.old.seen) txn.now) line (resolving name)
         (get_by_text names.new) (transaction_in txn.now) result }
     ensures failures { TellsFailures (added_by pass.old pass.new) result }

@@ -1,6 +1,7 @@
 -- What the logs of sessions are over a store that told its contents at the start.
 use Rattle.std.proofs.Common.{◌≡◌, ◌∙◌, ℕ, ◌+◌, ◌<◌, List, [], ◌++◌, length, map, drop, Some, sym, ap, subst, append-nil}
 use Rattle.std.specs.Prelude.{◌==◌}
+use Rattle.std.specs.FinMap as finmap
 use Rattle.std.specs.List.{AllByRecursion, slice_get}
 use Rattle.std.proofs.lemmas.List.{length-map}
 use Rattle.std.proofs.lemmas.List.Elements.{filter-append}
@@ -16,10 +17,12 @@ use Rattle.history.proofs.Laws.{run_longer}
 use Rattle.kv_face.specs.Store.{Contents}
 use Rattle.session_runs.specs.Bodies.{answer_of}
 use Rattle.serial_runs.specs.Runs.{Script, IsLog}
+use Rattle.session_runs.specs.Causes.{AreCaused}
 use Rattle.session_runs.specs.Scripts.{asked_by}
 use Rattle.session_runs.specs.Session.{IsRunTo}
 use Rattle.session_runs.specs.Failures.{failures_by, failures_of}
 use Rattle.session_runs.proofs.Laws.{own-append, own-none, drop_front, same_rest}
+use Rattle.session_workers.specs.Caused.{IsCausedLog}
 use Rattle.session_workers.specs.Workers.{IsSessionLog, AreSessionLogs}
 use Rattle.session_workers.specs.Runs.{ArePrinted}
 use Rattle.session_workers.proofs.Chosen.{AreChosen, choose, got, below, got_map, mapped_by}
@@ -78,6 +81,22 @@ log_failed book mounts history k script log is =
     let same : own_events k 1 history ≡ own_events k 1 seen =
     ap (own_events k 1) (sym parts) ∙ own-append k 1 seen rest ∙ ap (λ os. own_events k 1 seen ++ os) (own-none k (1 + length seen) rest none) ∙ append-nil (own_events k 1 seen) in
     subst (λ l. failures_by l ≡ failures_of (own_events k 1 history)) is.log_is (is.run.on.failed ∙ ap (λ n. failures_of (own_events n 1 seen)) is.number_is ∙ ap failures_of (sym same))
+
+-- whatever the store told, the lines of a log are answered for their causes
+pub log_caused : (book : BookView Opening) (mounts : List (List ℕ)) (history : History) (k : ℕ) (script : List ℕ) (log : List Answer) → IsSessionLog book mounts history k script log → IsCausedLog (fixed_by book.fixed finmap.empty) mounts history k script log
+log_caused book mounts history k script log is =
+    let to = is.run.on.caused in
+    let seen = is.session.pass.seen in
+    record {
+      given = is.run.given;
+      left = is.run.left;
+      parts = is.run.parts;
+      seen = seen;
+      within = is.seen;
+      last = to.last;
+      are = subst (λ n. AreCaused (fixed_by book.fixed finmap.empty) n is.run.given log seen to.last) is.number_is
+          (subst (λ l. AreCaused (fixed_by book.fixed finmap.empty) is.session.pass.number is.run.given l seen to.last) is.log_is to.are);
+    }
 
 -- logs of sessions are printed ones of a run
 pub run_logs : (opening : Opening) (start : Contents) → opening.store.contents ≡ Some start → (mounts scripts : List (List ℕ)) (history : History) (logs : List (List Answer)) → AreSessionLogs opening mounts scripts history logs

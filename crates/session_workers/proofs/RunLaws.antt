@@ -15,6 +15,8 @@ use Rattle.kv_mounts.specs.Finish.{AreFinished, failed_places}
 use Rattle.history.specs.Store.{RepresentsHistory}
 use Rattle.kv_mounts.specs.Parts.{Part, AreMounts, below, names_of}
 use Rattle.kv_mounts.specs.Union.{union_of, faults_of, prefixes_of, counts_of, standing_of, change_count_of}
+use Rattle.session_runs.specs.Answers.{fixed_by}
+use Rattle.session_workers.specs.Caused.{IsCausedLog}
 use Rattle.session_workers.specs.Finished.{AreBack, IsRun}
 use Rattle.session_workers.specs.MountRuns.{fixed_over, IsPrintedRun, IsEmptyMount, IsSerialRun, IsSingleRun}
 use Rattle.session_workers.proofs.Alone.{alone_where, alone_run}
@@ -25,7 +27,7 @@ use Rattle.serial_runs.proofs.Laws.{logs_foreign, run_alike, serial}
 use Rattle.session_workers.specs.Workers.{AreSessionLogs, AreWhole, asked_by, numbers_from}
 use Rattle.session_workers.specs.Runs.{ArePrinted}
 use Rattle.session_workers.proofs.Joined.{joined}
-use Rattle.session_workers.proofs.Logs.{run_logs, log_failed}
+use Rattle.session_workers.proofs.Logs.{run_logs, log_caused, log_failed}
 use Rattle.session_workers.proofs.Mounts.{of_mount}
 use Rattle.state_laws.specs.Agreement.{Opening, Agrees, IsTrueTo, is_fault}
 use Rattle.state_laws.specs.Log.{Log}
@@ -187,6 +189,9 @@ module _ (scripts : List (List ℕ)) (old mid new : List Part) (limit : ℕ) (lo
         subst (λ l. IsPrefix (map (λ (a : Answer). a.line) l) (numbers_from 1 (asked_by (names_of old) script))) one.log_is
         (answered_first (asked_by (names_of old) script) one.run.given one.run.left (map (λ (a : Answer). a.line) one.session.log) one.run.parts one.run.on.answered);
     failed = λ k script answers here at. log_failed ended.book (names_of old) log.events k script answers (ended.each k script answers here at);
+    caused = λ k script answers here at.
+        subst (λ (o : Opening). IsCausedLog (fixed_by o finmap.empty) (names_of old) log.events k script answers) ended.fixed
+        (log_caused ended.book (names_of old) log.events k script answers (ended.each k script answers here at));
     owners = ended.owners;
     back = back are;
     told = printed_run;

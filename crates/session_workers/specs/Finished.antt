@@ -1,5 +1,6 @@
 -- A run over mounts with all that it hands back.
 use Rattle.std.specs.Prelude.{◌≡◌, ◌≢◌, ◌≤◌, ◌<◌, ◌+◌, ℕ, List, [], ◌∷◌, length, map, count_by, All, Bool, true, Some}
+use Rattle.std.specs.FinMap as finmap
 use Rattle.std.specs.List.{slice_get, sum, AllByRecursion, AllZip}
 use mathlib.Core.List.{IsPrefix}
 use Rattle.answer_text.specs.declared.answer.Answer.{Answer}
@@ -11,7 +12,8 @@ use Rattle.kv_mounts.specs.Finish.{failed_places}
 use Rattle.kv_mounts.specs.Parts.{Part, AreMounts, names_of}
 use Rattle.kv_mounts.specs.Union.{faults_of, has_failed, prefixes_of, union_of}
 use Rattle.session_runs.specs.Failures.{failures_by, failures_of}
-use Rattle.session_workers.specs.MountRuns.{IsPrintedRun, IsEmptyMount, IsSerialRun, IsSingleRun}
+use Rattle.session_workers.specs.Caused.{IsCausedLog}
+use Rattle.session_workers.specs.MountRuns.{fixed_over, IsPrintedRun, IsEmptyMount, IsSerialRun, IsSingleRun}
 use Rattle.state_laws.specs.Agreement.{is_fault}
 -- what a script asks, and that a log has its answers
 pub use Rattle.session_workers.specs.Workers.{AreWhole, IsWhole, ends_in_want, asked_by, numbers_from}
@@ -51,6 +53,10 @@ pub record IsRun (scripts : List (List ℕ)) (old new : List Part) (history : Hi
   -- the failed calls that a log tells are those among its session's events, each once and in order: none is told that didn't happen, and none is left out
   pub failed : (k : ℕ) (script : List ℕ) (log : List Answer) → slice_get scripts k ≡ Some script → slice_get logs k ≡ Some log
       → failures_by log ≡ failures_of (own_events k 1 history)
+  -- each line is answered from where the lines before it left its session: by its own refusal, by want of memory, or for a cause that the history has,
+  -- which for conflict, shrunk, not_atomic, too_many_chunks and store_failed is told
+  pub caused : (k : ℕ) (script : List ℕ) (log : List Answer) → slice_get scripts k ≡ Some script → slice_get logs k ≡ Some log
+      → IsCausedLog (fixed_over old finmap.empty) (names_of old) history k script log
   pub owners : AllByRecursion (λ (e : Event). e.owner < length scripts) history
   pub back : AreBack old new history unfinished
   -- where the stores told their contents, the history is legal, the logs are those of sessions that ran the scripts over it, and the stores hold what it

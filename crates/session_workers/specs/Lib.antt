@@ -1,5 +1,6 @@
 pub mod Workers
 pub mod Runs
+pub mod Caused
 pub mod Alone
 pub mod MountRuns
 pub mod Finished

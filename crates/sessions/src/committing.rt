@@ -1,9 +1,13 @@
 // Commits.
-ghost use Rattle.std.specs.Prelude.{◌≡◌, None, Some, Err};
+ghost use Rattle.std.specs.Prelude.{◌≡◌, ℕ, None, Some, Err, length};
 ghost use Rattle.session_turns.specs.CommitAnswers as commit_answers;
+ghost use Rattle.history.specs.Lines.{committing};
+ghost use Rattle.history.specs.Sessions.{Names};
 ghost use Rattle.session_turns.specs.Bodies.{body_of};
 ghost use Rattle.session_turns.specs.Failures.{TellsFailures};
+ghost use Rattle.session_turns.specs.Standing.{session_state, transaction_in};
 ghost use Rattle.session_turns.specs.Turns.{IsRested, HasPassed, added_by};
+ghost use Rattle.sessions.specs.Caused.{IsCausedBy};
 ghost use Rattle.sessions.specs.Commits.{HasSoundTxn, IsCommittedAs, IsCommitTold};
 ghost use Rattle.turn_book.specs.Passes.{IsIdle};
 
@@ -22,6 +26,8 @@ pub fn commit<K: KvStore, R: Wait, G: Gate>(
     requires pass { IsRested around.now.book.now pass.old }
     requires txn { HasSoundTxn around.now.book.now.fixed pass.old.seen txn.old }
     ensures told { IsCommitTold around.now.book.now pass.old pass.new txn.old txn.new result }
+    ensures caused { (names : Names) (line : ℕ) → IsCausedBy around.now.book.now pass.old pass.new
+        (session_state names (length pass.old.seen) txn.old) line committing names (transaction_in txn.new) result }
     ensures failures { TellsFailures (added_by pass.old pass.new) result }
     ensures passed { HasPassed around.now.book.now pass.old pass.new }
     ensures txn { HasSoundTxn around.now.book.now.fixed pass.new.seen txn.new }

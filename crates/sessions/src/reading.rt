@@ -14,9 +14,10 @@ ghost use Rattle.session_turns.specs.Changes.{changes_of};
 ghost use Rattle.session_turns.specs.Numbers.{downsampling_of};
 ghost use Rattle.session_turns.specs.Failures.{TellsFailures};
 ghost use Rattle.session_turns.specs.Turns.{IsRested, HasPassed, added_by};
+ghost use Rattle.sessions.specs.Caused.{IsCausedBy};
 ghost use Rattle.sessions.specs.Commits.{HasSoundTxn};
 ghost use Rattle.sessions.specs.Reads.{IsAnsweredRead, IsReadTold, IsUnread, IsViewFault};
-ghost use Rattle.session_turns.specs.Standing.{transaction_in, AreViews};
+ghost use Rattle.session_turns.specs.Standing.{session_state, transaction_in, AreViews};
 ghost use Rattle.stack_driver.specs.Conditions.{IsView};
 ghost use Rattle.stack_driver.specs.Views.{look_of};
 ghost use Rattle.step_forms.specs.Given.{IsGiven};
@@ -56,6 +57,10 @@ pub fn read<K: KvStore, R: Wait, G: Gate>(
     requires txn { HasSoundTxn around.now.book.now.fixed pass.old.seen txn.old }
     ensures told { IsReadTold around.now.book.now pass.old pass.new (get_by_text names.now) txn.old txn.new line
         (reading name.now (changes_of None steps.now) (downsampling_of down.now)) result }
+    ensures caused { IsCausedBy around.now.book.now pass.old pass.new
+        (session_state (get_by_text names.now) (length pass.old.seen) txn.old) line
+        (reading name.now (changes_of None steps.now) (downsampling_of down.now)) (get_by_text names.now)
+        (transaction_in txn.new) result }
     ensures failures { TellsFailures (added_by pass.old pass.new) result }
     ensures passed { HasPassed around.now.book.now pass.old pass.new }
     ensures txn { HasSoundTxn around.now.book.now.fixed pass.new.seen txn.new }
@@ -86,6 +91,11 @@ fn answered<K: KvStore, R: Wait, G: Gate>(
         → act_of names (transaction_in txn.old) asked
         ≡ without (cell_fault v.now) (Ok (reads v.now (downsampling_of down.now)))
         → IsReadTold around.now.book.now pass.old pass.new names txn.old txn.new line asked result }
+    ensures caused { (names : NamesOf) (asked : Line)
+        → act_of names (transaction_in txn.old) asked
+        ≡ without (cell_fault v.now) (Ok (reads v.now (downsampling_of down.now)))
+        → IsCausedBy around.now.book.now pass.old pass.new (session_state names (length pass.old.seen) txn.old)
+        line asked names (transaction_in txn.new) result }
     ensures failures { TellsFailures (added_by pass.old pass.new) result }
     ensures passed { HasPassed around.now.book.now pass.old pass.new }
     ensures txn { HasSoundTxn around.now.book.now.fixed pass.new.seen txn.new }
@@ -113,6 +123,10 @@ fn read_alone<K: KvStore, R: Wait, G: Gate>(
     ensures told { (names : NamesOf) (asked : Line)
         → act_of names None asked ≡ without (cell_fault v.now) (Ok (reads v.now (downsampling_of down.now)))
         → IsReadTold around.now.book.now pass.old pass.new names None None line asked result }
+    ensures caused { (names : NamesOf) (asked : Line)
+        → act_of names None asked ≡ without (cell_fault v.now) (Ok (reads v.now (downsampling_of down.now)))
+        → IsCausedBy around.now.book.now pass.old pass.new (session_state names (length pass.old.seen) None) line asked
+        names None result }
     ensures failures { TellsFailures (added_by pass.old pass.new) result }
     ensures passed { HasPassed around.now.book.now pass.old pass.new }
 {

@@ -15,6 +15,7 @@ ghost use Rattle.session_turns.specs.Standing.{session_state, transaction_in};
 ghost use Rattle.session_turns.specs.Told.{IsAnswerTo, IsToldBy};
 ghost use Rattle.session_turns.specs.Failures.{TellsFailures};
 ghost use Rattle.session_turns.specs.Turns.{IsRested, HasPassed, added_by};
+ghost use Rattle.sessions.specs.Caused.{IsCausedBy};
 ghost use Rattle.stack_driver.specs.References.{Reference};
 ghost use Rattle.stack_driver.specs.Renewed.{array_of};
 ghost use Rattle.session_turns.specs.Outline.{outline};
@@ -44,6 +45,9 @@ pub fn resize<K: KvStore, R: Wait, G: Gate>(
     requires known { AreKnownNames pass.old.seen (get_by_text names.now) }
     requires sizes { IsShape shape.now }
     ensures told { (line : ℕ) → IsToldBy around.now.book.now pass.old pass.new
+        (session_state (get_by_text names.now) (length pass.old.seen) txn.now) line (resizing name.now shape.now)
+        (get_by_text names.now) (transaction_in txn.now) result }
+    ensures caused { (line : ℕ) → IsCausedBy around.now.book.now pass.old pass.new
         (session_state (get_by_text names.now) (length pass.old.seen) txn.now) line (resizing name.now shape.now)
         (get_by_text names.now) (transaction_in txn.now) result }
     ensures failures { TellsFailures (added_by pass.old pass.new) result }

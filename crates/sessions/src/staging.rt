@@ -17,6 +17,7 @@ ghost use Rattle.session_turns.specs.Numbers.{values_of};
 ghost use Rattle.serde_json.specs.View.{view as data_in};
 ghost use Rattle.session_turns.specs.Failures.{TellsFailures};
 ghost use Rattle.session_turns.specs.Turns.{IsRested, HasPassed, added_by};
+ghost use Rattle.sessions.specs.Caused.{IsCausedBy};
 ghost use Rattle.sessions.specs.Commits.{HasSoundTxn};
 ghost use Rattle.session_turns.specs.Standing.{session_state, transaction_in, AreViews};
 ghost use Rattle.session_turns.specs.Told.{IsToldAlone, IsToldBy};
@@ -53,6 +54,10 @@ pub fn write<K: KvStore, R: Wait, G: Gate>(
     requires known { AreKnownNames pass.old.seen (get_by_text names.now) }
     requires txn { HasSoundTxn around.now.book.now.fixed pass.old.seen txn.old }
     ensures told { IsToldBy around.now.book.now pass.old pass.new
+        (session_state (get_by_text names.now) (length pass.old.seen) txn.old) line
+        (writing name.now (changes_of None steps.now) (values_of (data_in values))) (get_by_text names.now)
+        (transaction_in txn.new) result }
+    ensures caused { IsCausedBy around.now.book.now pass.old pass.new
         (session_state (get_by_text names.now) (length pass.old.seen) txn.old) line
         (writing name.now (changes_of None steps.now) (values_of (data_in values))) (get_by_text names.now)
         (transaction_in txn.new) result }

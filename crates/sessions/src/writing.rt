@@ -21,6 +21,7 @@ ghost use Rattle.session_turns.specs.Numbers.{values_of};
 ghost use Rattle.serde_json.specs.View.{view as data_in};
 ghost use Rattle.session_turns.specs.Failures.{TellsFailures};
 ghost use Rattle.session_turns.specs.Turns.{IsRested, HasPassed, added_by};
+ghost use Rattle.sessions.specs.Caused.{IsCausedBy};
 ghost use Rattle.sessions.specs.Commits.{HasSoundTxn};
 ghost use Rattle.session_turns.specs.Standing.{session_state, AreViews};
 ghost use Rattle.session_turns.specs.Told.{IsAnswerTo, IsToldBy};
@@ -65,6 +66,10 @@ pub(crate) fn write_alone<K: KvStore, R: Wait, G: Gate>(
         (session_state (get_by_text names.now) (length pass.old.seen) None) line
         (writing name.now (changes_of None steps.now) (values_of (data_in values)))
         (get_by_text names.now) None result }
+    ensures caused { IsCausedBy around.now.book.now pass.old pass.new
+        (session_state (get_by_text names.now) (length pass.old.seen) None) line
+        (writing name.now (changes_of None steps.now) (values_of (data_in values)))
+        (get_by_text names.now) None result }
     ensures failures { TellsFailures (added_by pass.old pass.new) result }
     ensures passed { HasPassed around.now.book.now pass.old pass.new }
 {
@@ -89,6 +94,10 @@ fn written<K: KvStore, R: Wait, G: Gate>(
     ensures told { (names : NamesOf) (asked : Line)
         → act_of names None asked ≡ without (cell_fault w.view) (Ok (write_act None w.view w.words))
         → IsToldBy around.now.book.now pass.old pass.new (session_state names
+        (length pass.old.seen) None) line asked names None result }
+    ensures caused { (names : NamesOf) (asked : Line)
+        → act_of names None asked ≡ without (cell_fault w.view) (Ok (write_act None w.view w.words))
+        → IsCausedBy around.now.book.now pass.old pass.new (session_state names
         (length pass.old.seen) None) line asked names None result }
     ensures failures { TellsFailures (added_by pass.old pass.new) result }
     ensures passed { HasPassed around.now.book.now pass.old pass.new }

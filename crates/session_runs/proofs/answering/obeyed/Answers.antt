@@ -1,6 +1,7 @@
 use Rattle.std.proofs.Common.{length, sym, subst}
 use Rattle.indexmap.specs.IndexMap.{get_by_text}
 use Rattle.history.specs.Lines.{viewing, joining, beginning, aborting}
+use Rattle.session_openings.specs.Caused.{IsCausedBy}
 use Rattle.session_openings.specs.Form.{form_of}
 use Rattle.session_openings.specs.Changes.{changes_of}
 use Rattle.session_openings.specs.Joins.{join_of}
@@ -9,7 +10,7 @@ use Rattle.session_runs.specs.Session.{IsLineTold}
 use Rattle.session_runs.proofs.LineLaws.{line_alone, line_by, goes_by, goes_with, goes_alone}
 use Rattle.session_openings.proofs.Laws.{names_then}
 use Rattle.session_openings.specs.Standing.{session_state, transaction_in}
-use Rattle.session_openings.proofs.Laws.{alone_tells, plain_view, plain_join, plain_begin, plain_abort}
+use Rattle.session_openings.proofs.Laws.{alone_caused, alone_tells, plain_view, plain_join, plain_begin, plain_abort}
 use Rattle.session_runs.proofs.answering.obeyed.Goals as goal
 
 pub returns-in-Open-clause-told : goal.returns-in-Open-clause-told
@@ -97,3 +98,53 @@ returns-in-Begin-clause-failures g c =
 pub returns-in-Abort-clause-failures : goal.returns-in-Abort-clause-failures
 returns-in-Abort-clause-failures g c =
     alone_tells c.args.pass.now (session_state (get_by_text c.args.names.now) (length c.args.pass.now.seen) c.args.txn.now) c.args.line aborting (get_by_text c.args.names.now) (transaction_in c.abort.new.txn) c.abort.result (plain_abort (get_by_text c.args.names.now) (transaction_in c.args.txn.now)) (c.abort.ensures.told (get_by_text c.args.names.now) (length c.args.pass.now.seen))
+
+pub returns-in-Open-clause-caused : goal.returns-in-Open-clause-caused
+returns-in-Open-clause-caused g c =
+    subst (λ command. IsCausedBy c.args.around.now.book.now c.args.pass.now c.opened.new.pass (session_state (get_by_text c.args.names.now) (length c.args.pass.now.seen) c.args.txn.now) c.args.line (line_of (form_of command)) (get_by_text c.opened.new.names) (transaction_in c.args.txn.now) c.opened.result) (sym c.in-Open.is)
+    (c.opened.ensures.caused c.args.line)
+
+pub returns-in-View-clause-caused : goal.returns-in-View-clause-caused
+returns-in-View-clause-caused g c =
+    subst (λ command. IsCausedBy c.args.around.now.book.now c.args.pass.now c.args.pass.now (session_state (get_by_text c.args.names.now) (length c.args.pass.now.seen) c.args.txn.now) c.args.line (line_of (form_of command)) (get_by_text c.viewed.new.names) (transaction_in c.args.txn.now) c.viewed.result) (sym c.in-View.is)
+    (alone_caused c.args.around.now.book.now c.args.pass.now (session_state (get_by_text c.args.names.now) (length c.args.pass.now.seen) c.args.txn.now) c.args.line _ (get_by_text c.viewed.new.names) (transaction_in c.args.txn.now) c.viewed.result (c.viewed.ensures.told _ c.args.line c.args.txn.now))
+
+pub returns-in-Join-clause-caused : goal.returns-in-Join-clause-caused
+returns-in-Join-clause-caused g c =
+    subst (λ command. IsCausedBy c.args.around.now.book.now c.args.pass.now c.args.pass.now (session_state (get_by_text c.args.names.now) (length c.args.pass.now.seen) c.args.txn.now) c.args.line (line_of (form_of command)) (get_by_text c.joined.new.names) (transaction_in c.args.txn.now) c.joined.result) (sym c.in-Join.is)
+    (alone_caused c.args.around.now.book.now c.args.pass.now (session_state (get_by_text c.args.names.now) (length c.args.pass.now.seen) c.args.txn.now) c.args.line _ (get_by_text c.joined.new.names) (transaction_in c.args.txn.now) c.joined.result (c.joined.ensures.told _ c.args.line c.args.txn.now))
+
+pub returns-in-Read-clause-caused : goal.returns-in-Read-clause-caused
+returns-in-Read-clause-caused g c =
+    subst (λ command. IsCausedBy c.args.around.now.book.now c.args.pass.now c.shown.new.pass (session_state (get_by_text c.args.names.now) (length c.args.pass.now.seen) c.args.txn.now) c.args.line (line_of (form_of command)) (get_by_text c.args.names.now) (transaction_in c.shown.new.txn) c.shown.result) (sym c.in-Read.is)
+    (c.shown.ensures.caused)
+
+pub returns-in-Write-clause-caused : goal.returns-in-Write-clause-caused
+returns-in-Write-clause-caused g c =
+    subst (λ command. IsCausedBy c.args.around.now.book.now c.args.pass.now c.written.new.pass (session_state (get_by_text c.args.names.now) (length c.args.pass.now.seen) c.args.txn.now) c.args.line (line_of (form_of command)) (get_by_text c.args.names.now) (transaction_in c.written.new.txn) c.written.result) (sym c.in-Write.is)
+    (c.written.ensures.caused)
+
+pub returns-in-Begin-clause-caused : goal.returns-in-Begin-clause-caused
+returns-in-Begin-clause-caused g c =
+    subst (λ command. IsCausedBy c.args.around.now.book.now c.args.pass.now c.args.pass.now (session_state (get_by_text c.args.names.now) (length c.args.pass.now.seen) c.args.txn.now) c.args.line (line_of (form_of command)) (get_by_text c.args.names.now) (transaction_in c.begin.new.txn) c.begin.result) (sym c.in-Begin.is)
+    (alone_caused c.args.around.now.book.now c.args.pass.now (session_state (get_by_text c.args.names.now) (length c.args.pass.now.seen) c.args.txn.now) c.args.line _ (get_by_text c.args.names.now) (transaction_in c.begin.new.txn) c.begin.result (c.begin.ensures.told (get_by_text c.args.names.now) _))
+
+pub returns-in-Commit-clause-caused : goal.returns-in-Commit-clause-caused
+returns-in-Commit-clause-caused g c =
+    subst (λ command. IsCausedBy c.args.around.now.book.now c.args.pass.now c.commit.new.pass (session_state (get_by_text c.args.names.now) (length c.args.pass.now.seen) c.args.txn.now) c.args.line (line_of (form_of command)) (get_by_text c.args.names.now) (transaction_in c.commit.new.txn) c.commit.result) (sym c.in-Commit.is)
+    (c.commit.ensures.caused (get_by_text c.args.names.now) c.args.line)
+
+pub returns-in-Abort-clause-caused : goal.returns-in-Abort-clause-caused
+returns-in-Abort-clause-caused g c =
+    subst (λ command. IsCausedBy c.args.around.now.book.now c.args.pass.now c.args.pass.now (session_state (get_by_text c.args.names.now) (length c.args.pass.now.seen) c.args.txn.now) c.args.line (line_of (form_of command)) (get_by_text c.args.names.now) (transaction_in c.abort.new.txn) c.abort.result) (sym c.in-Abort.is)
+    (alone_caused c.args.around.now.book.now c.args.pass.now (session_state (get_by_text c.args.names.now) (length c.args.pass.now.seen) c.args.txn.now) c.args.line _ (get_by_text c.args.names.now) (transaction_in c.abort.new.txn) c.abort.result (c.abort.ensures.told (get_by_text c.args.names.now) _))
+
+pub returns-in-Resize-clause-caused : goal.returns-in-Resize-clause-caused
+returns-in-Resize-clause-caused g c =
+    subst (λ command. IsCausedBy c.args.around.now.book.now c.args.pass.now c.resized.new.pass (session_state (get_by_text c.args.names.now) (length c.args.pass.now.seen) c.args.txn.now) c.args.line (line_of (form_of command)) (get_by_text c.args.names.now) (transaction_in c.args.txn.now) c.resized.result) (sym c.in-Resize.is)
+    (c.resized.ensures.caused c.args.line)
+
+pub returns-in-Resolve-clause-caused : goal.returns-in-Resolve-clause-caused
+returns-in-Resolve-clause-caused g c =
+    subst (λ command. IsCausedBy c.args.around.now.book.now c.args.pass.now c.resolved.new.pass (session_state (get_by_text c.args.names.now) (length c.args.pass.now.seen) c.args.txn.now) c.args.line (line_of (form_of command)) (get_by_text c.resolved.new.names) (transaction_in c.args.txn.now) c.resolved.result) (sym c.in-Resolve.is)
+    (c.resolved.ensures.caused c.args.line)

@@ -3,6 +3,7 @@ use Rattle.session_turns.specs.Numbers.{downsampling_of}
 use Rattle.sessions.specs.Commits.{HasSoundTxn}
 use Rattle.sessions.proofs.ReadRows.{inside_told, read_sound}
 use Rattle.sessions.proofs.Failures.{read_tells}
+use Rattle.sessions.proofs.CauseLaws.{inside_caused}
 use Rattle.sessions.proofs.reading.answered.Goals as goal
 
 pub returns-in-Some-clause-told : goal.returns-in-Some-clause-told
@@ -17,3 +18,7 @@ returns-in-Some-clause-txn g c =
 pub returns-in-Some-clause-failures : goal.returns-in-Some-clause-failures
 returns-in-Some-clause-failures g c =
     read_tells c.args.around.now.book.now c.args.pass.now c.read_in.new.pass c.requires.pass c.in-Some.t c.read_in.new.t c.args.v.now (downsampling_of c.args.down.now) c.read_in.result c.read_in.ensures.answer
+
+pub returns-in-Some-clause-caused : goal.returns-in-Some-clause-caused
+returns-in-Some-clause-caused g c names asked act =
+    inside_caused c.args.around.now.book.now c.args.pass.now c.read_in.new.pass c.requires.pass c.in-Some.t c.read_in.new.t c.args.v.now (downsampling_of c.args.down.now) names c.args.line asked c.args.txn.now c.in-Some.is act c.read_in.result c.read_in.ensures.answer

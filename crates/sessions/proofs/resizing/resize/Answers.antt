@@ -11,6 +11,8 @@ use Rattle.serial_runs.proofs.Laws.{act_of-refused}
 use Rattle.session_turns.specs.Failures.{TellsFailures}
 use Rattle.session_turns.specs.Turns.{added_by}
 use Rattle.sessions.proofs.Failures.{refused_tells, resize_tells}
+use Rattle.sessions.specs.Caused.{IsCausedBy}
+use Rattle.sessions.proofs.CauseLaws.{refused_caused, resized_caused}
 use Rattle.sessions.proofs.resizing.resize.Goals as goal
 
 pub resize_in_turn-requires-clause-asked : goal.resize_in_turn-requires-clause-asked
@@ -42,3 +44,17 @@ returns-in-Err-clause-failures g c =
     let t = transaction_in c.args.txn.now in
     let line = resizing c.args.name.now c.args.shape.now in
     refused_tells c.args.pass.now (act_of names t line) c.in-Err.body (act_of-refused names t line) c.in-Err.ensures.err
+
+pub returns-in-Ok-clause-caused : goal.returns-in-Ok-clause-caused
+returns-in-Ok-clause-caused g c = λ line.
+    let names = get_by_text c.args.names.now in
+    let old = c.args.pass.now in
+    let new = c.resize_in_turn.new.pass in
+    let p = c.in-Ok.ensures.array in
+    subst (IsCausedBy c.args.around.now.book.now old new (session_state names (length old.seen) c.args.txn.now) line (resizing c.args.name.now c.args.shape.now) names (transaction_in c.args.txn.now)) (sym c.resized_body.ensures)
+    (resized_caused c.args.around.now.book.now old new names c.args.txn.now line c.args.name.now c.args.shape.now p.0 c.requires.pass p.2 c.resize_in_turn.result
+    (subst (λ n. IsResizeTurn c.args.around.now.book.now old new n c.args.shape.now c.resize_in_turn.result) (sym p.1) c.resize_in_turn.ensures))
+
+pub returns-in-Err-clause-caused : goal.returns-in-Err-clause-caused
+returns-in-Err-clause-caused g c = λ line.
+    refused_caused c.args.around.now.book.now c.args.pass.now (session_state (get_by_text c.args.names.now) (length c.args.pass.now.seen) c.args.txn.now) line (resizing c.args.name.now c.args.shape.now) c.in-Err.body c.in-Err.ensures.err
