@@ -3,3 +3,5 @@ pub mod RisingLaws
 pub mod PutLaws
 pub mod KeptLaws
 pub mod StagedLaws
+pub mod MarkLaws
+pub mod SpreadLaws

@@ -39,8 +39,9 @@ wider run v words cells more inside = record {
 
 -- one run more, which begins behind the end of all others
 pub rising_more : (v words cells : ℕ) (runs : List Run) (next : Run) → AreRising v cells runs → v ≤ words → IsForward next → IsRunInside next words cells
-    → ((i : ℕ) (d : Run) → i < length runs → last_place (get_or runs i d) < next.chunk) → AreRising words cells (runs ++ next ∷ [])
-rising_more v words cells runs next are more forward inside behind = record {
+    → ((i : ℕ) (d : Run) → i < length runs → last_place (get_or runs i d) < next.chunk) → next.view ≤ next.chunk → AreRising words cells (runs ++ next ∷ [])
+rising_more v words cells runs next are more forward inside behind ahead = record {
+  ahead = λ i d below. behind_or_front (λ (run : Run). run.view ≤ run.chunk) runs next i d below (λ front. are.ahead i d front) ahead;
   forward = λ i d below. behind_or_front IsForward runs next i d below (λ front. are.forward i d front) forward;
   inside = λ i d below. behind_or_front (λ run. IsRunInside run words cells) runs next i d below (λ front. wider (get_or runs i d) v words cells more (are.inside i d front)) inside;
   apart = λ i j d less below.
@@ -57,10 +58,20 @@ rising_more v words cells runs next are more forward inside behind = record {
       ];
 }
 
+-- runs that rise over words rise over more words
+pub rising_longer : (v words cells : ℕ) (runs : List Run) → v ≤ words → AreRising v cells runs → AreRising words cells runs
+rising_longer v words cells runs more are = record {
+  forward = are.forward;
+  ahead = are.ahead;
+  inside = λ i d below. wider (get_or runs i d) v words cells more (are.inside i d below);
+  apart = are.apart;
+}
+
 -- the first of runs that rise rise
 pub rising_take : (n v cells : ℕ) (runs : List Run) → AreRising v cells runs → n < length runs → AreRising v cells (take n runs)
 rising_take n v cells runs are few = record {
   forward = λ i d below. let less = among i below in subst IsForward (sym (get_or-take n runs i d less)) (are.forward i d (omega (arith, less, few)));
+  ahead = λ i d below. let less = among i below in subst (λ (run : Run). run.view ≤ run.chunk) (sym (get_or-take n runs i d less)) (are.ahead i d (omega (arith, less, few)));
   inside = λ i d below. let less = among i below in subst (λ run. IsRunInside run v cells) (sym (get_or-take n runs i d less)) (are.inside i d (omega (arith, less, few)));
   apart = λ i j d before below.
       let less = among j below in
@@ -144,4 +155,5 @@ rising_whole runs last next v words cells n long is forward on more inside are =
     (λ i d below.
     let less : i < n = omega (arith, below, length-take-le n runs) in
     let begins = ap (λ (r : Run). r.chunk) (is ∙ get_or_default runs n no_run d (omega (arith, long))) in
-    omega (arith, are.apart i n d less (omega (arith, long)), ap last_place (get_or-take n runs i d less), begins)))
+    omega (arith, are.apart i n d less (omega (arith, long)), ap last_place (get_or-take n runs i d less), begins))
+    (subst (λ (run : Run). run.view ≤ run.chunk) (sym is) (are.ahead n no_run (omega (arith, long)))))

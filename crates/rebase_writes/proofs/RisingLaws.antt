@@ -346,6 +346,7 @@ none_at (suc n) (suc place) = none_at n place
 pub rising_wider : (words cells more : ℕ) (runs : List Run) → cells ≤ more → AreRising words cells runs → AreRising words more runs
 rising_wider words cells more runs fewer are = record {
   forward = are.forward;
+  ahead = are.ahead;
   inside = λ i d below. record {
     in_view = (are.inside i d below).in_view;
     from_first = (are.inside i d below).from_first;

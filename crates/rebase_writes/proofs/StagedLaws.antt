@@ -147,6 +147,15 @@ IsLaidUpTo-bare mask words base laid place same sized inside mark is = record {
   rest = λ k above. is.rest k (omega (arith, above));
 }
 
+-- several places more, where it isn't
+pub IsLaidUpTo-many : (mask : List Bool) (words base laid : List ℕ) (place n : ℕ) → length mask ≡ length words → length words ≡ length base
+    → place + n ≤ length mask → ((k : ℕ) → k < n → get_or mask (place + k) false ≡ false) → IsLaidUpTo mask words base laid place → IsLaidUpTo mask words base laid (place + n)
+IsLaidUpTo-many mask words base laid place zero same sized far bare is = subst (λ p. IsLaidUpTo mask words base laid p) (omega arith) is
+IsLaidUpTo-many mask words base laid place (suc n) same sized far bare is =
+    subst (λ p. IsLaidUpTo mask words base laid p) (omega arith)
+    (IsLaidUpTo-bare mask words base laid (place + n) same sized (omega (arith, far)) (bare n (omega arith))
+    (IsLaidUpTo-many mask words base laid place n same sized (omega (arith, far)) (λ k less. bare k (omega (arith, less))) is))
+
 -- all places
 pub IsLaidUpTo-all : (mask : List Bool) (words base laid : List ℕ) (place : ℕ) → length mask ≡ length words → length words ≡ length base → length laid ≡ length base
     → length mask ≤ place → IsLaidUpTo mask words base laid place → laid ≡ laid_over (staged_cells mask words) base

@@ -1,3 +1,4 @@
 pub mod Staged
 pub mod Runs
 pub mod Rising
+pub mod Marks

@@ -5,6 +5,7 @@
 //! by one.
 #![tactic(auto)]
 
+mod marks;
 mod rising;
 mod run;
 mod staged;

@@ -1,14 +1,16 @@
 // Runs that were staged one behind another in a chunk. The words of each stand one after another in a list of all words, from its `view` on; a run of
 // one word has it there once, and the view step 0.
-ghost use Rattle.std.specs.Prelude.{◌≡◌, ◌≢◌, ℕ, ◌+◌, ◌*◌, ◌-◌, ◌<◌, ◌≤◌, ◌^◌, ◌↔◌, pos, ◌+ℤ◌, ◌*ℤ◌, ◌≤ℤ◌, false, List, Option, Some, None, length, replicate, slice_index, slice_index_or, unsigned_abs, vec_capacity, IfNone, IfSome, IsSome, IsTrue};
+ghost use Rattle.std.specs.Prelude.{◌≡◌, ◌≢◌, ℕ, ◌+◌, ◌*◌, ◌/◌, ◌-◌, ◌<◌, ◌≤◌, ◌^◌, ◌↔◌, pos, ◌+ℤ◌, ◌*ℤ◌, ◌≤ℤ◌, false, List, Option, Some, None, length, replicate, slice_index, slice_index_or, unsigned_abs, vec_capacity, IfNone, IfSome, IsSome, IsTrue};
 ghost use Rattle.cells.specs.Dense.{DenseCells};
 ghost use Rattle.cells.specs.Numbers.{IsWord};
 ghost use Rattle.cells.specs.Runs.{view_place, chunk_place, IsRunInside, pairs_of, pairs_put};
 ghost use Rattle.rebase_writes.specs.Runs.{pairs_written, pairs_shown};
+ghost use Rattle.rebase_writes.specs.Marks.{is_marked, marks_of};
 ghost use Rattle.rebase_writes.specs.Staged.{staged_at, staged_cells, laid_over, AreWords};
-ghost use Rattle.rebase_writes.specs.Rising.{IsForward, AreRising, IsBehind, last_place, runs_staged};
+ghost use Rattle.rebase_writes.specs.Rising.{IsForward, AreRising, IsBehind, IsCopied, last_place, runs_staged};
 
-use crate::run::{pair_at, stage_run};
+use crate::marks::mark;
+use crate::run::pair_at;
 use cells::{Dense, Run};
 
 /// The word that is staged at a place, if there is one.
@@ -91,8 +93,10 @@ pub(crate) fn add_run(
     requires inside { IsRunInside run.now (length words.now) cells }
     requires rising { AreRising (length kept.old.items) cells runs.old.items }
     requires small { cells ≤ 2 ^ 24 }
+    requires few { length kept.old.items ≤ cells }
     requires room { cells ≤ vec_capacity kept.old }
     ensures rising { AreRising (length kept.new.items) cells runs.new.items }
+    ensures few { length kept.new.items ≤ cells }
     ensures room { cells ≤ vec_capacity kept.new }
     ensures added { IsTrue result → (staged : List (Option ℕ)) → runs_staged runs.new.items kept.new.items staged
         ≡ pairs_written (pairs_of run.now) words.now (runs_staged runs.old.items kept.old.items staged) }
@@ -103,7 +107,7 @@ pub(crate) fn add_run(
         return true;
     }
     let count = kept.len();
-    if count > cells || run.len as usize > cells - count || runs.len() == runs.capacity() {
+    if run.len as usize > cells - count || runs.len() == runs.capacity() {
         return false;
     }
     let Some(next) = run_behind(runs, count as u32, run) else {
@@ -174,6 +178,7 @@ fn add_one(runs: &mut Vec<Run>, kept: &mut Vec<u64>, run: &Run, next: Run, words
     requires few { length kept.old.items < 2 ^ 24 }
     requires room { length kept.old.items < vec_capacity kept.old }
     requires runs_room { length runs.old.items < vec_capacity runs.old }
+    ensures few { length kept.new.items ≤ length kept.old.items + 1 }
     ensures rising { (cells : ℕ) → IsRunInside run.now (length words.now) cells
         → AreRising (length kept.old.items) cells runs.old.items
         → AreRising (length kept.new.items) cells runs.new.items }
@@ -210,12 +215,15 @@ fn place_for(kept: &mut Vec<u64>, word: u64) -> usize
     count
 }
 
-// The run as it is kept, its words from a place on, where it goes forward and begins behind the others.
+// The run as it is kept, its words from a place on, where it goes forward and begins behind the others, and no earlier than its words.
 fn run_behind(runs: &[Run], view: u32, run: &Run) -> Option<Run>
     requires rising { AreRising view (2 ^ 24) runs.now }
     requires some { 1 ≤ run.now.len }
     ensures { IfSome result (λ next. IsBehind runs.now view run.now next) }
 {
+    if view > run.chunk {
+        return None;
+    }
     if !begins_behind(runs, run) {
         return None;
     }
@@ -300,6 +308,7 @@ fn gather(run: &Run, words: &[u64], kept: &mut Vec<u64>)
 fn put(runs: &mut Vec<Run>, next: Run)
     requires room { length runs.old.items < vec_capacity runs.old }
     requires forward { IsForward next }
+    requires ahead { next.view ≤ next.chunk }
     requires inside { IsRunInside next (2 ^ 24) (2 ^ 24) }
     requires others { (count : ℕ) × ((count ≤ 2 ^ 24) × AreRising count (2 ^ 24) runs.old.items) }
     requires behind { (i : ℕ) (d : Run) → i < length runs.old.items
@@ -346,39 +355,60 @@ fn go_on(last: &Run, next: &Run) -> bool
     last.view_step == next.view_step && behind == u64::from(next.view)
 }
 
-/// Writes what runs have staged into a mask and words, which have room for it.
-pub(crate) fn spread(
-    runs: &[Run],
-    kept: &[u64],
-    cells: usize,
-    mask: &mut Vec<bool>,
-    words: &mut Vec<u64>,
-)
-    requires rising { AreRising (length kept.now) cells runs.now }
-    requires mask_room { cells ≤ vec_capacity mask.old }
+/// Takes the words that runs have staged to the places of their cells, and marks these. There is room for it.
+pub(crate) fn spread(runs: &[Run], cells: usize, words: &mut Vec<u64>, marks: &mut Vec<u64>)
+    requires rising { AreRising (length words.old.items) cells runs.now }
+    requires small { cells ≤ 2 ^ 24 }
+    requires few { length words.old.items ≤ cells }
     requires words_room { cells ≤ vec_capacity words.old }
-    ensures same { length mask.new.items ≡ length words.new.items }
-    ensures staged { staged_cells mask.new.items words.new.items
-        ≡ runs_staged runs.now kept.now (replicate cells None) }
+    requires marks_room { cells / 64 + 1 ≤ vec_capacity marks.old }
+    ensures full { length words.new.items ≡ cells }
+    ensures marked { cells ≤ 64 * length marks.new.items }
+    ensures staged { staged_cells (marks_of cells marks.new.items) words.new.items
+        ≡ runs_staged runs.now words.old.items (replicate cells None) }
 {
-    mask.clear();
-    words.clear();
-    let Ok(()) = mask.resize(cells, false) else {
+    marks.clear();
+    let Ok(()) = marks.resize(cells / 64 + 1, 0) else {
         unreachable!();
     };
     let Ok(()) = words.resize(cells, 0) else {
         unreachable!();
     };
-    stage_runs(runs, kept, mask.as_mut_slice(), words.as_mut_slice());
+    spread_runs(runs, marks.as_mut_slice(), words.as_mut_slice());
 }
 
-fn stage_runs(runs: &[Run], kept: &[u64], mask: &mut [bool], words: &mut [u64])
-    requires rising { AreRising (length kept.now) (length words.old) runs.now }
-    requires same { length mask.old ≡ length words.old }
-    ensures { staged_cells mask.new words.new ≡ runs_staged runs.now kept.now (staged_cells mask.old words.old) }
+// The same where all words are there and nothing is marked. The last run goes first: none of its words is put over one that is still to be read,
+// since no word stands behind its place.
+fn spread_runs(runs: &[Run], marks: &mut [u64], words: &mut [u64])
+    requires rising { AreRising (length words.old) (length words.old) runs.now }
+    requires small { length words.old ≤ 2 ^ 24 }
+    requires room { length words.old ≤ 64 * length marks.old }
+    requires none { (place : ℕ) → is_marked marks.old place ≡ false }
+    ensures { (count : ℕ) → length words.old ≡ count → staged_cells (marks_of count marks.new) words.new
+        ≡ runs_staged runs.now words.old (replicate count None) }
 {
-    for run in runs {
-        stage_run(mask, words, run, kept);
+    let mut left = runs.len();
+    while left > 0 {
+        left -= 1;
+        spread_run(&runs[left], marks, words);
+    }
+}
+
+// Takes the words of a run to the places of its pairs, the last first, and marks these.
+fn spread_run(run: &Run, marks: &mut [u64], words: &mut [u64])
+    requires forward { IsForward run.now }
+    requires ahead { run.now.view ≤ run.now.chunk }
+    requires inside { IsRunInside run.now (length words.old) (length words.old) }
+    requires room { length words.old ≤ 64 * length marks.old }
+    ensures { IsCopied run.now 0 marks.old words.old marks.new words.new }
+{
+    let mut left = run.len;
+    while left > 0 {
+        left -= 1;
+        let (view, chunk) = pair_at(run, left);
+        let word = words[view];
+        mark(marks, chunk);
+        words[chunk] = word;
     }
 }
 

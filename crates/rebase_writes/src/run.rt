@@ -1,8 +1,12 @@
-ghost use Rattle.std.specs.Prelude.{◌≡◌, ℕ, ◌+◌, ◌*◌, ◌<◌, ◌^◌, pos, ◌≤ℤ◌, ◌<ℤ◌, Some, length, slice_set};
-ghost use Rattle.rebase_writes.specs.Staged.{staged_cells, staged_at};
+ghost use Rattle.std.specs.Prelude.{◌≡◌, ℕ, ◌+◌, ◌*◌, ◌<◌, ◌≤◌, ◌^◌, pos, ◌≤ℤ◌, ◌<ℤ◌, true, false, Some, length, slice_index, slice_set};
+ghost use Rattle.cells.specs.Dense.{DenseCells};
+ghost use Rattle.cells.specs.Numbers.{IsWord};
 ghost use Rattle.cells.specs.Runs.{view_place, chunk_number, chunk_place, IsRunInside, pairs_of};
+ghost use Rattle.rebase_writes.specs.Marks.{is_marked, marks_of};
 ghost use Rattle.rebase_writes.specs.Runs.{pairs_written, pairs_read, pairs_shown};
+ghost use Rattle.rebase_writes.specs.Staged.{staged_cells, staged_at, laid_over};
 
+use crate::marks::{bare_from, is_marked, mark};
 use cells::{Dense, Run};
 
 /// Puts the words of a chunk into a view along a run: for each pair in turn, the chunk's word at the pair's place in the view.
@@ -13,54 +17,93 @@ pub fn read_run(dense: &Dense, run: &Run, out: &mut [u64])
     dense.read_run(run, out);
 }
 
-/// Stages a word at a place, in a mask and words.
-pub(crate) fn stage_cell(mask: &mut [bool], staged: &mut [u64], place: usize, word: u64)
-    requires same { length mask.old ≡ length staged.old }
+/// Stages a word at a place, in marks and words.
+pub(crate) fn stage_cell(marks: &mut [u64], staged: &mut [u64], place: usize, word: u64)
+    requires room { length staged.old ≤ 64 * length marks.old }
     requires inside { place < length staged.old }
-    ensures { staged_cells mask.new staged.new ≡ slice_set (staged_cells mask.old staged.old) place (Some word) }
+    ensures { (count : ℕ) → length staged.old ≡ count → staged_cells (marks_of count marks.new) staged.new
+        ≡ slice_set (staged_cells (marks_of count marks.old) staged.old) place (Some word) }
 {
-    mask[place] = true;
+    mark(marks, place);
     staged[place] = word;
 }
 
-/// Stages the words of a view along a run, in a mask and words.
-pub(crate) fn stage_run(mask: &mut [bool], staged: &mut [u64], run: &Run, words: &[u64])
-    requires same { length mask.old ≡ length staged.old }
+/// Stages the words of a view along a run, in marks and words.
+pub(crate) fn stage_run(marks: &mut [u64], staged: &mut [u64], run: &Run, words: &[u64])
+    requires room { length staged.old ≤ 64 * length marks.old }
     requires inside { IsRunInside run.now (length words.now) (length staged.old) }
-    ensures { staged_cells mask.new staged.new
-        ≡ pairs_written (pairs_of run.now) words.now (staged_cells mask.old staged.old) }
+    ensures { (count : ℕ) → length staged.old ≡ count → staged_cells (marks_of count marks.new) staged.new
+        ≡ pairs_written (pairs_of run.now) words.now (staged_cells (marks_of count marks.old) staged.old) }
 {
     for pair in 0..run.len {
         let (view, chunk) = pair_at(run, pair);
-        mask[chunk] = true;
-        staged[chunk] = words[view];
+        stage_cell(marks, staged, chunk, words[view]);
     }
 }
 
-/// Puts the staged words into a view along a run, from a mask and words.
-pub(crate) fn show_run(mask: &[bool], staged: &[u64], run: &Run, out: &mut [u64])
-    requires same { length mask.now ≡ length staged.now }
+/// Puts the staged words into a view along a run, from marks and words.
+pub(crate) fn show_run(marks: &[u64], staged: &[u64], run: &Run, out: &mut [u64])
+    requires room { length staged.now ≤ 64 * length marks.now }
     requires inside { IsRunInside run.now (length out.old) (length staged.now) }
-    ensures { out.new ≡ pairs_shown (pairs_of run.now) (staged_cells mask.now staged.now) out.old }
+    ensures { (count : ℕ) → length staged.now ≡ count
+        → out.new ≡ pairs_shown (pairs_of run.now) (staged_cells (marks_of count marks.now) staged.now) out.old }
 {
     for pair in 0..run.len {
         let (view, chunk) = pair_at(run, pair);
-        if mask[chunk] {
-            out[view] = staged[chunk];
+        if let Some(word) = marked_word(marks, staged, chunk) {
+            out[view] = word;
         }
     }
 }
 
-/// The word that is staged at a place in a mask and words, if there is one.
-pub(crate) fn marked_word(mask: &[bool], staged: &[u64], place: usize) -> Option<u64>
-    requires same { length mask.now ≡ length staged.now }
-    requires inside { place < length mask.now }
-    ensures { result ≡ staged_at (staged_cells mask.now staged.now) place }
+/// The word that is staged at a place in marks and words, if there is one.
+pub(crate) fn marked_word(marks: &[u64], staged: &[u64], place: usize) -> Option<u64>
+    requires room { length staged.now ≤ 64 * length marks.now }
+    requires inside { place < length staged.now }
+    ensures { (count : ℕ) → length staged.now ≡ count
+        → result ≡ staged_at (staged_cells (marks_of count marks.now) staged.now) place }
 {
-    if mask[place] {
+    if is_marked(marks, place) {
         Some(staged[place])
     } else {
         None
+    }
+}
+
+/// Puts the words of marked places in place of a chunk's own.
+pub(crate) fn lay_marked(marks: &[u64], staged: &[u64], chunk: &mut Dense)
+    requires room { length staged.now ≤ 64 * length marks.now }
+    requires size { length staged.now ≡ length chunk.old.words }
+    requires words { (place : ℕ) → place < length staged.now → is_marked marks.now place ≡ true
+        → IsWord chunk.old.dtype (slice_index staged.now place) }
+    ensures { (count : ℕ) → length staged.now ≡ count → chunk.new
+        ≡ record chunk.old { words = laid_over (staged_cells (marks_of count marks.now) staged.now) chunk.old.words } }
+{
+    let cells = staged.len();
+    let mut place = 0;
+    while place < cells {
+        let bare = bare_from(marks, place, cells);
+        if bare > 0 {
+            place += bare;
+        } else {
+            lay_cell(marks, staged, place, chunk);
+            place += 1;
+        }
+    }
+}
+
+// Puts the word of a place, where it is marked, in place of a chunk's own.
+fn lay_cell(marks: &[u64], staged: &[u64], place: usize, chunk: &mut Dense)
+    requires room { place < 64 * length marks.now }
+    requires inside { place < length staged.now }
+    requires in_chunk { place < length chunk.old.words }
+    requires word { is_marked marks.now place ≡ true → IsWord chunk.old.dtype (slice_index staged.now place) }
+    ensures marked { is_marked marks.now place ≡ true
+        → chunk.new ≡ record chunk.old { words = slice_set chunk.old.words place (slice_index staged.now place) } }
+    ensures unmarked { is_marked marks.now place ≡ false → chunk.new ≡ chunk.old }
+{
+    if is_marked(marks, place) {
+        chunk.set(place, staged[place]);
     }
 }
 

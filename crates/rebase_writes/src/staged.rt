@@ -1,11 +1,12 @@
-ghost use Rattle.std.specs.Prelude.{◌≡◌, ℕ, ◌<◌, ◌≤◌, ◌^◌, ◌↔◌, None, Some, true, false, length, replicate, slice_index, slice_index_or, slice_set, unwrap_or, IfOk, IsTrue, IsSome};
+ghost use Rattle.std.specs.Prelude.{◌≡◌, ℕ, ◌<◌, ◌≤◌, ◌↔◌, None, Some, length, replicate, slice_index, slice_set, unwrap_or, IfOk, IsTrue, IsSome};
 ghost use Rattle.cells.specs.Dense.{DenseCells, IsDense};
-ghost use Rattle.rebase_writes.specs.Staged.{staged_cells, staged_at, AreWords, CoverAll, laid_over};
+ghost use Rattle.rebase_writes.specs.Staged.{staged_at, AreWords, CoverAll, laid_over};
 ghost use Rattle.cells.specs.Runs.{IsRunInside, pairs_of};
 ghost use Rattle.rebase_writes.specs.Runs.{pairs_written, pairs_shown};
 
+use crate::marks::{are_marked, are_unmarked, is_marked};
 use crate::rising::{add_run, cover_range, lay_runs, show_staged, spare_range, spread, word_at};
-use crate::run::{marked_word, show_run, stage_cell, stage_run};
+use crate::run::{lay_marked, marked_word, show_run, stage_cell, stage_run};
 use cells::{Dense, Run};
 use std::alloc::{AllocError, Global};
 use std::marker::Model;
@@ -18,15 +19,15 @@ const MOST_CELLS: usize = 1 << 24;
 /// Cells that are to be laid over a chunk, one per place of the chunk in C order. A contract sees at each place the staged
 /// word, or none.
 ///
-/// Kept are runs with their words as long as each begins behind the end of the one before, and a mark and a word for each cell from then on.
+/// Kept are runs with their words as long as each begins behind the end of the one before, and a mark and a word for each cell from then on. A mark
+/// is a bit.
 #[derive(Debug, Drop)]
 pub struct Staged {
     by_runs: bool,
     cells: usize,
     runs: Vec<Run>,
-    kept: Vec<u64>,
-    mask: Vec<bool>,
     words: Vec<u64>,
+    marks: Vec<u64>,
 }
 
 impl Model for Staged {
@@ -35,10 +36,10 @@ impl Model for Staged {
 
     ghost Value = { List (Option ℕ) };
 
-    ghost view = { λ s. cells_kept s.by_runs s.cells s.runs.items s.kept.items s.mask.items s.words.items };
+    ghost view = { λ s. cells_kept s.by_runs s.cells s.runs.items s.words.items s.marks.items };
 
-    ghost invariant = { λ s. AreKept s.by_runs s.cells s.runs.items s.kept.items s.mask.items s.words.items
-        (vec_capacity s.kept) (vec_capacity s.mask) (vec_capacity s.words) };
+    ghost invariant = { λ s. AreKept s.by_runs s.cells s.runs.items s.words.items s.marks.items (vec_capacity s.words)
+        (vec_capacity s.marks) };
 }
 
 impl Staged {
@@ -51,29 +52,26 @@ impl Staged {
         ensures { IfOk result (λ staged. staged ≡ replicate cells None) }
     {
         if cells <= FEW_CELLS || cells > MOST_CELLS {
-            let mask = vec![in alloc; false; cells]?;
+            let marks = vec![in alloc; 0; cells / 64 + 1]?;
             let words = vec![in alloc; 0; cells]?;
             return Ok(Staged {
                 by_runs: false,
                 cells,
                 runs: Vec::new(alloc),
-                kept: Vec::new(alloc),
-                mask,
                 words,
+                marks,
             });
         }
         // Room is taken now, so that no write wants memory. What isn't written isn't touched.
         let runs = Vec::with_capacity(alloc, 64 + cells / 64)?;
-        let kept = Vec::with_capacity(alloc, cells)?;
-        let mask = Vec::with_capacity(alloc, cells)?;
         let words = Vec::with_capacity(alloc, cells)?;
+        let marks = Vec::with_capacity(alloc, cells / 64 + 1)?;
         Ok(Staged {
             by_runs: true,
             cells,
             runs,
-            kept,
-            mask,
             words,
+            marks,
         })
     }
 
@@ -83,16 +81,10 @@ impl Staged {
         ensures { self.new ≡ slice_set self.old place (Some word) }
     {
         if self.by_runs {
-            spread(
-                &self.runs,
-                &self.kept,
-                self.cells,
-                &mut self.mask,
-                &mut self.words,
-            );
+            spread(&self.runs, self.cells, &mut self.words, &mut self.marks);
             self.by_runs = false;
         }
-        stage_cell(&mut self.mask, &mut self.words, place, word);
+        stage_cell(&mut self.marks, &mut self.words, place, word);
     }
 
     /// Stages the words of a view along a run: for each pair in turn, the view's word at the pair's place in the chunk.
@@ -101,19 +93,13 @@ impl Staged {
         ensures { self.new ≡ pairs_written (pairs_of run.now) words.now self.old }
     {
         if self.by_runs {
-            if add_run(&mut self.runs, &mut self.kept, self.cells, run, words) {
+            if add_run(&mut self.runs, &mut self.words, self.cells, run, words) {
                 return;
             }
-            spread(
-                &self.runs,
-                &self.kept,
-                self.cells,
-                &mut self.mask,
-                &mut self.words,
-            );
+            spread(&self.runs, self.cells, &mut self.words, &mut self.marks);
             self.by_runs = false;
         }
-        stage_run(&mut self.mask, &mut self.words, run, words);
+        stage_run(&mut self.marks, &mut self.words, run, words);
     }
 
     /// Puts staged words into a view along a run: for each pair in turn, the word that is staged at the pair's place in the chunk, where there
@@ -123,9 +109,9 @@ impl Staged {
         ensures { out.new ≡ pairs_shown (pairs_of run.now) self.now out.old }
     {
         if self.by_runs {
-            show_staged(&self.runs, &self.kept, run, out);
+            show_staged(&self.runs, &self.words, run, out);
         } else {
-            show_run(&self.mask, &self.words, run, out);
+            show_run(&self.marks, &self.words, run, out);
         }
     }
 
@@ -135,9 +121,9 @@ impl Staged {
         ensures { IsTrue result ↔ IsSome (staged_at self.now place) }
     {
         if self.by_runs {
-            word_at(&self.runs, &self.kept, place).is_some()
+            word_at(&self.runs, &self.words, place).is_some()
         } else {
-            self.mask[place]
+            is_marked(&self.marks, place)
         }
     }
 
@@ -147,9 +133,9 @@ impl Staged {
         ensures { result ≡ staged_at self.now place }
     {
         if self.by_runs {
-            word_at(&self.runs, &self.kept, place)
+            word_at(&self.runs, &self.words, place)
         } else {
-            marked_word(&self.mask, &self.words, place)
+            marked_word(&self.marks, &self.words, place)
         }
     }
 
@@ -159,9 +145,9 @@ impl Staged {
         ensures { IsTrue result ↔ ((place : ℕ) → from ≤ place → place < to → IsSome (staged_at self.now place)) }
     {
         if self.by_runs {
-            cover_range(&self.runs, &self.kept, from, to)
+            cover_range(&self.runs, &self.words, from, to)
         } else {
-            covers_each(&self.mask, from, to)
+            are_marked(&self.marks, from, to)
         }
     }
 
@@ -171,9 +157,9 @@ impl Staged {
         ensures { IsTrue result ↔ ((place : ℕ) → from ≤ place → place < to → staged_at self.now place ≡ None) }
     {
         if self.by_runs {
-            spare_range(&self.runs, &self.kept, from, to)
+            spare_range(&self.runs, &self.words, from, to)
         } else {
-            spares_each(&self.mask, from, to)
+            are_unmarked(&self.marks, from, to)
         }
     }
 
@@ -218,35 +204,9 @@ impl Staged {
             (slice_index chunk.old.words place) }
     {
         if self.by_runs {
-            lay_runs(&self.runs, &self.kept, chunk);
+            lay_runs(&self.runs, &self.words, chunk);
         } else {
-            chunk.set_where(&self.mask, &self.words);
+            lay_marked(&self.marks, &self.words, chunk);
         }
     }
-}
-
-// Whether the mask is set at each place of a range.
-fn covers_each(mask: &[bool], from: usize, to: usize) -> bool
-    requires { to ≤ length mask.now }
-    ensures { IsTrue result ↔ ((place : ℕ) → from ≤ place → place < to → slice_index_or mask.now place false ≡ true) }
-{
-    for place in from..to {
-        if !mask[place] {
-            return false;
-        }
-    }
-    true
-}
-
-// Whether the mask is set at no place of a range.
-fn spares_each(mask: &[bool], from: usize, to: usize) -> bool
-    requires { to ≤ length mask.now }
-    ensures { IsTrue result ↔ ((place : ℕ) → from ≤ place → place < to → slice_index_or mask.now place false ≡ false) }
-{
-    for place in from..to {
-        if mask[place] {
-            return false;
-        }
-    }
-    true
 }

@@ -20,6 +20,9 @@ one_inside runs view words all cells at run next is inside within = record {
       omega (arith, ints, number_is next k is.forward.places, is.places k fewer, inside.from_first k fewer, inside.to_last k fewer);
 }
 
+pub put-requires-clause-ahead : goal.put-requires-clause-ahead
+put-requires-clause-ahead c = omega (arith, c.requires.behind.begins, c.requires.behind.ahead, c.place_for-view.ensures.inside, c.place_for-view.ensures.few)
+
 pub returns-clause-rising : goal.returns-clause-rising
 returns-clause-rising c cells inside are =
     let new = length c.place_for-view.new.kept.items in

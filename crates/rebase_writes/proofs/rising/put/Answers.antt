@@ -40,4 +40,4 @@ pub returns-clause-rising : goal.returns-clause-rising
 returns-clause-rising c count words cells more inside are =
     let items : c.push.new.self.items ≡ c.args.runs.now.items ++ c.args.next ∷ [] = search rules in
     subst (AreRising words cells) (sym items)
-    (rising_more count words cells c.args.runs.now.items c.args.next are more c.requires.forward inside c.requires.behind)
+    (rising_more count words cells c.args.runs.now.items c.args.next are more c.requires.forward inside c.requires.behind c.requires.ahead)

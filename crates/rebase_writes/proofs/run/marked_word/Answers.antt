@@ -1,12 +1,14 @@
-use Rattle.std.proofs.Common.{◌∙◌, Bool, get_or, Some, None, sym, ap}
-use Rattle.std.specs.Prelude.{if◌then◌else◌}
-use Rattle.rebase_writes.proofs.StagedLaws.{staged_at-mask}
+use Rattle.std.proofs.Common.{◌∙◌, sym, subst, arith}
+use Rattle.rebase_writes.proofs.MarkLaws.{staged_at-marks, marked_cell, bare_cell}
+use Rattle.std.proofs.Common.{refl, get_or}
 use Rattle.rebase_writes.proofs.run.marked_word.Goals as goal
 
-pub returns-then-mask-place : goal.returns-then-mask-place
-returns-then-mask-place c =
-    sym (staged_at-mask c.args.mask.now c.args.staged.now c.args.place c.requires.same c.requires.inside ∙ ap (λ (b : Bool). if b then Some (get_or c.args.staged.now c.args.place 0) else None) c.if-mask-place.true)
+pub returns-then-is_marked : goal.returns-then-is_marked
+returns-then-is_marked c count full =
+    sym (staged_at-marks count c.args.marks.now c.args.staged.now c.args.place full (omega (arith, full, c.requires.inside))
+    ∙ marked_cell c.args.marks.now c.args.staged.now c.args.place (get_or c.args.staged.now c.args.place 0) (sym c.is_marked.ensures ∙ c.if-is_marked.true) refl)
 
-pub returns-else-mask-place : goal.returns-else-mask-place
-returns-else-mask-place c =
-    sym (staged_at-mask c.args.mask.now c.args.staged.now c.args.place c.requires.same c.requires.inside ∙ ap (λ (b : Bool). if b then Some (get_or c.args.staged.now c.args.place 0) else None) c.if-mask-place.false)
+pub returns-else-is_marked : goal.returns-else-is_marked
+returns-else-is_marked c count full =
+    sym (staged_at-marks count c.args.marks.now c.args.staged.now c.args.place full (omega (arith, full, c.requires.inside))
+    ∙ bare_cell c.args.marks.now c.args.staged.now c.args.place (sym c.is_marked.ensures ∙ c.if-is_marked.false))

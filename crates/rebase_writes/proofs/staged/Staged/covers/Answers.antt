@@ -1,20 +1,25 @@
 -- The mark at the place is that of the staged cells.
-use Rattle.std.proofs.Common.{arith}
-use Rattle.rebase_writes.proofs.KeptLaws.{by_cells_is}
-use Rattle.rebase_writes.proofs.StagedLaws.{IsSized-staged, IsSome-staged_at}
+use Rattle.std.proofs.Common.{Bool, ℕ, List, IsSome, length, sym, ◌∙◌, ap, subst, arith, ◌↔◌}
+use Rattle.std.specs.Prelude.{IsTrue}
+use Rattle.rebase_writes.specs.Marks.{is_marked}
+use Rattle.rebase_writes.specs.Staged.{staged_at}
+use Rattle.rebase_writes.proofs.KeptLaws.{by_cells_is, length-by_cells, marked}
 use Rattle.rebase_writes.proofs.staged.Staged.covers.Goals as goal
 
-pub index-requires : goal.index-requires
-index-requires c =
+pub is_marked-requires : goal.is_marked-requires
+is_marked-requires c =
     let s = c.self.inside in
-    let is = by_cells_is s.by_runs s.cells s.runs.items s.kept.items s.mask.items s.words.items c.args.self.now c.if-self.false c.self.view_is in
-    let size = IsSized-staged s.mask.items s.words.items c.args.self.now (c.self.invariant.same c.if-self.false) is in
-    omega (arith, size.0, c.requires, s.mask.ok)
+    let full = c.self.invariant.full c.if-self.false in
+    let is = by_cells_is s.by_runs s.cells s.runs.items s.words.items s.marks.items c.args.self.now c.if-self.false c.self.view_is in
+    let count = length-by_cells s.cells s.words.items s.marks.items c.args.self.now full is in
+    omega (arith, count, c.requires, c.self.invariant.marked c.if-self.false, ap (λ (m : List ℕ). length m) c.deref-else-self.ensures.value)
 
 pub returns-else-self : goal.returns-else-self
 returns-else-self c =
     let s = c.self.inside in
-    let is = by_cells_is s.by_runs s.cells s.runs.items s.kept.items s.mask.items s.words.items c.args.self.now c.if-self.false c.self.view_is in
-    let same = c.self.invariant.same c.if-self.false in
-    let size = IsSized-staged s.mask.items s.words.items c.args.self.now same is in
-    IsSome-staged_at s.mask.items s.words.items c.args.self.now c.args.place c.index.result.now same is (omega (arith, size.0, c.requires)) c.index.ensures
+    let full = c.self.invariant.full c.if-self.false in
+    let is = by_cells_is s.by_runs s.cells s.runs.items s.words.items s.marks.items c.args.self.now c.if-self.false c.self.view_is in
+    let count = length-by_cells s.cells s.words.items s.marks.items c.args.self.now full is in
+    let mark = c.is_marked.ensures ∙ ap (λ (m : List ℕ). is_marked m c.args.place) c.deref-else-self.ensures.value in
+    subst (λ (b : Bool). IsTrue b ↔ IsSome (staged_at c.args.self.now c.args.place)) (sym mark)
+    (marked s.cells s.words.items s.marks.items c.args.self.now c.args.place full is (omega (arith, count, c.requires)))

@@ -2,29 +2,29 @@ use Rattle.std.proofs.Common.{◌≡◌, ◌∙◌, ◌≤◌, ◌<◌, ◌↔�
 use Rattle.std.specs.Prelude.{IsTrue}
 use Rattle.rebase_writes.specs.Staged.{staged_at}
 use Rattle.rebase_writes.specs.Rising.{runs_staged}
-use Rattle.rebase_writes.proofs.KeptLaws.{by_runs_is, by_cells_is, length-by_runs, lent_runs, marked}
-use Rattle.rebase_writes.proofs.StagedLaws.{IsSized-staged}
+use Rattle.rebase_writes.proofs.KeptLaws.{by_runs_is, by_cells_is, length-by_runs, length-by_cells, lent_runs, marked}
 use Rattle.rebase_writes.proofs.staged.Staged.covers_range.Goals as goal
 
 pub cover_range-requires-clause-to : goal.cover_range-requires-clause-to
 cover_range-requires-clause-to c =
     let s = c.self.inside in
-    let is = by_runs_is s.by_runs s.cells s.runs.items s.kept.items s.mask.items s.words.items c.args.self.now c.if-self.true c.self.view_is in
-    omega (arith, length-by_runs s.cells s.runs.items s.kept.items c.args.self.now is, c.requires, c.self.invariant.small c.if-self.true)
+    let is = by_runs_is s.by_runs s.cells s.runs.items s.words.items s.marks.items c.args.self.now c.if-self.true c.self.view_is in
+    omega (arith, length-by_runs s.cells s.runs.items s.words.items c.args.self.now is, c.requires, c.self.invariant.small c.if-self.true)
 
-pub covers_each-requires : goal.covers_each-requires
-covers_each-requires c =
+pub are_marked-requires : goal.are_marked-requires
+are_marked-requires c =
     let s = c.self.inside in
-    let is = by_cells_is s.by_runs s.cells s.runs.items s.kept.items s.mask.items s.words.items c.args.self.now c.if-self.false c.self.view_is in
-    let size = IsSized-staged s.mask.items s.words.items c.args.self.now (c.self.invariant.same c.if-self.false) is in
-    omega (arith, size.0, c.requires, ap (λ (m : List Bool). length m) c.deref-else-self.ensures.value)
+    let full = c.self.invariant.full c.if-self.false in
+    let is = by_cells_is s.by_runs s.cells s.runs.items s.words.items s.marks.items c.args.self.now c.if-self.false c.self.view_is in
+    let count = length-by_cells s.cells s.words.items s.marks.items c.args.self.now full is in
+    omega (arith, count, c.requires, c.self.invariant.marked c.if-self.false, ap (λ (m : List ℕ). length m) c.deref-else-self.ensures.value)
 
 pub returns-then-self : goal.returns-then-self
 returns-then-self c =
     let s = c.self.inside in
-    let is = by_runs_is s.by_runs s.cells s.runs.items s.kept.items s.mask.items s.words.items c.args.self.now c.if-self.true c.self.view_is in
-    let count = length-by_runs s.cells s.runs.items s.kept.items c.args.self.now is in
-    let are = lent_runs 0 s.cells s.runs.items c.deref.result.now s.kept.items c.deref-then-self.result.now c.deref.ensures.value c.deref-then-self.ensures.value (c.self.invariant.rising c.if-self.true) in
+    let is = by_runs_is s.by_runs s.cells s.runs.items s.words.items s.marks.items c.args.self.now c.if-self.true c.self.view_is in
+    let count = length-by_runs s.cells s.runs.items s.words.items c.args.self.now is in
+    let are = lent_runs 0 s.cells s.runs.items c.deref.result.now s.words.items c.deref-then-self.result.now c.deref.ensures.value c.deref-then-self.ensures.value (c.self.invariant.rising c.if-self.true) in
     subst (λ (all : List (Option ℕ)). IsTrue c.cover_range.result ↔ ((place : ℕ) → c.args.from ≤ place → place < c.args.to → IsSome (staged_at all place)))
     ((λ i. runs_staged (c.deref.ensures.value i) (c.deref-then-self.ensures.value i) (replicate s.cells None)) ∙ is)
     (c.cover_range.ensures s.cells are (omega (arith, count, c.requires)))
@@ -32,10 +32,10 @@ returns-then-self c =
 pub returns-else-self : goal.returns-else-self
 returns-else-self c =
     let s = c.self.inside in
-    let is = by_cells_is s.by_runs s.cells s.runs.items s.kept.items s.mask.items s.words.items c.args.self.now c.if-self.false c.self.view_is in
-    let same = c.self.invariant.same c.if-self.false in
-    let size = IsSized-staged s.mask.items s.words.items c.args.self.now same is in
-    let told = rw c.deref-else-self.ensures.value at c.covers_each.ensures in (
-      λ is_true place from to. (marked s.mask.items s.words.items c.args.self.now place same is (omega (arith, size.0, to, c.requires))).0 (told.0 is_true place from to),
-      λ all. told.1 (λ place from to. (marked s.mask.items s.words.items c.args.self.now place same is (omega (arith, size.0, to, c.requires))).1 (all place from to)),
+    let full = c.self.invariant.full c.if-self.false in
+    let is = by_cells_is s.by_runs s.cells s.runs.items s.words.items s.marks.items c.args.self.now c.if-self.false c.self.view_is in
+    let count = length-by_cells s.cells s.words.items s.marks.items c.args.self.now full is in
+    let told = rw c.deref-else-self.ensures.value at c.are_marked.ensures in (
+      λ is_true place from to. (marked s.cells s.words.items s.marks.items c.args.self.now place full is (omega (arith, count, to, c.requires))).0 (told.0 is_true place from to),
+      λ all. told.1 (λ place from to. (marked s.cells s.words.items s.marks.items c.args.self.now place full is (omega (arith, count, to, c.requires))).1 (all place from to)),
     )

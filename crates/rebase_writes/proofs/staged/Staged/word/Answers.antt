@@ -1,30 +1,34 @@
 use Rattle.std.proofs.Common.{◌≡◌, ◌∙◌, ℕ, Bool, List, Option, Some, None, length, replicate, sym, ap, subst, arith}
 use Rattle.std.specs.Prelude.{IfSome, IfNone}
 use Rattle.std.proofs.lemmas.List.{length-replicate}
+use Rattle.rebase_writes.specs.Marks.{marks_of}
 use Rattle.rebase_writes.specs.Rising.{AreRising, runs_staged}
 use Rattle.rebase_writes.specs.Staged.{staged_at, staged_cells}
-use Rattle.rebase_writes.proofs.KeptLaws.{by_runs_is, by_cells_is, lent_runs}
+use Rattle.rebase_writes.proofs.KeptLaws.{by_runs_is, by_cells_is, length-by_cells, lent_runs}
 use Rattle.rebase_writes.proofs.RisingLaws.{none_at}
-use Rattle.rebase_writes.proofs.StagedLaws.{IsSized-staged}
 use Rattle.rebase_writes.proofs.staged.Staged.word.Goals as goal
 
 pub marked_word-requires-clause-inside : goal.marked_word-requires-clause-inside
 marked_word-requires-clause-inside c =
     let s = c.self.inside in
-    let is = by_cells_is s.by_runs s.cells s.runs.items s.kept.items s.mask.items s.words.items c.args.self.now c.if-self.false c.self.view_is in
-    let size = IsSized-staged s.mask.items s.words.items c.args.self.now (c.self.invariant.same c.if-self.false) is in
-    let lent = c.deref-else-self.ensures.value in
-    let long : length c.deref-else-self.result.now ≡ length c.args.self.now = ap (λ (bs : List Bool). length bs) lent ∙ size.0 in
-    omega (arith, long, c.requires)
+    let full = c.self.invariant.full c.if-self.false in
+    let is = by_cells_is s.by_runs s.cells s.runs.items s.words.items s.marks.items c.args.self.now c.if-self.false c.self.view_is in
+    let count = length-by_cells s.cells s.words.items s.marks.items c.args.self.now full is in
+    omega (arith, ap (λ (w : List ℕ). length w) c.deref-else-self-2.ensures.value, full, count, c.requires)
+
+pub marked_word-requires-clause-room : goal.marked_word-requires-clause-room
+marked_word-requires-clause-room c =
+    let full = c.self.invariant.full c.if-self.false in
+    omega (arith, ap (λ (w : List ℕ). length w) c.deref-else-self-2.ensures.value, ap (λ (m : List ℕ). length m) c.deref-else-self.ensures.value, full, c.self.invariant.marked c.if-self.false)
 
 pub returns-then-self : goal.returns-then-self
 returns-then-self c =
     let s = c.self.inside in
-    let is = by_runs_is s.by_runs s.cells s.runs.items s.kept.items s.mask.items s.words.items c.args.self.now c.if-self.true c.self.view_is in
+    let is = by_runs_is s.by_runs s.cells s.runs.items s.words.items s.marks.items c.args.self.now c.if-self.true c.self.view_is in
     let base : List (Option ℕ) = replicate s.cells None in
     let runs = c.deref.result.now in
     let kept = c.deref-then-self.result.now in
-    let are = lent_runs 0 s.cells s.runs.items runs s.kept.items kept c.deref.ensures.value c.deref-then-self.ensures.value (c.self.invariant.rising c.if-self.true) in
+    let are = lent_runs 0 s.cells s.runs.items runs s.words.items kept c.deref.ensures.value c.deref-then-self.ensures.value (c.self.invariant.rising c.if-self.true) in
     let rising = subst (λ n. AreRising (length kept) n runs) (sym (length-replicate s.cells None)) are in
     let same : staged_at (runs_staged runs kept base) c.args.place ≡ staged_at c.args.self.now c.args.place =
     ap (λ (all : List (Option ℕ)). staged_at all c.args.place) ((λ i. runs_staged (c.deref.ensures.value i) (c.deref-then-self.ensures.value i) base) ∙ is) in
@@ -38,5 +42,8 @@ returns-then-self c =
 pub returns-else-self : goal.returns-else-self
 returns-else-self c =
     let s = c.self.inside in
-    let is = by_cells_is s.by_runs s.cells s.runs.items s.kept.items s.mask.items s.words.items c.args.self.now c.if-self.false c.self.view_is in
-    c.marked_word.ensures ∙ ap (λ (all : List (Option ℕ)). staged_at all c.args.place) ((λ i. staged_cells (c.deref-else-self.ensures.value i) (c.deref-else-self-2.ensures.value i)) ∙ is)
+    let full = c.self.invariant.full c.if-self.false in
+    let is = by_cells_is s.by_runs s.cells s.runs.items s.words.items s.marks.items c.args.self.now c.if-self.false c.self.view_is in
+    let count = length-by_cells s.cells s.words.items s.marks.items c.args.self.now full is in
+    c.marked_word.ensures s.cells (ap (λ (w : List ℕ). length w) c.deref-else-self-2.ensures.value ∙ full)
+    ∙ ap (λ (all : List (Option ℕ)). staged_at all c.args.place) ((λ i. staged_cells (marks_of s.cells (c.deref-else-self.ensures.value i)) (c.deref-else-self-2.ensures.value i)) ∙ is)

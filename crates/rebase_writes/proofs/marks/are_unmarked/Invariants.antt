@@ -1,0 +1,13 @@
+-- Each place so far is unmarked.
+use Rattle.std.proofs.Common.{◌≡◌, ◌<◌, ◌≤◌, ◌-◌, ℕ, false}
+use Rattle.rebase_writes.specs.Marks.{is_marked}
+use Rattle.rebase_writes.proofs.marks.are_unmarked.Given as goal
+
+abbrev pub invariant-loop-place : goal.invariant-loop-place
+invariant-loop-place l = record {
+  begin : l.fn.from ≤ l.place;
+  each : (k : ℕ) → l.fn.from ≤ k → k < l.place → is_marked l.marks k ≡ false;
+}
+
+abbrev pub decreases-loop-place : goal.decreases-loop-place
+decreases-loop-place l = l.to - l.place

@@ -1,0 +1,104 @@
+// Marks of places: a bit for each, in words of 64.
+ghost use Rattle.std.specs.Prelude.{◌≡◌, ◌≢◌, ℕ, ◌+◌, ◌*◌, ◌<◌, ◌≤◌, ◌↔◌, true, false, length, IsTrue};
+ghost use Rattle.rebase_writes.specs.Marks.{is_marked};
+
+/// Whether a place is marked.
+pub(crate) fn is_marked(marks: &[u64], place: usize) -> bool
+    requires { place < 64 * length marks.now }
+    ensures { result ≡ is_marked marks.now place }
+{
+    marks[place / 64] >> (place % 64) & 1 == 1
+}
+
+/// Marks a place.
+pub(crate) fn mark(marks: &mut [u64], place: usize)
+    requires { place < 64 * length marks.old }
+    ensures here { is_marked marks.new place ≡ true }
+    ensures others { (other : ℕ) → other ≢ place → is_marked marks.new other ≡ is_marked marks.old other }
+{
+    marks[place / 64] |= 1 << (place % 64);
+}
+
+/// Whether each place of a range, which ends before `to`, is marked.
+pub(crate) fn are_marked(marks: &[u64], from: usize, to: usize) -> bool
+    requires { to ≤ 64 * length marks.now }
+    ensures { IsTrue result ↔ ((place : ℕ) → from ≤ place → place < to → is_marked marks.now place ≡ true) }
+{
+    let mut place = from;
+    while place < to {
+        if is_at_word(place, to) {
+            if !is_full(marks, place) {
+                return false;
+            }
+            place += 64;
+        } else {
+            if !is_marked(marks, place) {
+                return false;
+            }
+            place += 1;
+        }
+    }
+    true
+}
+
+/// Whether no place of a range, which ends before `to`, is marked.
+pub(crate) fn are_unmarked(marks: &[u64], from: usize, to: usize) -> bool
+    requires { to ≤ 64 * length marks.now }
+    ensures { IsTrue result ↔ ((place : ℕ) → from ≤ place → place < to → is_marked marks.now place ≡ false) }
+{
+    let mut place = from;
+    while place < to {
+        if is_at_word(place, to) {
+            if !is_bare(marks, place) {
+                return false;
+            }
+            place += 64;
+        } else {
+            if is_marked(marks, place) {
+                return false;
+            }
+            place += 1;
+        }
+    }
+    true
+}
+
+// Whether a word of marks begins at a place and ends before `to`.
+fn is_at_word(place: usize, to: usize) -> bool
+    requires { place < to }
+    ensures at { IsTrue result → (at : ℕ) × (place ≡ 64 * at) }
+    ensures to { IsTrue result → place + 64 ≤ to }
+{
+    place % 64 == 0 && to - place >= 64
+}
+
+// Whether all places of the word that begins at a place are marked.
+fn is_full(marks: &[u64], place: usize) -> bool
+    requires at { (at : ℕ) × (place ≡ 64 * at) }
+    requires inside { place < 64 * length marks.now }
+    ensures { IsTrue result ↔ ((k : ℕ) → k < 64 → is_marked marks.now (place + k) ≡ true) }
+{
+    marks[place / 64] == u64::MAX
+}
+
+// Whether no place of the word that begins at a place is marked.
+fn is_bare(marks: &[u64], place: usize) -> bool
+    requires at { (at : ℕ) × (place ≡ 64 * at) }
+    requires inside { place < 64 * length marks.now }
+    ensures { IsTrue result ↔ ((k : ℕ) → k < 64 → is_marked marks.now (place + k) ≡ false) }
+{
+    marks[place / 64] == 0
+}
+
+/// How many places from one on are known to be unmarked: those of a whole word that ends before `to`, or none.
+pub(crate) fn bare_from(marks: &[u64], place: usize, to: usize) -> usize
+    requires place { place < to }
+    requires to { to ≤ 64 * length marks.now }
+    ensures to { place + result ≤ to }
+    ensures bare { (k : ℕ) → k < result → is_marked marks.now (place + k) ≡ false }
+{
+    if !is_at_word(place, to) {
+        return 0;
+    }
+    if is_bare(marks, place) { 64 } else { 0 }
+}
