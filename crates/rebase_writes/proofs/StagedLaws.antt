@@ -1,6 +1,7 @@
 -- Laws of staged cells: what a write does, and what is laid over a chunk.
 use Rattle.std.proofs.Common.{◌≡◌, ◌≢◌, ℕ, zero, suc, ◌+◌, ◌<◌, ◌≤◌, ◌↔◌, Bool, true, false, List, [], ◌∷◌, length, get_or, set, replicate, Option, Some, None, IsSome, All, unwrap_or, refl, sym, ◌∙◌, ap, subst, arith, below_more, get_or-set_other, get_or-set_same}
-use Rattle.std.proofs.lemmas.List.{get_or_default, ext_get_or}
+use Rattle.std.proofs.lemmas.Int.{ints}
+use Rattle.std.proofs.lemmas.List.{get_or_default, ext_get_or, length-set}
 use Rattle.std.proofs.lemmas.Option.{get_or_from_slice_get, slice_get-get_or, slice_get_within}
 use Rattle.std.specs.Prelude.{slice_get, if◌then◌else◌}
 use Rattle.std.specs.Option.{ForSome}
@@ -8,8 +9,10 @@ use Rattle.cells.specs.Dense.{DenseCells, IsDense}
 use Rattle.cells.specs.Items.{words_where}
 use Rattle.cells.specs.Numbers.{IsWord}
 use Rattle.cells.specs.declared.dtype.Dtype.{Dtype}
-use Rattle.rebase_writes.specs.Runs.{shown_at}
+use Rattle.cells.specs.Runs.{Pair, pair_at, pairs_of, pairs_put, view_place, chunk_place}
+use Rattle.rebase_writes.specs.Runs.{shown_at, row_at}
 use Rattle.rebase_writes.specs.Staged.{staged_cells, staged_at, AreWords, CoverAll, laid_over}
+use Rattle.rebase_writes.proofs.RunLaws.{fold_one}
 
 -- there is a cell for each place
 pub length-staged_cells : (mask : List Bool) (words : List ℕ) → length mask ≡ length words → length (staged_cells mask words) ≡ length words
@@ -155,6 +158,42 @@ IsLaidUpTo-many mask words base laid place (suc n) same sized far bare is =
     subst (λ p. IsLaidUpTo mask words base laid p) (omega arith)
     (IsLaidUpTo-bare mask words base laid (place + n) same sized (omega (arith, far)) (bare n (omega arith))
     (IsLaidUpTo-many mask words base laid place n same sized (omega (arith, far)) (λ k less. bare k (omega (arith, less))) is))
+
+-- the places of a row
+pub row_place : (place n k : ℕ) → chunk_place (row_at place n) k ≡ place + k
+row_place place n k = omega (arith, ints)
+
+-- a row of one word more
+row_more : (place n : ℕ) (words laid : List ℕ) → pairs_put (pairs_of (row_at place (n + 1))) words laid
+    ≡ set (pairs_put (pairs_of (row_at place n)) words laid) (place + n) (get_or words (place + n) 0)
+row_more place n words laid =
+    fold_one (λ (cells : List ℕ) (pair : Pair). set cells pair.chunk (get_or words pair.view 0)) (pair_at (row_at place n)) laid n
+    ∙ (λ i. set (pairs_put (pairs_of (row_at place n)) words laid) (row_place place n n i) (get_or words (view i) 0))
+  where
+    view : view_place (row_at place n) n ≡ place + n
+    view = omega arith
+
+-- a row keeps the number of words
+pub length-row : (place n : ℕ) (words laid : List ℕ) → length (pairs_put (pairs_of (row_at place n)) words laid) ≡ length laid
+length-row place zero words laid = refl
+length-row place (suc n) words laid =
+    let one : suc n ≡ n + 1 = omega arith in
+    ap (λ (m : ℕ). length (pairs_put (pairs_of (row_at place m)) words laid)) one ∙ ap (λ (ws : List ℕ). length ws) (row_more place n words laid)
+    ∙ length-set (pairs_put (pairs_of (row_at place n)) words laid) (place + n) (get_or words (place + n) 0) ∙ length-row place n words laid
+
+-- a row of places more, where the mask is set
+pub IsLaidUpTo-row : (mask : List Bool) (words base laid : List ℕ) (place n : ℕ) → length mask ≡ length words → length words ≡ length base → length laid ≡ length base
+    → place + n ≤ length mask → ((k : ℕ) → k < n → get_or mask (place + k) false ≡ true) → IsLaidUpTo mask words base laid place
+    → IsLaidUpTo mask words base (pairs_put (pairs_of (row_at place n)) words laid) (place + n)
+IsLaidUpTo-row mask words base laid place zero same sized kept far full is = subst (λ p. IsLaidUpTo mask words base laid p) (omega arith) is
+IsLaidUpTo-row mask words base laid place (suc n) same sized kept far full is =
+    let one : suc n ≡ n + 1 = omega arith in
+    let more : set (pairs_put (pairs_of (row_at place n)) words laid) (place + n) (get_or words (place + n) 0) ≡ pairs_put (pairs_of (row_at place (suc n))) words laid =
+    sym (ap (λ (m : ℕ). pairs_put (pairs_of (row_at place m)) words laid) one ∙ row_more place n words laid) in
+    subst (λ (ws : List ℕ). IsLaidUpTo mask words base ws (place + suc n)) more
+    (subst (λ p. IsLaidUpTo mask words base (set (pairs_put (pairs_of (row_at place n)) words laid) (place + n) (get_or words (place + n) 0)) p) (omega arith)
+    (IsLaidUpTo-covered mask words base (pairs_put (pairs_of (row_at place n)) words laid) (place + n) same sized (length-row place n words laid ∙ kept) (omega (arith, far)) (full n (omega arith))
+    (IsLaidUpTo-row mask words base laid place n same sized kept (omega (arith, far)) (λ k less. full k (omega (arith, less))) is)))
 
 -- all places
 pub IsLaidUpTo-all : (mask : List Bool) (words base laid : List ℕ) (place : ℕ) → length mask ≡ length words → length words ≡ length base → length laid ≡ length base

@@ -102,3 +102,16 @@ pub(crate) fn bare_from(marks: &[u64], place: usize, to: usize) -> usize
     }
     if is_bare(marks, place) { 64 } else { 0 }
 }
+
+/// How many places from one on are known to be marked: those of a whole word that ends before `to`, or none.
+pub(crate) fn full_from(marks: &[u64], place: usize, to: usize) -> usize
+    requires place { place < to }
+    requires to { to ≤ 64 * length marks.now }
+    ensures to { place + result ≤ to }
+    ensures full { (k : ℕ) → k < result → is_marked marks.now (place + k) ≡ true }
+{
+    if !is_at_word(place, to) {
+        return 0;
+    }
+    if is_full(marks, place) { 64 } else { 0 }
+}

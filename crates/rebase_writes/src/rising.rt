@@ -427,8 +427,8 @@ pub(crate) fn lay_runs(runs: &[Run], kept: &[u64], chunk: &mut Dense)
     }
 }
 
-// The words of the run are handed on alone, since others may be of no cell that counts.
-fn lay_run(run: &Run, kept: &[u64], chunk: &mut Dense)
+/// Puts the words of a run in place of a chunk's own. They are handed on alone, since others may be of no cell that counts.
+pub(crate) fn lay_run(run: &Run, kept: &[u64], chunk: &mut Dense)
     requires forward { IsForward run.now }
     requires inside { IsRunInside run.now (length kept.now) (length chunk.old.words) }
     requires words { (k : ℕ) → k < run.now.len → IsWord chunk.old.dtype (slice_index kept.now (view_place run.now k)) }

@@ -1,12 +1,13 @@
 ghost use Rattle.std.specs.Prelude.{◌≡◌, ℕ, ◌+◌, ◌*◌, ◌<◌, ◌≤◌, ◌^◌, pos, ◌≤ℤ◌, ◌<ℤ◌, true, false, Some, length, slice_index, slice_set};
 ghost use Rattle.cells.specs.Dense.{DenseCells};
 ghost use Rattle.cells.specs.Numbers.{IsWord};
-ghost use Rattle.cells.specs.Runs.{view_place, chunk_number, chunk_place, IsRunInside, pairs_of};
+ghost use Rattle.cells.specs.Runs.{view_place, chunk_number, chunk_place, IsRunInside, pairs_of, pairs_put};
 ghost use Rattle.rebase_writes.specs.Marks.{is_marked, marks_of};
-ghost use Rattle.rebase_writes.specs.Runs.{pairs_written, pairs_read, pairs_shown};
+ghost use Rattle.rebase_writes.specs.Runs.{pairs_written, pairs_read, pairs_shown, row_at};
 ghost use Rattle.rebase_writes.specs.Staged.{staged_cells, staged_at, laid_over};
 
-use crate::marks::{bare_from, is_marked, mark};
+use crate::marks::{bare_from, full_from, is_marked, mark};
+use crate::rising::lay_run;
 use cells::{Dense, Run};
 
 /// Puts the words of a chunk into a view along a run: for each pair in turn, the chunk's word at the pair's place in the view.
@@ -79,17 +80,40 @@ pub(crate) fn lay_marked(marks: &[u64], staged: &[u64], chunk: &mut Dense)
     ensures { (count : ℕ) → length staged.now ≡ count → chunk.new
         ≡ record chunk.old { words = laid_over (staged_cells (marks_of count marks.now) staged.now) chunk.old.words } }
 {
-    let cells = staged.len();
+    let cells = chunk.count();
     let mut place = 0;
     while place < cells {
         let bare = bare_from(marks, place, cells);
+        let full = full_from(marks, place, cells);
         if bare > 0 {
             place += bare;
+        } else if full > 0 {
+            lay_row(staged, place, full, chunk);
+            place += full;
         } else {
             lay_cell(marks, staged, place, chunk);
             place += 1;
         }
     }
+}
+
+// Puts so many words from a place on in place of a chunk's own.
+fn lay_row(staged: &[u64], place: usize, count: usize, chunk: &mut Dense)
+    requires some { 1 ≤ count }
+    requires inside { place + count ≤ length staged.now }
+    requires small { length staged.now ≤ 2 ^ 24 }
+    requires size { length staged.now ≡ length chunk.old.words }
+    requires words { (k : ℕ) → k < count → IsWord chunk.old.dtype (slice_index staged.now (place + k)) }
+    ensures { chunk.new ≡ record chunk.old { words = pairs_put (pairs_of (row_at place count)) staged.now chunk.old.words } }
+{
+    let row = Run {
+        view: place as u32,
+        view_step: 1,
+        chunk: place as u32,
+        chunk_step: 1,
+        len: count as u32,
+    };
+    lay_run(&row, staged, chunk);
 }
 
 // Puts the word of a place, where it is marked, in place of a chunk's own.

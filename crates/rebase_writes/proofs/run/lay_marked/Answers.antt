@@ -4,10 +4,12 @@ use Rattle.std.proofs.lemmas.List.{length-set}
 use Rattle.cells.specs.Dense.{DenseCells}
 use Rattle.cells.specs.Numbers.{IsWord}
 use Rattle.cells.proofs.Laws.{true_or_false}
+use Rattle.cells.specs.Runs.{pairs_of, pairs_put}
 use Rattle.rebase_writes.specs.Marks.{is_marked, marks_of}
+use Rattle.rebase_writes.specs.Runs.{row_at}
 use Rattle.rebase_writes.specs.Staged.{staged_cells, laid_over}
 use Rattle.rebase_writes.proofs.MarkLaws.{length-marks_of, get_or-marks_of}
-use Rattle.rebase_writes.proofs.StagedLaws.{IsLaidUpTo, IsLaidUpTo-covered, IsLaidUpTo-bare, IsLaidUpTo-many, IsLaidUpTo-all}
+use Rattle.rebase_writes.proofs.StagedLaws.{IsLaidUpTo, IsLaidUpTo-covered, IsLaidUpTo-bare, IsLaidUpTo-many, IsLaidUpTo-row, IsLaidUpTo-all, length-row}
 use Rattle.rebase_writes.proofs.run.lay_marked.Goals as goal
 
 pub loop-place-init : goal.loop-place-init
@@ -29,6 +31,31 @@ loop-place-preserved-then-bare-gt0 c =
       laid = IsLaidUpTo-many (marks_of n c.args.marks.now) c.args.staged.now c.args.chunk.now.words c.loop-place.chunk.words c.loop-place.place c.bare_from-bare.result
           (length-marks_of n c.args.marks.now) c.requires.size (omega (arith, far, length-marks_of n c.args.marks.now))
           (λ k less. get_or-marks_of n c.args.marks.now (c.loop-place.place + k) (omega (arith, far, less)) ∙ c.bare_from-bare.ensures.bare k less) was.laid;
+    }
+
+pub lay_row-requires-clause-words : goal.lay_row-requires-clause-words
+lay_row-requires-clause-words c k less =
+    subst (λ (d : DenseCells). IsWord d.dtype (get_or c.args.staged.now (c.loop-place.place + k) 0)) (sym c.loop-place.invariant.kept)
+    (c.requires.words (c.loop-place.place + k) (omega (arith, less, c.full_from-full.ensures.to)) (c.full_from-full.ensures.full k less))
+
+pub loop-place-preserved-then-full-gt0 : goal.loop-place-preserved-then-full-gt0
+loop-place-preserved-then-full-gt0 c =
+    let was = c.loop-place.invariant in
+    let n = length c.args.staged.now in
+    let full = c.full_from-full.result in
+    let far : c.loop-place.place + full ≤ n = omega (arith, c.full_from-full.ensures.to) in
+    let mask = marks_of n c.args.marks.now in
+    let long = length-marks_of n c.args.marks.now in
+    let base = c.args.chunk.now in
+    let laid = pairs_put (pairs_of (row_at c.loop-place.place full)) c.args.staged.now c.loop-place.chunk.words in
+    let words : c.lay_row.new.chunk.words ≡ laid = ap (λ (d : DenseCells). d.words) c.lay_row.ensures in
+    record {
+      bound = far;
+      kept = c.lay_row.ensures ∙ ap (λ (d : DenseCells). record d { words = laid }) was.kept ∙ ap (λ (ws : List ℕ). record base { words = ws }) (sym words);
+      size = ap (λ (ws : List ℕ). length ws) words ∙ length-row c.loop-place.place full c.args.staged.now c.loop-place.chunk.words ∙ was.size;
+      laid = subst (λ (ws : List ℕ). IsLaidUpTo mask c.args.staged.now base.words ws (c.loop-place.place + full)) (sym words)
+          (IsLaidUpTo-row mask c.args.staged.now base.words c.loop-place.chunk.words c.loop-place.place full long c.requires.size was.size (omega (arith, far, long))
+          (λ k less. get_or-marks_of n c.args.marks.now (c.loop-place.place + k) (omega (arith, far, less)) ∙ c.full_from-full.ensures.full k less) was.laid);
     }
 
 pub loop-place-preserved : goal.loop-place-preserved
