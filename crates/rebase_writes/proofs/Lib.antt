@@ -1,3 +1,4 @@
+pub mod RowLaws
 pub mod RunLaws
 pub mod RisingLaws
 pub mod PutLaws

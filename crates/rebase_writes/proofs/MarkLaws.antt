@@ -1,12 +1,14 @@
 -- Laws of marks, a bit for each place.
-use Rattle.std.proofs.Common.{◌≡◌, ◌≢◌, ◌⊎◌, inl, inr, ℕ, zero, suc, ◌+◌, ◌-◌, ◌*◌, ◌/◌, ◌%◌, ◌<◌, ◌≤◌, ◌^◌, ◌↔◌, Bool, true, false, List, length, map, get_or, set, replicate, Option, Some, None, refl, sym, ◌∙◌, ap, arith, get_or-set_same, get_or-set_other, eqb-true, eq-eqb, w64}
+use Rattle.std.proofs.Common.{◌≡◌, ◌≢◌, ◌⊎◌, inl, inr, ℕ, zero, suc, ◌+◌, ◌-◌, ◌*◌, ◌/◌, ◌%◌, ◌<◌, ◌≤◌, ◌^◌, ◌↔◌, Bool, true, false, List, length, map, get_or, set, replicate, Option, Some, None, refl, sym, ◌∙◌, ap, arith, get_or-set_same, get_or-set_other, eqb-true, eq-eqb, eq-or-lt_of_le, w64}
 use Rattle.std.proofs.lemmas.Bool.Decides.{nat_tests}
+use Rattle.std.proofs.lemmas.Nat.{pow_below}
+use Rattle.std.proofs.lemmas.Grind.{pow_more}
 use Rattle.std.proofs.lemmas.List.{length-set, ext_get_or, get_or-replicate, length-replicate, get_or_default}
 use Rattle.std.proofs.lemmas.List.FromFn.{length-map-range_with_len, get_or-map-range_with_len}
-use Rattle.std.proofs.lemmas.Nat.Bits.{bit_at-lt, bit_at-zero, bit_at_ones, same_from_bits_below, bit_at_set_same, bit_at_set_other}
+use Rattle.std.proofs.lemmas.Nat.Bits.{bit_at-lt, bit_at-zero, bit_at_ones, bit_at_or, bit_at_mask_inside, bit_at_mask_below, bit_at_mask_above, same_from_bits_below, bit_at_set_same, bit_at_set_other}
 use Rattle.std.specs.Int.{bit_at}
 use Rattle.std.specs.List.{range_with_len}
-use Rattle.std.specs.Prelude.{nat_eq, bit_or, if◌then◌else◌}
+use Rattle.std.specs.Prelude.{nat_eq, bit_or, max, if◌then◌else◌}
 use Rattle.cells.proofs.Laws.{equal_or_not, less_or_not}
 use Rattle.rebase_writes.specs.Marks.{is_marked, marks_of}
 use Rattle.rebase_writes.specs.Staged.{staged_cells, staged_at}
@@ -85,6 +87,70 @@ marked_others marks place other inside apart =
       | inr differs ↦ ap (λ w. bit_at w (other % 64)) (get_or-set_other marks (place / 64) (other / 64) word 0 differs)
     ])
     ∙ sym (mark_is marks other)
+
+bit_small : (n : ℕ) → n < 64 → 1 * 2 ^ n % 2 ^ 64 ≡ 2 ^ n
+bit_small n less = omega (arith, pow_below n 64 less)
+
+bits_rise : (n m : ℕ) → n ≤ m → 2 ^ n ≤ 2 ^ m
+bits_rise n m far = elim (eq-or-lt_of_le far) [
+  | inl same ↦ omega (arith, ap (λ k. 2 ^ k) same)
+  | inr less ↦ omega (arith, pow_below n m less)
+]
+
+-- a bit is no more than the last of those from it on
+pub first_to_last : (first end : ℕ) → first < end → end ≤ 64 → 1 * 2 ^ first % 2 ^ 64 ≤ 1 * 2 ^ (end - 1) % 2 ^ 64
+first_to_last first end some few =
+    omega (arith, bit_small first (omega (arith, some, few)), bit_small (end - 1) (omega (arith, some, few)), bits_rise first (end - 1) (omega (arith, some)))
+
+-- the bits from one on up to another
+pub bits_between : (first end : ℕ) → first < end → end ≤ 64
+    → 1 * 2 ^ (end - 1) % 2 ^ 64 - 1 * 2 ^ first % 2 ^ 64 + 1 * 2 ^ (end - 1) % 2 ^ 64 ≡ 2 ^ end - 2 ^ first
+bits_between first end some few =
+    let on : end ≡ end - 1 + 1 = omega (arith, some) in
+    let twice : 2 ^ end ≡ 2 ^ (end - 1) * 2 = ap (λ k. 2 ^ k) on ∙ pow_more 2 (end - 1) in
+    omega (arith, twice, bit_small first (omega (arith, some, few)), bit_small (end - 1) (omega (arith, some, few)), bits_rise first (end - 1) (omega (arith, some)))
+
+most_one : (x : ℕ) → x < 2 → max x 1 ≡ 1
+most_one x few = omega (arith, few)
+
+most_zero : (x : ℕ) → max x 0 ≡ x
+most_zero x = omega arith
+
+-- bits that are set from one on up to another mark their places
+pub bits_here : (marks : List ℕ) (at first end place : ℕ) → at < length marks → end ≤ 64 → 64 * at + first ≤ place → place < 64 * at + end
+    → is_marked (set marks at (bit_or (get_or marks at 0) (2 ^ end - 2 ^ first))) place ≡ true
+bits_here marks at first end place inside few from below =
+    let word = bit_or (get_or marks at 0) (2 ^ end - 2 ^ first) in
+    let in_at : place / 64 ≡ at = omega (arith, few, from, below) in
+    let one : bit_at (2 ^ end - 2 ^ first) (place % 64) ≡ 1 = bit_at_mask_inside first end (place % 64) (omega (arith, in_at, from)) (omega (arith, in_at, below)) in
+    mark_is (set marks at word) place
+    ∙ ap (λ n. nat_eq (bit_at (get_or (set marks at word) n 0) (place % 64)) 1) in_at
+    ∙ ap (λ w. nat_eq (bit_at w (place % 64)) 1) (get_or-set_same marks at word 0 inside)
+    ∙ ap (λ b. nat_eq b 1)
+    (bit_at_or (get_or marks at 0) (2 ^ end - 2 ^ first) (place % 64) ∙ ap (max (bit_at (get_or marks at 0) (place % 64))) one
+    ∙ most_one (bit_at (get_or marks at 0) (place % 64)) (bit_at-lt (get_or marks at 0) (place % 64)))
+
+-- and no other
+pub bits_others : (marks : List ℕ) (at first end place : ℕ) → at < length marks → end ≤ 64 → (place < 64 * at + first) ⊎ (64 * at + end ≤ place)
+    → is_marked (set marks at (bit_or (get_or marks at 0) (2 ^ end - 2 ^ first))) place ≡ is_marked marks place
+bits_others marks at first end place inside few out =
+    let word = bit_or (get_or marks at 0) (2 ^ end - 2 ^ first) in
+    mark_is (set marks at word) place
+    ∙ ap (λ b. nat_eq b 1) (elim (equal_or_not (place / 64) at) [
+      | inl same ↦
+          let zero : bit_at (2 ^ end - 2 ^ first) (place % 64) ≡ 0 = none_set same out in
+          ap (λ n. bit_at (get_or (set marks at word) n 0) (place % 64)) same
+          ∙ ap (λ w. bit_at w (place % 64)) (get_or-set_same marks at word 0 inside)
+          ∙ bit_at_or (get_or marks at 0) (2 ^ end - 2 ^ first) (place % 64) ∙ ap (max (bit_at (get_or marks at 0) (place % 64))) zero
+          ∙ most_zero (bit_at (get_or marks at 0) (place % 64))
+          ∙ ap (λ n. bit_at (get_or marks n 0) (place % 64)) (sym same)
+      | inr differs ↦ ap (λ w. bit_at w (place % 64)) (get_or-set_other marks at (place / 64) word 0 differs)
+    ])
+    ∙ sym (mark_is marks place)
+  where
+    none_set : place / 64 ≡ at → (place < 64 * at + first) ⊎ (64 * at + end ≤ place) → bit_at (2 ^ end - 2 ^ first) (place % 64) ≡ 0
+    none_set same (inl before) = bit_at_mask_below first end (place % 64) (omega (arith, same, before))
+    none_set same (inr behind) = bit_at_mask_above first end (place % 64) (omega (arith, same, behind))
 
 -- there is a mark for each place
 pub length-marks_of : (count : ℕ) (marks : List ℕ) → length (marks_of count marks) ≡ count

@@ -1,5 +1,5 @@
 // Marks of places: a bit for each, in words of 64.
-ghost use Rattle.std.specs.Prelude.{◌≡◌, ◌≢◌, ℕ, ◌+◌, ◌*◌, ◌<◌, ◌≤◌, ◌↔◌, true, false, length, IsTrue};
+ghost use Rattle.std.specs.Prelude.{◌≡◌, ◌≢◌, ℕ, ◌+◌, ◌-◌, ◌*◌, ◌^◌, ◌<◌, ◌≤◌, ◌↔◌, true, false, length, IsTrue};
 ghost use Rattle.rebase_writes.specs.Marks.{is_marked};
 
 /// Whether a place is marked.
@@ -17,6 +17,50 @@ pub(crate) fn mark(marks: &mut [u64], place: usize)
     ensures others { (other : ℕ) → other ≢ place → is_marked marks.new other ≡ is_marked marks.old other }
 {
     marks[place / 64] |= 1 << (place % 64);
+}
+
+/// Marks the places of a range, which ends before `to`.
+pub(crate) fn mark_range(marks: &mut [u64], from: usize, to: usize)
+    requires order { from ≤ to }
+    requires inside { to ≤ 64 * length marks.old }
+    ensures same { length marks.new ≡ length marks.old }
+    ensures here { (place : ℕ) → from ≤ place → place < to → is_marked marks.new place ≡ true }
+    ensures before { (place : ℕ) → place < from → is_marked marks.new place ≡ is_marked marks.old place }
+    ensures behind { (place : ℕ) → to ≤ place → is_marked marks.new place ≡ is_marked marks.old place }
+{
+    let mut place = from;
+    while place < to {
+        let first = place % 64;
+        let mut end = 64;
+        if to - place < 64 - first {
+            end = first + (to - place);
+        }
+        mark_bits(marks, place / 64, first, end);
+        place += end - first;
+    }
+}
+
+// Marks the places of a word from one bit on, up to another.
+fn mark_bits(marks: &mut [u64], at: usize, first: usize, end: usize)
+    requires inside { at < length marks.old }
+    requires some { first < end }
+    requires few { end ≤ 64 }
+    ensures same { length marks.new ≡ length marks.old }
+    ensures here { (place : ℕ) → 64 * at + first ≤ place → place < 64 * at + end → is_marked marks.new place ≡ true }
+    ensures before { (place : ℕ) → place < 64 * at + first → is_marked marks.new place ≡ is_marked marks.old place }
+    ensures behind { (place : ℕ) → 64 * at + end ≤ place → is_marked marks.new place ≡ is_marked marks.old place }
+{
+    marks[at] |= bits(first, end);
+}
+
+// The bits from one on, up to another.
+fn bits(first: usize, end: usize) -> u64
+    requires some { first < end }
+    requires few { end ≤ 64 }
+    ensures { result ≡ 2 ^ end - 2 ^ first }
+{
+    let last = 1 << (end - 1);
+    last - (1 << first) + last
 }
 
 /// Whether each place of a range, which ends before `to`, is marked.

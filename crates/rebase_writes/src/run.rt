@@ -6,7 +6,7 @@ ghost use Rattle.rebase_writes.specs.Marks.{is_marked, marks_of};
 ghost use Rattle.rebase_writes.specs.Runs.{pairs_written, pairs_read, pairs_shown, row_at};
 ghost use Rattle.rebase_writes.specs.Staged.{staged_cells, staged_at, laid_over};
 
-use crate::marks::{bare_from, full_from, is_marked, mark};
+use crate::marks::{bare_from, full_from, is_marked, mark, mark_range};
 use crate::rising::lay_run;
 use cells::{Dense, Run};
 
@@ -36,9 +36,32 @@ pub(crate) fn stage_run(marks: &mut [u64], staged: &mut [u64], run: &Run, words:
     ensures { (count : ℕ) → length staged.old ≡ count → staged_cells (marks_of count marks.new) staged.new
         ≡ pairs_written (pairs_of run.now) words.now (staged_cells (marks_of count marks.old) staged.old) }
 {
+    if run.chunk_step == 1 {
+        stage_row(marks, staged, run, words);
+        return;
+    }
     for pair in 0..run.len {
         let (view, chunk) = pair_at(run, pair);
         stage_cell(marks, staged, chunk, words[view]);
+    }
+}
+
+// The same of a run whose places stand one after another: their marks are set a word at a time.
+fn stage_row(marks: &mut [u64], staged: &mut [u64], run: &Run, words: &[u64])
+    requires step { run.now.chunk_step ≡ pos 1 }
+    requires room { length staged.old ≤ 64 * length marks.old }
+    requires inside { IsRunInside run.now (length words.now) (length staged.old) }
+    ensures { (count : ℕ) → length staged.old ≡ count → staged_cells (marks_of count marks.new) staged.new
+        ≡ pairs_written (pairs_of run.now) words.now (staged_cells (marks_of count marks.old) staged.old) }
+{
+    if run.len == 0 {
+        return;
+    }
+    let from = run.chunk as usize;
+    mark_range(marks, from, from + run.len as usize);
+    for pair in 0..run.len {
+        let (view, chunk) = pair_at(run, pair);
+        staged[chunk] = words[view];
     }
 }
 
