@@ -17,6 +17,8 @@ pub(crate) fn answer(alloc: Global, call: &str) -> Result<String, Fault> {
         "read_staged" => read_staged(alloc),
         "ranges" => ranges(alloc),
         "in_rows" => in_rows(alloc),
+        "by_marks" => by_marks(alloc),
+        "words_by_marks" => words_by_marks(alloc),
         _ => Err(Fault::Line),
     }
 }
@@ -186,5 +188,46 @@ fn in_rows(alloc: Global) -> Result<String, Fault> {
     staged.read_run(&row(0, 6, 28), &mut out);
     staged.write_run(&row(0, 9, 2), &[70, 71]);
     staged.read_run(&row(28, 6, 28), &mut out);
+    told(alloc, &out)
+}
+
+// Of a chunk of 200 cells, 3 to 130 are staged, and then 64 once more.
+fn cells_staged(alloc: Global) -> Result<Staged, Fault>
+    ensures { IfOk result (λ staged. length staged ≡ 200) }
+{
+    let words = [7; 128];
+    let mut staged = Staged::new(alloc, 200)?;
+    staged.write_run(&row(0, 3, 128), &words);
+    staged.write_cell(64, 9);
+    Ok(staged)
+}
+
+// Which ranges of them are staged as a whole: 3 to 130, 64 to 127; 2 to 130, 3 to 131; of which nothing is: 0 to 2, 131 to 199; 0 to 3, 130 to 199.
+fn by_marks(alloc: Global) -> Result<String, Fault> {
+    let staged = cells_staged(alloc)?;
+    let whole = staged.covers_range(3, 131) && staged.covers_range(64, 128);
+    let more = staged.covers_range(2, 131) || staged.covers_range(3, 132);
+    let none = staged.spares_range(0, 3) && staged.spares_range(131, 200);
+    let some = staged.spares_range(0, 4) || staged.spares_range(130, 200);
+    told(
+        alloc,
+        &[
+            whole,
+            more,
+            none,
+            some,
+            staged.covers(130),
+            staged.covers(131),
+        ],
+    )
+}
+
+// The cells 1 to 4, 62 to 65 and 129 to 132 of them.
+fn words_by_marks(alloc: Global) -> Result<String, Fault> {
+    let staged = cells_staged(alloc)?;
+    let mut out = [0; 12];
+    staged.read_run(&row(0, 1, 4), &mut out);
+    staged.read_run(&row(4, 62, 4), &mut out);
+    staged.read_run(&row(8, 129, 4), &mut out);
     told(alloc, &out)
 }
