@@ -16,6 +16,7 @@ use Rattle.history.specs.Arrays.{known_after}
 use Rattle.history.specs.Chunks.{Chunk, chunk_key, key_in, key_of}
 use Rattle.history.specs.Damaged.{IsDamaged}
 use Rattle.history.specs.History.{History}
+use Rattle.history.specs.Touch.{generation_of}
 use Rattle.history.proofs.Laws.{some_inj}
 use Rattle.kv_face.specs.Store.{Contents}
 use Rattle.shared_state.specs.Agreement.{Opening, Agrees}
@@ -44,6 +45,7 @@ chunk_then opening events c store log snapshot bounds same agrees chunk answered
       known = chunk.known;
       valid = chunk.valid;
       cells = answered.cells chunk.array known;
+      generation = answered.generation ∙ ap (λ h. generation_of h c) same;
       bounded = bounded chunk.array known ∙ ap (λ h. bounds_in h c.array chunk.array) same;
       now = λ start told. subst (λ h. IsCurrent start h chunk.array c snapshot) same (answered.now opening start chunk.array agrees told known);
     }

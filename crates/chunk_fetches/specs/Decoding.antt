@@ -20,7 +20,7 @@ IsDecodeError (Damaged key cause) = Unit {0}
 IsDecodeError (Shrunk key now) = ⊥
 IsDecodeError Memory = Unit {0}
 
--- of the chunks of these pieces the first that is damaged
+-- the chunk of one of these pieces is damaged, where the store told its contents at the start; the pieces before it have their chunks
 pub record HasDamagedAmong (opening : Opening) (events : History) (pieces : List Piece) (key : List ℕ) (cause : Damage) : Type 0 where
   pub done : List Piece
   pub piece : Piece

@@ -16,7 +16,8 @@ abbrev pub as_read_error : LookError → ReadError
 as_read_error (look.StoreFailed event) = StoreFailed event
 as_read_error look.Memory = Memory
 
--- the store failed in the turn; or the first damaged chunk, as it was at the end of the turn; or want of memory
+-- the store failed in the turn; or, where the store told its contents at the start, the first damaged chunk as it was at the end of the turn; or
+-- want of memory
 abbrev pub IsFetchError : BookView Opening → PassView Event Opening → PassView Event Opening → List Piece → ReadError → Type 0
 IsFetchError book old new pieces (View fault) = ⊥
 IsFetchError book old new pieces (StoreFailed event) = HasFailedTurn book old new pieces event
@@ -24,7 +25,7 @@ IsFetchError book old new pieces (Damaged key cause) = HasTurned book old new []
 IsFetchError book old new pieces (Shrunk key now) = ⊥
 IsFetchError book old new pieces Memory = HasTurned book old new []
 
--- the same once the chunks were looked at: where one is damaged, no further turn was taken
+-- the same once the chunks were looked at; no further turn was taken before `Damaged`
 abbrev pub IsDecodeRefusal : BookView Opening → PassView Event Opening → PassView Event Opening → List Piece → ReadError → Type 0
 IsDecodeRefusal book old new pieces (View fault) = ⊥
 IsDecodeRefusal book old new pieces (StoreFailed event) = ⊥

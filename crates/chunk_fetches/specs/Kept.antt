@@ -5,6 +5,7 @@ use Rattle.chunk_cache.specs.Snapshot.{SnapshotCells}
 use Rattle.history.specs.Arrays.{Known, known_after}
 use Rattle.history.specs.Chunks.{Chunk, IsIndexOf, key_of}
 use Rattle.history.specs.History.{History}
+use Rattle.history.specs.Touch.{generation_of}
 use Rattle.kv_face.specs.Store.{Contents}
 use Rattle.shared_state.specs.Agreement.{Opening}
 use Rattle.shared_state.specs.Fetches.{bounds_in}
@@ -23,12 +24,14 @@ abbrev pub place_from : ℕ → List Kept → List ℕ → Option ℕ
 place_from n [] id = None
 place_from n (k ∷ kept) id = if bytes_eq id k.id then Some n else place_from (n + 1) kept id
 
--- a chunk as it is after these events, and its array's bounds; its words where the store told its contents at the start
+-- a chunk as it is after these events: its dtype and shape, its generation, and its array's bounds, and where the store told its contents at
+-- the start its words
 pub record IsChunkThen (opening : Opening) (events : History) (c : Chunk) (snapshot : SnapshotCells) (bounds : Bounds) : Type 0 where
   pub array : Known
   pub known : known_after events c.array ≡ Some array
   pub valid : IsIndexOf array.info c.index
   pub cells : AreCellsOf array snapshot
+  pub generation : snapshot.generation ≡ generation_of events c
   pub bounded : bounds ≡ bounds_in events c.array array
   pub now : (start : Contents) → opening.store.contents ≡ Some start → IsCurrent start events array c snapshot
 

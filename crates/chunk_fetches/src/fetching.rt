@@ -39,7 +39,7 @@ use turn_book::Pass;
 /// state in another, where the state didn't keep them all. No turn is taken where there are none.
 ///
 /// # Errors
-/// `StoreFailed`; `Damaged` for the first chunk whose bytes are none of its array; `Memory`.
+/// `StoreFailed`; `Damaged` for the first chunk whose bytes are none of its array, where the store told its contents; `Memory`.
 pub fn fetch<K: KvStore, R: Wait, G: Gate>(
     around: &Around<K, R, G>,
     pass: &mut Pass<State<K>>,

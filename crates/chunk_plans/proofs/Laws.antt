@@ -24,4 +24,4 @@ pub use Rattle.chunk_plans.proofs.SortLaws.{rising_sorted}
 pub use Rattle.chunk_plans.proofs.Same.{err_told}
 -- laws of crates below, given on to those above
 pub use Rattle.chunk_laying.proofs.Laws.{IsStagedBy, snapshot_of_cut}
-pub use Rattle.shared_state.proofs.Laws.{array_at-outline, decoded_damaged, form_fill, form_stored, frame_same, frame_then, good_in, known-outline, look_answered, not_risen, read_then, taken_shape, takes_chunk, together-keys}
+pub use Rattle.shared_state.proofs.Laws.{array_at-outline, decoded_damaged, form_fill, form_stored, frame_same, frame_then, good_in, known-outline, look_answered, not_risen, one_chunk_in, read_then, stay_in, taken_shape, takes_chunk, together-keys}

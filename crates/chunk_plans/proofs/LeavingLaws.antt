@@ -24,7 +24,7 @@ use Rattle.chunk_plans.specs.declared.plan.Left.{Left}
 use Rattle.chunk_plans.specs.declared.plan.Left.TheVariants.{Stored, Held}
 use Rattle.chunk_plans.specs.declared.write.ChunkWrite.{ChunkWrite}
 use Rattle.chunk_plans.specs.declared.write.Ready.{Ready}
-use Rattle.chunk_plans.specs.Leaving.{AreCellsIn, AreOfForm, IsLeftOf, IsLeftReady}
+use Rattle.chunk_plans.specs.Leaving.{HasNumber, AreCellsIn, AreOfForm, IsLeftOf, IsLeftReady}
 use Rattle.chunk_plans.specs.Under.{IsLeftNow}
 use Rattle.chunk_plans.specs.Writes.{IsPlanOf, IsReadyBy, IsReadyWrite, chunk_of_write, may_use}
 use Rattle.chunk_plans.proofs.Forms.{dtype_told, kept_as}
@@ -63,6 +63,14 @@ module _ {store : StoreSeen} {log : Log} (w : ChunkWrite) (k : Known) (form : Fo
 
   pub ready_left : (left : Left) → IsSome w.ready → ForSome w.ready (λ r. IsLeftReady form r left) → IsLeftOf k (chunk_of_write w) left
   ready_left left some ready = let there = some_there w.ready some in ready_left_by left there.0 (ready there.0 there.1)
+
+-- bytes that were prepared are a stored chunk's
+ready_numbered_by : (number : ℕ) (form : Form) (left : Left) (r : Ready) → IsLeftReady form r left → HasNumber number left
+ready_numbered_by number form (Stored bytes kept) r ready = tt
+ready_numbered_by number form (Held a cells) r ready = absurd ready
+
+pub ready_numbered : (number : ℕ) (w : ChunkWrite) (form : Form) (left : Left) → IsSome w.ready → ForSome w.ready (λ r. IsLeftReady form r left) → HasNumber number left
+ready_numbered number w form left some ready = let there = some_there w.ready some in ready_numbered_by number form left there.0 (ready there.0 there.1)
 
 -- a plan of what was worked out now
 pub now_plan : (start : Contents) (events : History) (number : ℕ) (k : Known) (w : ChunkWrite) (left : Left) (cells : DenseCells) (bytes : Option (List ℕ)) → left ≡ Stored bytes (Some cells) → IsLeftNow start events k (chunk_of_write w) w.staged.now cells bytes → IsPlanOf start events number k w left

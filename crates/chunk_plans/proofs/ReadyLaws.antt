@@ -47,7 +47,7 @@ module _ (opening : Opening) (start : Contents) (store : StoreSeen) (log : Log) 
         let c = chunk_of_part a.part in
         let named : IsNamed log.events c a.key = record { array = asked.array; known = known_now; valid = asked.part.valid; named = asked.named } in
         let generation : s.generation ≡ generation_of (early ++ more) c =
-        now ∙ generation_now opening start store log c a.key asked.array agrees told named known_now ∙ ap (λ h. generation_of h c) grown in
+        now ∙ generation_now opening store log c a.key asked.array agrees named known_now ∙ ap (λ h. generation_of h c) grown in
         let later = snapshot_longer start early more asked.array c s.generation (word_at s.cells) legal current generation in
         let same : later.0 ≡ asked.array = some_inj later.0 asked.array (sym later.2.known ∙ ap (λ h. known_after h a.part.array) (sym grown) ∙ known_now) in
         subst (λ h. IsSnapshotOf start h asked.array c s.generation (word_at s.cells)) (sym grown)

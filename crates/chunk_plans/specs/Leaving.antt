@@ -1,5 +1,5 @@
 -- What a commit may leave of a chunk.
-use Rattle.std.specs.Prelude.{◌≡◌, true, false}
+use Rattle.std.specs.Prelude.{◌≡◌, ℕ, true, false}
 use Rattle.std.specs.Option.{ForSome}
 use Rattle.cells.specs.Dense.{DenseCells}
 use Rattle.chunk_forms.specs.declared.form.Form.{Form}
@@ -26,6 +26,11 @@ pub record AreCellsIn (k : Known) (cells : DenseCells) : Type 0 where
 abbrev pub IsLeftOf : Known → Chunk → Left → Type 0
 IsLeftOf k c (Stored bytes kept) = (is_local k.info.home ≡ false) × ForSome kept (AreCellsIn k)
 IsLeftOf k c (Held a cells) = (is_local k.info.home ≡ true) × (a ≡ c.array) × AreCellsOf k cells
+
+-- cells that are left of a local array's chunk have this number as generation
+abbrev pub HasNumber : ℕ → Left → Type 0
+HasNumber number (Stored bytes kept) = Unit {0}
+HasNumber number (Held a cells) = cells.generation ≡ number
 
 -- what was prepared is left, with its cells where they are of the form
 abbrev pub IsLeftReady : Form → Ready → Left → Type 0

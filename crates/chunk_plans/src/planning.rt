@@ -12,7 +12,7 @@ ghost use Rattle.shared_state.specs.Fetches.{IsAnswered, IsDamagedThere, generat
 ghost use Rattle.shared_state.specs.Kept.{AreCellsOf};
 ghost use Rattle.shared_state.specs.Looks.{IsFailedLook};
 ghost use Rattle.std.specs.Option.{ForSome};
-ghost use Rattle.chunk_plans.specs.Leaving.{IsLeftOf, AreCellsIn, AreOfForm, IsLeftReady};
+ghost use Rattle.chunk_plans.specs.Leaving.{IsLeftOf, HasNumber, AreCellsIn, AreOfForm, IsLeftReady};
 ghost use Rattle.chunk_plans.specs.Under.{IsLeftNow};
 ghost use Rattle.chunk_plans.specs.declared.plan.Left.TheVariants as left;
 ghost use Rattle.chunk_plans.specs.Writes.{is_base, IsWrite, IsPlanOf, IsReadyWrite, IsSameButCache, chunk_of_write, may_use};
@@ -49,6 +49,7 @@ pub fn plan_write<'a, K: KvStore>(
     ensures key { IfOk result (λ p. p.key ≡ write.entry.key) }
     ensures left { IfOk result (λ p. (k : Known) → known_after state.old.log.events write.entry.array ≡ Some k
         → IsLeftOf k (chunk_of_write write.entry) p.left) }
+    ensures numbered { IfOk result (λ p. HasNumber number p.left) }
     ensures plan { IfOk result (λ p. (opening : Opening) (start : Contents) (k : Known)
         → Agrees opening (K.seen state.old.store) state.old.log
         → opening.store.contents ≡ Some start → known_after state.old.log.events write.entry.array ≡ Some k
@@ -92,6 +93,7 @@ fn plan_held<'a, K: KvStore>(
     ensures key { IfOk result (λ p. p.key ≡ write.entry.key) }
     ensures left { IfOk result (λ p. (k : Known) → known_after state.old.log.events write.entry.array ≡ Some k
         → IsLeftOf k (chunk_of_write write.entry) p.left) }
+    ensures numbered { IfOk result (λ p. HasNumber number p.left) }
     ensures plan { IfOk result (λ p. (opening : Opening) (start : Contents) (k : Known)
         → Agrees opening (K.seen state.old.store) state.old.log
         → opening.store.contents ≡ Some start → known_after state.old.log.events write.entry.array ≡ Some k
@@ -133,6 +135,7 @@ fn plan_stored<'a, K: KvStore>(
     ensures key { IfOk result (λ p. p.key ≡ write.entry.key) }
     ensures left { IfOk result (λ p. (k : Known) → known_after state.old.log.events write.entry.array ≡ Some k
         → IsLeftOf k (chunk_of_write write.entry) p.left) }
+    ensures numbered { IfOk result (λ p. (number : ℕ) → HasNumber number p.left) }
     ensures plan { IfOk result (λ p. (opening : Opening) (start : Contents) (k : Known) (number : ℕ)
         → Agrees opening (K.seen state.old.store) state.old.log
         → opening.store.contents ≡ Some start → known_after state.old.log.events write.entry.array ≡ Some k

@@ -17,7 +17,7 @@ use Rattle.chunk_plans.specs.declared.plan.Planned.{Planned}
 use Rattle.commits.specs.Plans.{keys_of}
 use Rattle.chunk_plans.specs.declared.write.ChunkWrite.{ChunkWrite}
 use Rattle.chunk_plans.specs.Writes.{IsReadyWrite, chunk_of_write}
-use Rattle.commits.specs.Keyed.{AreKeyPlans, AreRightKeys, AreRightPlans, IsKeyPlan, each_event}
+use Rattle.commits.specs.Keyed.{AreNumbered, AreKeyPlans, AreRightKeys, AreRightPlans, IsKeyPlan, each_event}
 use Rattle.commits.specs.Planning.{ArePlannedBy}
 use Rattle.commits.specs.Prepared.{AreWrites, IsStagedWrite, write_keys}
 use Rattle.commits.specs.Right.{IsRightCommit}
@@ -53,13 +53,19 @@ key_plans_by store log ops number (w ∷ ws) (p ∷ ps) each are = (
   key_plans_by store log ops (number + 1) ws ps each.1 are.1,
 )
 
+numbered_by : (store : StoreSeen) (log : Log) (number : ℕ) (ws : List ChunkWrite) (ps : List Planned) → ArePlannedBy store log number 1 ws ps → AreNumbered number ps
+numbered_by store log number ws [] are = tt
+numbered_by store log number [] (p ∷ ps) are = absurd are
+numbered_by store log number (w ∷ ws) (p ∷ ps) are = (are.0.numbered, numbered_by store log (number + 1) ws ps are.1)
+
 -- the plans of all writes are plans of different keys
-pub key_plans_of : (store : StoreSeen) (first log : Log) (ops : List Op) (number : ℕ) (ws : List ChunkWrite) (ps : List Planned) → log.events ≡ first.events → AreWrites first.events ops ws → ArePlannedBy store first number 1 ws ps → AreKeyPlans log.events ps
-key_plans_of store first log ops number ws ps same are planned =
+pub key_plans_of : (store : StoreSeen) (first log : Log) (ops : List Op) (ws : List ChunkWrite) (ps : List Planned) → log.events ≡ first.events → AreWrites first.events ops ws → ArePlannedBy store first (length first.events + 1) 1 ws ps → AreKeyPlans log.events ps
+key_plans_of store first log ops ws ps same are planned =
     subst (λ h. AreKeyPlans h ps) (sym same)
     (record {
-      each = key_plans_by store first ops number ws ps are.each planned;
-      distinct = subst (IsDistinct bytes_eq) (sym (planned_keys store first number 1 ws ps planned)) (rising_distinct (write_keys ws) are.sorted);
+      each = key_plans_by store first ops (length first.events + 1) ws ps are.each planned;
+      numbered = numbered_by store first (length first.events + 1) ws ps planned;
+      distinct = subst (IsDistinct bytes_eq) (sym (planned_keys store first (length first.events + 1) 1 ws ps planned)) (rising_distinct (write_keys ws) are.sorted);
     })
 
 pub planned_some : (store : StoreSeen) (log : Log) (number : ℕ) (ws : List ChunkWrite) (ps : List Planned) → ArePlannedBy store log number 1 ws ps → 0 < length ws → 0 < length ps

@@ -1,6 +1,6 @@
 -- A commit's answer over any store, for its cause.
 use Rattle.std.proofs.Common.{◌≡◌, ℕ, suc, ◌+◌, ◌<◌, List, [], ◌∷◌, ◌++◌, length, take, Bool, true, false, Result, Ok, Err, Option, Some, None, inl, inr, refl, sym, ap, subst, ◌∙◌, arith}
-use Rattle.std.specs.Prelude.{IsTrue}
+use Rattle.std.specs.Prelude.{IsTrue, Contains}
 use Rattle.std.specs.FinMap as finmap
 use Rattle.std.specs.List.{AllByRecursion}
 use Rattle.std.proofs.lemmas.List.{append_assoc, append-nil, length-append}
@@ -8,35 +8,36 @@ use Rattle.history.specs.declared.event.Event.{Event}
 use Rattle.history.specs.declared.event.Mode.{Mode}
 use Rattle.history.specs.Answers as body
 use Rattle.history.specs.Arrays.{known_after}
-use Rattle.history.specs.Commit.{CommitTogether, Fixed, Transaction, are_together, commit_events, kept_ops, stored_keys}
+use Rattle.history.specs.Chunks.{Chunk}
+use Rattle.history.specs.Commit.{CommitTogether, Fixed, HasNoConflict, Transaction, are_together, commit_events, kept_ops, stored_keys}
 use Rattle.history.specs.CommitRows.{IsChangedOn, left_by, own_after, own_part}
 use Rattle.history.specs.History.{History}
 use Rattle.history.specs.Own.{fault, numbered, numbers_of}
+use Rattle.history.specs.Reads.{footprint_of}
 use Rattle.chunk_plans.specs.Agreement.{Opening, Agrees}
 use Rattle.chunk_plans.specs.Log.{Log}
 use Rattle.chunk_plans.specs.Seen.{StoreSeen}
-use Rattle.chunk_plans.specs.declared.mark.Mark.{Mark}
 use Rattle.chunk_plans.specs.declared.write.ChunkWrite.{ChunkWrite}
-use Rattle.commits.specs.declared.late.Late.{Late}
 use Rattle.commits.specs.declared.prepared.Prepared.{Prepared}
 use Rattle.commits.specs.declared.refused.CommitRefused.{CommitRefused}
 use Rattle.commits.specs.declared.refused.CommitRefused.TheVariants as refused
 use Rattle.commits.specs.declared.way.Way.{Way}
 use Rattle.commits.specs.declared.way.Way.TheVariants.{Whole, ByKeys}
 use Rattle.commits.specs.Answers.{IsTold, Leaves, MayAdd, all_of, body_of}
-use Rattle.commits.specs.Caused.{IsCausedCommit, IsCommitCaused, IsPartMade, IsReadUnder, IsUncut, MayBeMade, all_made, for_bytes, for_failure, for_memory, for_memory_first, for_read, for_shape, for_stores}
-use Rattle.commits.specs.Late.{IsFirstLate}
+use Rattle.commits.specs.Caused.{IsCausedCommit, IsCommitCaused, IsPartMade, IsUncut, MayBeMade, all_made, for_bytes, for_failure, for_memory, for_memory_first, for_read, for_shape, for_stores}
 use Rattle.commits.specs.Outside.{IsFirstOutside}
 use Rattle.commits.specs.Planning.{IsAmongOn, write_arrays}
-use Rattle.commits.specs.Prepared.{AreWrites, write_keys}
-use Rattle.commits.specs.Ways.{IsWay}
+use Rattle.commits.specs.Prepared.{AreMarks, AreWrites, WasReadAt, write_keys}
+use Rattle.commits.specs.Ways.{IsUntouched, IsWay}
 use Rattle.commits.specs.Writes.{stored_write_keys}
 use Rattle.commits.proofs.ChangedKeys.{stored_keys_are}
+use Rattle.commits.proofs.Conflicts.{met_of, no_conflict}
 use Rattle.commits.proofs.MadeEvents.{among_same, changed_on, each_events, known_each, known_whole, length_take, numbered_one, take_front, take_numbered, together_as, whole_events}
 use Rattle.commits.proofs.ShrunkLaws.{not_shrunk, shrunk_of}
 
 module _ (opening : Opening) (store : StoreSeen) (log : Log) (owner : ℕ) (t : Transaction) (p : Prepared) (agrees : Agrees opening store log) (line : p.line ≡ t.line) (mode : p.mode ≡ t.mode) (ops : p.ops ≡ t.ops) (reads : kept_ops t ≡ t.ops)
-    (are : AreWrites log.events t.ops p.writes.items) (marks : AllByRecursion (λ (m : Mark). IsReadUnder log.events t m.key) p.footprint.now) where
+    (are : AreWrites log.events t.ops p.writes.items) (marks : AreMarks log.events t p.footprint.now)
+    (was_read : (c : Chunk) → Contains (footprint_of log.events t.ops) c → WasReadAt log.events t c) where
   abbrev fixed : Fixed
   fixed = record { start = finmap.empty; prefixes = opening.store.prefixes }
 
@@ -55,11 +56,8 @@ module _ (opening : Opening) (store : StoreSeen) (log : Log) (owner : ℕ) (t : 
   atomic_is : (b : Bool) → p.mode.atomic ≡ b → t.mode.atomic ≡ b
   atomic_is b e = ap (λ (m : Mode). m.atomic) (sym mode) ∙ e
 
-  -- the first late mark is of a chunk that was read
-  late_is : (ms : List Mark) (l : Late) → AllByRecursion (λ (m : Mark). IsReadUnder events t m.key) ms → IsFirstLate log ms (Some l) → IsReadUnder events t l.key × (l.read < l.now)
-  late_is [] l all is = absurd is
-  late_is (m ∷ ms) l all (inl late) = (subst (IsReadUnder events t) (sym late.key) all.0, subst (λ n. n < l.now) (sym late.read) late.later)
-  late_is (m ∷ ms) l all (inr more) = late_is ms l all.1 more.1
+  free_of : IsUntouched log p → HasNoConflict events t
+  free_of untouched = no_conflict log t agrees.outline agrees.generations p.footprint.now marks (λ asked. untouched (subst (λ (m : Mode). IsTrue m.repeatable_read) (sym mode) asked))
 
   -- an answer without an event
   unmade : (later : History) (result : Result (List ℕ) CommitRefused) → later ≡ events → ((left : Option Transaction) → Leaves t result left → IsCausedCommit fixed owner events t left (body_of result) []) → IsCommitCaused fixed owner events later t result
@@ -74,13 +72,13 @@ module _ (opening : Opening) (store : StoreSeen) (log : Log) (owner : ℕ) (t : 
 
   are_all_by : (way : Way) → IsWay store.prefixes log p (Ok way) → AreAll (all_of owner p way)
   are_all_by Whole way = record {
-    may = record { uncut = uncut_of way.0.within; whole = λ asked. together_is true way.1 };
+    may = record { no_conflict = free_of way.0.untouched; uncut = uncut_of way.0.within; whole = λ asked. together_is true way.1 };
     is_all = whole_events opening finmap.empty store log owner t p agrees line mode ops reads are way.1;
     one = λ given. refl;
     known = known_whole owner p events;
   }
   are_all_by ByKeys way = record {
-    may = record { uncut = uncut_of way.0.within; whole = λ asked. let clash : true ≡ false = sym asked ∙ atomic_is false way.2 in absurd (cc) };
+    may = record { no_conflict = free_of way.0.untouched; uncut = uncut_of way.0.within; whole = λ asked. let clash : true ≡ false = sym asked ∙ atomic_is false way.2 in absurd (cc) };
     is_all = each_events opening finmap.empty store log owner t p agrees line mode ops reads are way.1;
     one = λ given. let clash : true ≡ false = sym given ∙ together_is false way.1 in absurd (cc);
     known = λ count a. known_each owner p.line p.mode p.ops (write_keys ws) count events a;
@@ -168,16 +166,16 @@ module _ (opening : Opening) (store : StoreSeen) (log : Log) (owner : ℕ) (t : 
   caused next later (Err (refused.Conflict key read now)) told =
       unmade later.events (Err (refused.Conflict key read now)) (ap (λ (l : Log). l.events) told.1)
       (λ left stands.
-      let late = late_is p.footprint.now (record { key = key; read = read; now = now }) marks told.2.1 in
-      subst (λ l. IsCausedCommit fixed owner events t l (body.conflict key read now) []) (sym stands) (for_read (subst (λ (m : Mode). IsTrue m.repeatable_read) mode told.2.0) late.0 late.1))
+      let met = met_of log t agrees.outline agrees.generations p.footprint.now (record { key = key; read = read; now = now }) marks was_read (subst (λ (m : Mode). IsTrue m.repeatable_read) mode told.2.0) told.2.1 in
+      subst (λ l. IsCausedCommit fixed owner events t l (body.conflict key read now) []) (sym stands) (for_read met))
   caused next later (Err (refused.Shrunk key now)) told =
       unmade later.events (Err (refused.Shrunk key now)) (ap (λ (l : Log). l.events) told.1)
-      (λ left stands. subst (λ l. IsCausedCommit fixed owner events t l (body.shrunk key now) []) (sym stands) (for_shape (shrunk_of events t agrees.outline ws are (record { key = key; now = now }) told.2.1)))
+      (λ left stands. subst (λ l. IsCausedCommit fixed owner events t l (body.shrunk key now) []) (sym stands) (for_shape (free_of told.2.0) (shrunk_of events t agrees.outline ws are (record { key = key; now = now }) told.2.1)))
   caused next later (Err (refused.NotAtomic keys)) told =
       unmade later.events (Err (refused.NotAtomic keys)) (ap (λ (l : Log). l.events) told.1)
       (λ left stands.
       subst (λ l. IsCausedCommit fixed owner events t l (body.not_atomic keys) []) (sym stands)
-      (for_stores (uncut_of told.2.0.within)
+      (for_stores (free_of told.2.0.untouched) (uncut_of told.2.0.within)
       (record { asked = atomic_is true told.2.2; apart = together_is false told.2.1; count = told.2.3 ∙ ap length (sym (stored_keys_are events t.ops ws are)) })))
   caused next later (Err (refused.Damaged key cause)) told =
       unmade later.events (Err (refused.Damaged key cause)) told.1

@@ -1,42 +1,42 @@
 -- Marks and conflicts.
-use Rattle.std.proofs.Common.{◌≡◌, ℕ, List, [], ◌∷◌, map, true, false, Option, Some, None, inl, inr, sym, ap, ◌∙◌, arith}
-use Rattle.std.specs.Prelude.{IsTrue}
+use Rattle.std.proofs.Common.{◌≡◌, ◌<◌, ◌≤◌, ℕ, zero, suc, List, [], ◌∷◌, map, true, false, Option, Some, None, inl, inr, refl, sym, ap, ◌∙◌, arith}
+use Rattle.std.specs.Prelude.{IsTrue, Contains}
+use Rattle.std.specs.FinMap as finmap
 use Rattle.std.specs.List.{AllByRecursion}
-use Rattle.kv_face.specs.Store.{Contents}
+use Rattle.stack_driver.specs.Targets.{Cell}
 use Rattle.history.specs.History.{History}
-use Rattle.history.specs.Chunks.{Chunk, key_of}
+use Rattle.history.specs.Chunks.{Chunk, chunk_of, key_of}
 use Rattle.history.specs.Commit.{HasConflict, HasNoConflict, IsConflict, Key, Transaction, is_before, read_generation}
 use Rattle.history.specs.Generations.{HasKey, IsGenerationTable}
 use Rattle.history.specs.Legal.{IsLegal}
-use Rattle.history.specs.Staged.{IsTransaction}
+use Rattle.history.specs.Reads.{first_reads, footprint_of}
 use Rattle.history.specs.Touch.{generation_of}
-use Rattle.history.proofs.Laws.{generation_by_table, never_itself, no_conflict_of_none, one_key, other_way}
+use Rattle.history.proofs.Laws.{conflict_after_mark, generation_by_table, never_itself, other_way}
 use Rattle.chunk_plans.specs.Log.{Log}
+use Rattle.chunk_plans.specs.Outline.{outline}
+use Rattle.chunk_plans.proofs.Laws.{not_risen, one_chunk_in, stay_in}
+use Rattle.commits.specs.Caused.{IsMetChange}
 use Rattle.commits.specs.declared.late.Late.{Late}
 use Rattle.chunk_plans.specs.declared.mark.Mark.{Mark}
 use Rattle.commits.specs.Late.{IsFirstLate, IsGenerationIn, IsLate, IsStill}
-use Rattle.commits.specs.Prepared.{AreMarks, HasMark, IsMarkOf}
+use Rattle.commits.specs.Prepared.{AreMarks, HasMark, IsMarkOf, WasReadAt}
 use Rattle.chunk_plans.specs.Rising.{AreRising}
 
 some_key : (o : Option Key) (k l : Key) → o ≡ Some k → o ≡ Some l → k ≡ l
 some_key o k l a b = let both : Some k ≡ Some l = sym a ∙ b in cc
 
-module _ (start : Contents) (log : Log) (t : Transaction) (legal : IsLegal start log.events) (table : IsGenerationTable log.events log.generations) where
+module _ (log : Log) (t : Transaction) (outlined : IsLegal finmap.empty (outline log.events)) (table : IsGenerationTable log.events log.generations) where
   abbrev events : History
   events = log.events
 
   -- the number that the table tells is the chunk's generation
   now_is : (c : Chunk) (key : List ℕ) (n : ℕ) → HasKey events c key → IsGenerationIn log key n → n ≡ generation_of events c
-  now_is c key n has is = is c has ∙ sym (generation_by_table start events log.generations c key legal table has)
-
-  -- two chunks with one key are one
-  same_chunk : (c d : Chunk) (key : List ℕ) → HasKey events c key → HasKey events d key → c ≡ d
-  same_chunk c d key one other = one_key start events legal c d one.array other.array key one.known other.known one.valid other.valid one.named other.named
+  now_is c key n has is = is c has ∙ sym (generation_by_table events log.generations c key (one_chunk_in events outlined) table has)
 
   -- a chunk whose mark is still has no conflict
   still : (m : Mark) (c : Chunk) → IsMarkOf events t m → IsStill log m → HasKey events c m.key → HasConflict events t c → ⊥
   still m c is at has conflict =
-      let same : is.chunk ≡ c = same_chunk is.chunk c m.key is.has has in
+      let same : is.chunk ≡ c = one_chunk_in events outlined is.chunk c m.key is.has has in
       let now : at.now ≡ generation_of events c = now_is c m.key at.now has at.is in
       let read : m.generation ≡ read_generation events t.marks c = is.generation ∙ ap (read_generation events t.marks) same in
       let late = conflict.touched in
@@ -49,10 +49,18 @@ module _ (start : Contents) (log : Log) (t : Transaction) (legal : IsLegal start
   none_by (m ∷ ms) all none c (inr more) conflict = none_by ms all.1 none.1 c more conflict
 
   -- where no mark is late there is no conflict
-  pub no_conflict : (marks : List Mark) → AreMarks events t marks → IsTransaction start events t → (IsTrue t.mode.repeatable_read → IsFirstLate log marks None) → HasNoConflict events t
-  no_conflict marks are tx none =
-      no_conflict_of_none start events t legal tx
-      (λ key read now is. none_by marks are.each (none is.conflict.asked) is.chunk (are.all is.chunk is.conflict.was_read) is.conflict)
+  pub no_conflict : (marks : List Mark) → AreMarks events t marks → (IsTrue t.mode.repeatable_read → IsFirstLate log marks None) → HasNoConflict events t
+  no_conflict marks are none asked =
+      none_later (first_reads [] t.ops)
+      (λ c among more. none_by marks are.each (none asked) c (are.all c among) (record { asked = asked; was_read = among; touched = more }))
+    where
+      none_later : (xs : List Cell) → ((c : Chunk) → Contains (map (chunk_of events) xs) c → read_generation events t.marks c < generation_of events c → ⊥)
+          → AllByRecursion (λ x. generation_of events (chunk_of events x) ≤ read_generation events t.marks (chunk_of events x)) xs
+      none_later [] never = tt
+      none_later (x ∷ xs) never = (
+        let c = chunk_of events x in not_risen (read_generation events t.marks c) (generation_of events c) (never c (zero, omega arith, refl)),
+        none_later xs (λ c among. never c (suc among.0, (let less = among.1 in omega (arith, less)), among.2)),
+      )
 
   -- the first late mark, and that no conflict has a lesser key
   record IsLeastLate (l : Late) (ms : List Mark) : Type 0 where
@@ -105,3 +113,11 @@ module _ (start : Contents) (log : Log) (t : Transaction) (legal : IsLegal start
         now_at = now;
         least = λ c conflict k named. least.least c (are.all c conflict.was_read) conflict k named;
       }
+
+  -- and real, where what was read was read at its mark
+  pub met_of : (marks : List Mark) (l : Late) → AreMarks events t marks → ((c : Chunk) → Contains (footprint_of events t.ops) c → WasReadAt events t c) → IsTrue t.mode.repeatable_read → IsFirstLate log marks (Some l)
+      → IsMetChange events t l.key l.read l.now
+  met_of marks l are was_read asked found =
+      let is = conflict_of marks l are asked found in
+      let at = was_read is.chunk is.conflict.was_read in
+      record { conflict = is; marked = at.marked; real = conflict_after_mark events t l.key l.read l.now (stay_in events outlined) is at.array at.known }

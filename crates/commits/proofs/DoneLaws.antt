@@ -21,7 +21,7 @@ use Rattle.chunk_plans.specs.declared.plan.Planned.{Planned}
 use Rattle.commits.specs.Plans.{keys_of}
 use Rattle.commits.specs.declared.refused.CommitRefused.{CommitRefused}
 use Rattle.commits.specs.declared.refused.CommitRefused.TheVariants as refused
-use Rattle.commits.specs.Keyed.{AreKeyPlans, AreRightKeys, IsMadeEach, KeepsByKey, key_event}
+use Rattle.commits.specs.Keyed.{AreNumbered, AreKeyPlans, AreRightKeys, IsMadeEach, KeepsByKey, key_event}
 use Rattle.commits.specs.Planning.{HasFailedFor, IsAmongOn}
 use Rattle.commits.specs.Refused.{unmade}
 use Rattle.commits.proofs.EachLaws.{first_right, key_known, key_plans_longer, rest_right}
@@ -110,7 +110,10 @@ writes_twice (op ∷ ops) = by (is_write op) refl (writes_twice ops)
 pub plans_left : (owner line : ℕ) (mode : Mode) (ops : List Op) (now next : History) (p : Planned) (ps : List Planned) → next ≡ now ++ key_event owner line mode ops p.key ∷ [] → AreKeyPlans now (p ∷ ps) → AreKeyPlans next ps
 plans_left owner line mode ops now next p ps added are =
     subst (λ h. AreKeyPlans h ps) (sym added)
-    (record { each = key_plans_longer now (key_event owner line mode ops p.key) (key_known owner line mode ops p.key now) ps are.each.1; distinct = IsDistinct-tail bytes_eq p.key (keys_of ps) are.distinct })
+    (record { each = key_plans_longer now (key_event owner line mode ops p.key) (key_known owner line mode ops p.key now) ps are.each.1; numbered = subst (λ n. AreNumbered n ps) next_number are.numbered.1; distinct = IsDistinct-tail bytes_eq p.key (keys_of ps) are.distinct })
+  where
+    next_number : length now + 1 + 1 ≡ length (now ++ key_event owner line mode ops p.key ∷ []) + 1
+    next_number = let long = length-append now (key_event owner line mode ops p.key ∷ []) in omega (arith, long)
 
 -- what is agreed so far, with what is left to be right
 abbrev pub KeepsSoFar : StoreSeen → Log → ℕ → ℕ → Mode → List Op → List Planned → StoreSeen → Log → List Op → List Planned → Type 0

@@ -1,5 +1,5 @@
 -- The cells of local arrays behind a commit.
-use Rattle.std.proofs.Common.{◌≡◌, ◌≢◌, ℕ, zero, suc, ◌<◌, ◌⊎◌, inl, inr, List, [], ◌∷◌, ◌++◌, length, true, false, Option, Some, None, refl, sym, ap, subst, ◌∙◌, arith}
+use Rattle.std.proofs.Common.{◌≡◌, ◌≢◌, ℕ, zero, suc, ◌+◌, ◌<◌, ◌⊎◌, inl, inr, List, [], ◌∷◌, ◌++◌, length, true, false, Option, Some, None, refl, sym, ap, subst, ◌∙◌, arith}
 use Rattle.std.specs.Prelude.{IsSome, set, nat_lt}
 use Rattle.std.specs.List.{AllByRecursion, IsDistinct, slice_get}
 use Rattle.std.specs.Option.{option_map_or}
@@ -31,7 +31,7 @@ use Rattle.chunk_plans.specs.declared.plan.Left.{Left}
 use Rattle.chunk_plans.specs.declared.plan.Left.TheVariants.{Stored, Held}
 use Rattle.chunk_plans.specs.declared.plan.Planned.{Planned}
 use Rattle.commits.specs.Plans.{IsPlanned, IsRightLeft, IsRightPlan, HasPlan, keys_of, ArePlans, held_of, cells_of, changes_of}
-use Rattle.chunk_plans.specs.Leaving.{IsLeftOf}
+use Rattle.chunk_plans.specs.Leaving.{HasNumber, IsLeftOf}
 use Rattle.commits.proofs.PlanLaws.{plans_touched, plans_changes}
 
 -- the one index of a local array's chunk
@@ -276,6 +276,7 @@ module _ (opening : Opening) (store : StoreSeen) (log : Log) (owner : ℕ) (deed
     snapshot = there.cells;
     held = held_later a ∙ ap (λ o. option_map_or (λ cells. cells) o None) there.held;
     cells = cells_are k there.plan there.is a there.cells there.left there.array;
+    generation = subst (HasNumber (length log.events + 1)) there.left there.is.numbered;
     touched = λ index valid. ap (touches log.events e) (sym (touched_one a k index local valid there.plan there.is there.array there.of_array)) ∙ there.is.touched;
   }
 

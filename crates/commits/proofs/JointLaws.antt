@@ -29,13 +29,13 @@ use Rattle.commits.proofs.KeyOrder.{rising_distinct}
 use Rattle.commits.proofs.OneLaws.{changes_taken}
 use Rattle.commits.proofs.Plans.{counted_of, planned_arrays, planned_changes, plans_of_writes, rights_of}
 
-module _ (store middle : StoreSeen) (first log : Log) (owner : ℕ) (commit : Commit) (number : ℕ) (ws : List ChunkWrite) (ps : List Planned) (whole : commit.key ≡ None) (same : log.events ≡ first.events) (read : IsRead store middle) (are : AreWrites first.events commit.ops ws)
-    (planned : ArePlannedBy store first number 0 ws ps) where
+module _ (store middle : StoreSeen) (first log : Log) (owner : ℕ) (commit : Commit) (ws : List ChunkWrite) (ps : List Planned) (whole : commit.key ≡ None) (same : log.events ≡ first.events) (read : IsRead store middle) (are : AreWrites first.events commit.ops ws)
+    (planned : ArePlannedBy store first (length first.events + 1) 0 ws ps) where
   pub joint_plans : ArePlans log (done_event owner commit) ps
-  joint_plans = plans_of_writes store first log owner commit whole same number 0 ws ps are planned
+  joint_plans = plans_of_writes store first log owner commit whole same ws ps are planned
 
   keys : keys_changed (changes_of ps) ≡ stored_write_keys first.events ws
-  keys = planned_changes store first commit.ops number 0 ws ps are.each planned
+  keys = planned_changes store first commit.ops (length first.events + 1) 0 ws ps are.each planned
 
   pub joint_made : IsState middle log → are_together store.prefixes (stored_write_keys first.events ws) ≡ true → AreMade middle (changes_of ps)
   joint_made state together = record {
@@ -47,7 +47,7 @@ module _ (store middle : StoreSeen) (first log : Log) (owner : ℕ) (commit : Co
 
   pub joint_mount : (mount : List ℕ) → IsMountFor first.events ws mount → IsAmongOn log.events (plan_arrays ps) mount ⊎ (length (changes_of ps) ≡ 0)
   joint_mount mount (inl among) =
-      inl (subst (λ events. IsAmongOn events (plan_arrays ps) mount) (sym same) (subst (λ arrays. IsAmongOn first.events arrays mount) (sym (planned_arrays store first number 0 ws ps planned)) among))
+      inl (subst (λ events. IsAmongOn events (plan_arrays ps) mount) (sym same) (subst (λ arrays. IsAmongOn first.events arrays mount) (sym (planned_arrays store first (length first.events + 1) 0 ws ps planned)) among))
   joint_mount mount (inr none) = inr (sym (length-map (changes_of ps) (λ (c : Change). c.key)) ∙ ap length (keys ∙ none))
 
 -- the plans are right where the commit is

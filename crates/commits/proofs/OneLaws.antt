@@ -1,5 +1,5 @@
 -- The event of one key, by its plan.
-use Rattle.std.proofs.Common.{◌≡◌, ℕ, zero, suc, arith, List, [], ◌∷◌, true, false, Some, inl, refl}
+use Rattle.std.proofs.Common.{◌≡◌, ℕ, zero, suc, ◌+◌, length, arith, List, [], ◌∷◌, true, false, Some, inl, refl}
 use Rattle.std.specs.List.{AllByRecursion, IsDistinct}
 use Rattle.std.specs.Str.{bytes_eq}
 use Rattle.std.specs.Prelude.{All}
@@ -23,7 +23,7 @@ use Rattle.chunk_plans.specs.declared.plan.Left.{Left}
 use Rattle.chunk_plans.specs.declared.plan.Left.TheVariants.{Stored, Held}
 use Rattle.chunk_plans.specs.declared.plan.Planned.{Planned}
 use Rattle.commits.specs.Plans.{ArePlans, AreRightBy, IsPlanned, change_of, changes_of}
-use Rattle.chunk_plans.specs.Leaving.{IsLeftOf}
+use Rattle.chunk_plans.specs.Leaving.{HasNumber, IsLeftOf}
 use Rattle.commits.specs.Keyed.{IsKeyPlan, IsRightKey, key_event}
 use Rattle.commits.proofs.EachLaws.{key_counted, one_key_in, touches_key, touches_own}
 
@@ -62,7 +62,7 @@ module _ (store : StoreSeen) (log : Log) (e : Event) (state : IsState store log)
   changes_taken ps all = all_each (λ (c : Change). takes store.names c.key ≡ true) (changes_of ps) (taken_each ps all)
 
 -- the plan of one key
-module _ (store : StoreSeen) (log : Log) (owner line : ℕ) (mode : Mode) (ops : List Op) (p : Planned) (state : IsState store log) (is : IsKeyPlan log.events p) where
+module _ (store : StoreSeen) (log : Log) (owner line : ℕ) (mode : Mode) (ops : List Op) (p : Planned) (state : IsState store log) (is : IsKeyPlan log.events p) (numbered : HasNumber (length log.events + 1) p.left) where
   abbrev planned : IsPlanned log (key_event owner line mode ops p.key) p
   planned = record {
     chunk = is.chunk;
@@ -74,6 +74,7 @@ module _ (store : StoreSeen) (log : Log) (owner line : ℕ) (mode : Mode) (ops :
     of_index = is.of_index;
     named = is.named;
     left = is.left;
+    numbered = numbered;
   }
 
   -- the plan is that of the event

@@ -36,6 +36,7 @@ module _ (first store : StoreSeen) (log now : Log) (same : IsSameButCache log no
     chunk = is.chunk;
     key = is.key;
     left = λ k known. is.left k (ap (λ events. known_after events w.array) same.events ∙ known);
+    numbered = is.numbered;
     plan = λ opening start k agrees told known ready.
         subst (λ events. IsPlanOf start events number k w p.left) same.events
         (is.plan opening start k (kept opening agrees) told (ap (λ events. known_after events w.array) same.events ∙ known) (ready_same start k w ready));

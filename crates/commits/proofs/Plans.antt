@@ -33,7 +33,7 @@ use Rattle.chunk_plans.specs.declared.plan.Left.{Left}
 use Rattle.chunk_plans.specs.declared.plan.Left.TheVariants.{Stored, Held}
 use Rattle.chunk_plans.specs.declared.plan.Planned.{Planned}
 use Rattle.commits.specs.Plans.{IsPlanned, IsRightLeft, IsRightPlan, keys_of, HasPlan, ArePlans, change_of, changes_of}
-use Rattle.chunk_plans.specs.Leaving.{IsLeftOf}
+use Rattle.chunk_plans.specs.Leaving.{HasNumber, IsLeftOf}
 use Rattle.chunk_plans.specs.declared.write.ChunkWrite.{ChunkWrite}
 use Rattle.chunk_plans.specs.Writes.{IsPlanOf, IsReadyWrite, chunk_of_write}
 use Rattle.commits.specs.Keyed.{plan_arrays}
@@ -74,8 +74,8 @@ module _ (store : StoreSeen) (first log : Log) (owner : ℕ) (commit : Commit) (
   pub touched_by : (c : Chunk) → touches log.events (done_event owner commit) c ≡ writes_chunk first.events commit.ops c
   touched_by c = ap (λ o. touches log.events (done_event owner (record commit { key = o })) c) whole ∙ ap (λ events. writes_chunk events commit.ops c) same
 
-  abbrev pub planned_one : (number : ℕ) (w : ChunkWrite) (p : Planned) → IsStagedWrite first.events commit.ops w → IsPlannedBy store first number w p → IsPlanned log (done_event owner commit) p
-  planned_one number w p staged is = record {
+  abbrev pub planned_one : (number : ℕ) (w : ChunkWrite) (p : Planned) → number ≡ length first.events + 1 → IsStagedWrite first.events commit.ops w → IsPlannedBy store first number w p → IsPlanned log (done_event owner commit) p
+  planned_one number w p next staged is = record {
     chunk = chunk_of_write w;
     array = staged.0;
     known = ap (λ events. known_after events w.array) same ∙ staged.1.known;
@@ -85,28 +85,30 @@ module _ (store : StoreSeen) (first log : Log) (owner : ℕ) (commit : Commit) (
     of_index = sym is.chunk;
     named = staged.1.named ∙ sym is.key;
     left = is.left staged.0 staged.1.known;
+    numbered = subst (λ n. HasNumber n p.left) (next ∙ ap (λ events. length events + 1) (sym same)) is.numbered;
   }
 
-  each_planned : (number step : ℕ) (ws : List ChunkWrite) (ps : List Planned) → AllByRecursion (IsStagedWrite first.events commit.ops) ws → ArePlannedBy store first number step ws ps → AllByRecursion (IsPlanned log (done_event owner commit)) ps
-  each_planned number step [] [] each are = tt
-  each_planned number step [] (p ∷ ps) each are = absurd are
-  each_planned number step (w ∷ ws) [] each are = absurd are
-  each_planned number step (w ∷ ws) (p ∷ ps) each are = (planned_one number w p each.0 are.0, each_planned (number + step) step ws ps each.1 are.1)
+  each_planned : (number : ℕ) (ws : List ChunkWrite) (ps : List Planned) → number ≡ length first.events + 1 → AllByRecursion (IsStagedWrite first.events commit.ops) ws → ArePlannedBy store first number 0 ws ps → AllByRecursion (IsPlanned log (done_event owner commit)) ps
+  each_planned number [] [] next each are = tt
+  each_planned number [] (p ∷ ps) next each are = absurd are
+  each_planned number (w ∷ ws) [] next each are = absurd are
+  each_planned number (w ∷ ws) (p ∷ ps) next each are = (planned_one number w p next each.0 are.0, each_planned (number + 0) ws ps (omega (arith, next)) each.1 are.1)
 
-  has_planned : (c : Chunk) (number step : ℕ) (ws : List ChunkWrite) (ps : List Planned) → AllByRecursion (IsStagedWrite first.events commit.ops) ws → ArePlannedBy store first number step ws ps → HasWrite c ws → HasPlan log (done_event owner commit) c ps
-  has_planned c number step [] ps each are has = absurd has
-  has_planned c number step (w ∷ ws) [] each are has = absurd are
-  has_planned c number step (w ∷ ws) (p ∷ ps) each are (inl here) = inl (planned_one number w p each.0 are.0, here)
-  has_planned c number step (w ∷ ws) (p ∷ ps) each are (inr more) = inr (has_planned c (number + step) step ws ps each.1 are.1 more)
+  has_planned : (c : Chunk) (number : ℕ) (ws : List ChunkWrite) (ps : List Planned) → number ≡ length first.events + 1 → AllByRecursion (IsStagedWrite first.events commit.ops) ws → ArePlannedBy store first number 0 ws ps → HasWrite c ws
+      → HasPlan log (done_event owner commit) c ps
+  has_planned c number [] ps next each are has = absurd has
+  has_planned c number (w ∷ ws) [] next each are has = absurd are
+  has_planned c number (w ∷ ws) (p ∷ ps) next each are (inl here) = inl (planned_one number w p next each.0 are.0, here)
+  has_planned c number (w ∷ ws) (p ∷ ps) next each are (inr more) = inr (has_planned c (number + 0) ws ps (omega (arith, next)) each.1 are.1 more)
 
   -- there is one for each chunk that the commit touches
-  pub plans_of_writes : (number step : ℕ) (ws : List ChunkWrite) (ps : List Planned) → AreWrites first.events commit.ops ws → ArePlannedBy store first number step ws ps → ArePlans log (done_event owner commit) ps
-  plans_of_writes number step ws ps are planned = record {
-    each = each_planned number step ws ps are.each planned;
+  pub plans_of_writes : (ws : List ChunkWrite) (ps : List Planned) → AreWrites first.events commit.ops ws → ArePlannedBy store first (length first.events + 1) 0 ws ps → ArePlans log (done_event owner commit) ps
+  plans_of_writes ws ps are planned = record {
+    each = each_planned (length first.events + 1) ws ps refl are.each planned;
     all = λ c k known valid touched.
         let found = put_in (IsPutAmong first.events ws) first.events c (puts_of commit.ops) are.all (sym (touched_by c) ∙ touched) in
-        has_planned c number step ws ps are.each planned (subst (λ (d : Chunk). HasWrite d ws) found.in_chunk found.holds.write);
-    distinct = subst (IsDistinct bytes_eq) (sym (planned_keys store first number step ws ps planned)) (rising_distinct (write_keys ws) are.sorted);
+        has_planned c (length first.events + 1) ws ps refl are.each planned (subst (λ (d : Chunk). HasWrite d ws) found.in_chunk found.holds.write);
+    distinct = subst (IsDistinct bytes_eq) (sym (planned_keys store first (length first.events + 1) 0 ws ps planned)) (rising_distinct (write_keys ws) are.sorted);
   }
 
 -- plans are of the arrays of the writes

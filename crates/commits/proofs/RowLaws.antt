@@ -65,7 +65,7 @@ module _ (opening : Opening) (start : Contents) (store : StoreSeen) (log : Log) 
   asked_same = subst (λ (m : Mode). IsTrue m.repeatable_read) (sym is.prepared.mode)
 
   pub free_of : IsUntouched log p → HasNoConflict events t
-  free_of untouched = no_conflict start log t legal (agrees.holds start told).generations p.footprint.now is.prepared.marks is.reads (λ asked. untouched (asked_same asked))
+  free_of untouched = no_conflict log t agrees.outline agrees.generations p.footprint.now is.prepared.marks (λ asked. untouched (asked_same asked))
 
   pub shaped_of : IsFirstOutside events ws None → AreInShapes events t.ops
   shaped_of none = in_shapes start events t legal is.known (not_shrunk events t agrees.outline ws are none)
@@ -91,7 +91,7 @@ module _ (opening : Opening) (start : Contents) (store : StoreSeen) (log : Log) 
 
   -- the refusals
   conflict_row : (l : Late) → IsTrue p.mode.repeatable_read → IsFirstLate log p.footprint.now (Some l) → IsCommit fixed owner events t None (body.conflict l.key l.read l.now) []
-  conflict_row l asked found = conflicts (conflict_of start log t legal (agrees.holds start told).generations p.footprint.now l is.prepared.marks (subst (λ (m : Mode). IsTrue m.repeatable_read) is.prepared.mode asked) found)
+  conflict_row l asked found = conflicts (conflict_of log t agrees.outline agrees.generations p.footprint.now l is.prepared.marks (subst (λ (m : Mode). IsTrue m.repeatable_read) is.prepared.mode asked) found)
 
   shrunk_row : (o : Outside) → IsUntouched log p → IsFirstOutside events ws (Some o) → IsCommit fixed owner events t None (body.shrunk o.key o.now) []
   shrunk_row o untouched found = is_shrunk (free_of untouched) (shrunk_of events t agrees.outline ws are o found)

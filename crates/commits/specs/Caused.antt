@@ -1,32 +1,33 @@
--- What a commit answers over any store: a row of the history's session, less what that says of bytes and of chunks that others touched.
-use Rattle.std.specs.Prelude.{◌≡◌, ◌<◌, ℕ, ◌+◌, List, [], ◌∷◌, ◌++◌, length, take, Option, Some, None, Result, IsTrue, Contains}
+-- What a commit answers over any store: a row of the history's session, less what that says of bytes.
+use Rattle.std.specs.Prelude.{◌≡◌, ◌<◌, ℕ, ◌+◌, List, [], ◌∷◌, ◌++◌, length, take, Option, Some, None, Result, IsTrue}
 use Rattle.chunk_forms.specs.declared.form.Damage.{Damage}
 use Rattle.history.specs.declared.event.Event.{Event}
 use Rattle.history.specs.Answers as body
 use Rattle.history.specs.Answers.{Body, Text}
-use Rattle.history.specs.Chunks.{Chunk}
-use Rattle.history.specs.Commit.{Key, Fixed, Transaction, CommitTogether, commit_events}
+use Rattle.history.specs.Commit.{Key, Fixed, Transaction, CommitTogether, HasNoConflict, IsConflict, commit_events}
 use Rattle.history.specs.CommitRows.{IsChangedOn, IsWhole, left_by, own_after, own_part}
-use Rattle.history.specs.Generations.{HasKey}
+use Rattle.history.specs.Generations.{IsRealConflict}
 use Rattle.history.specs.History.{History}
 use Rattle.history.specs.Own.{Numbered, numbered, numbers_of, fault}
-use Rattle.history.specs.Reads.{footprint_of}
+use Rattle.history.specs.Reads.{has_mark}
 use Rattle.history.specs.Refusals.{IsNotAtomic, IsShrunkCommit}
 use Rattle.commits.specs.declared.refused.CommitRefused.{CommitRefused}
 use Rattle.commits.specs.Answers.{Leaves, body_of}
 
--- a chunk that the transaction read before it wrote the cell has the key
-pub record IsReadUnder (events : History) (t : Transaction) (key : Key) : Type 0 where
-  pub chunk : Chunk
-  pub has : HasKey events chunk key
-  pub was_read : Contains (footprint_of events t.ops) chunk
+-- a chunk that was read has a later generation: the least key of such a chunk, which has a mark, and the numbers of the events that touched the chunk last, as
+-- it was read and now; the later one is no opening
+pub record IsMetChange (events : History) (t : Transaction) (key : Key) (read now : ℕ) : Type 0 where
+  pub conflict : IsConflict events t key read now
+  pub marked : IsTrue (has_mark t.marks conflict.chunk)
+  pub real : IsRealConflict events conflict.chunk read now
 
 -- no written cell lies outside its array's shape
 abbrev pub IsUncut : History → Transaction → Type 0
 IsUncut events t = (key : Key) (now : ℕ) → ¬ IsShrunkCommit events t key now
 
--- nor is it asked in vain that all is made together
+-- nor has a chunk that was read a later generation, nor is it asked in vain that all is made together
 pub record MayBeMade (fixed : Fixed) (events : History) (t : Transaction) : Type 0 where
+  pub no_conflict : HasNoConflict events t
   pub uncut : IsUncut events t
   pub whole : IsWhole fixed events t
 
@@ -38,12 +39,12 @@ pub record IsPartMade (fixed : Fixed) (owner : ℕ) (before : History) (t : Tran
 
 -- a commit's answer over the events that are seen in the end: which transaction stands then, and the events that are added
 pub data IsCausedCommit (fixed : Fixed) (owner : ℕ) (events : History) (t : Transaction) : Option Transaction → Body → List Numbered → Type 0 where
-  -- Conflict: a chunk that was read has the key, and the number is a later one
-  for_read : {key : Key} {read now : ℕ} → IsTrue t.mode.repeatable_read → IsReadUnder events t key → read < now → IsCausedCommit fixed owner events t None (body.conflict key read now) []
+  -- Conflict
+  for_read : {key : Key} {read now : ℕ} → IsMetChange events t key read now → IsCausedCommit fixed owner events t None (body.conflict key read now) []
   -- Shrunk
-  for_shape : {key : Key} {now : ℕ} → IsShrunkCommit events t key now → IsCausedCommit fixed owner events t None (body.shrunk key now) []
+  for_shape : {key : Key} {now : ℕ} → HasNoConflict events t → IsShrunkCommit events t key now → IsCausedCommit fixed owner events t None (body.shrunk key now) []
   -- NotAtomic
-  for_stores : {keys : ℕ} → IsUncut events t → IsNotAtomic fixed events t keys → IsCausedCommit fixed owner events t None (body.not_atomic keys) []
+  for_stores : {keys : ℕ} → HasNoConflict events t → IsUncut events t → IsNotAtomic fixed events t keys → IsCausedCommit fixed owner events t None (body.not_atomic keys) []
   -- Damaged; which bytes are is not said
   for_bytes : {key : Key} {cause : Damage} → MayBeMade fixed events t → IsCausedCommit fixed owner events t (Some t) (body.damaged key cause) []
   -- Committed, after n events

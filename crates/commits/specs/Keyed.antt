@@ -19,7 +19,7 @@ use Rattle.chunk_plans.specs.Log.{Log}
 use Rattle.chunk_plans.specs.Seen.{StoreSeen}
 use Rattle.chunk_plans.specs.declared.plan.Planned.{Planned}
 use Rattle.commits.specs.Plans.{IsRightLeft, keys_of}
-use Rattle.chunk_plans.specs.Leaving.{IsLeftOf}
+use Rattle.chunk_plans.specs.Leaving.{HasNumber, IsLeftOf}
 use Rattle.chunk_plans.specs.declared.write.ChunkWrite.{ChunkWrite}
 use Rattle.chunk_plans.specs.Writes.{IsPlanOf}
 use Rattle.commits.specs.declared.refused.CommitRefused.{CommitRefused}
@@ -50,9 +50,15 @@ pub record IsKeyPlan (events : History) (p : Planned) : Type 0 where
   pub named : chunk_key array chunk.index ≡ p.key
   pub left : IsLeftOf array chunk p.left
 
--- plans of different keys
+-- plans for events of one number after another
+abbrev pub AreNumbered : ℕ → List Planned → Type 0
+AreNumbered number [] = Unit {0}
+AreNumbered number (p ∷ plans) = HasNumber number p.left × AreNumbered (number + 1) plans
+
+-- plans of different keys, for the next events
 pub record AreKeyPlans (events : History) (plans : List Planned) : Type 0 where
   pub each : AllByRecursion (IsKeyPlan events) plans
+  pub numbered : AreNumbered (length events + 1) plans
   pub distinct : IsDistinct bytes_eq (keys_of plans)
 
 abbrev pub plan_arrays : List Planned → List ℕ

@@ -12,7 +12,7 @@ use Rattle.chunk_plans.specs.Fetches.{IsDamagedThere}
 use Rattle.chunk_plans.specs.Log.{Log}
 use Rattle.chunk_plans.specs.Seen.{StoreSeen}
 use Rattle.chunk_plans.specs.declared.plan.Planned.{Planned}
-use Rattle.chunk_plans.specs.Leaving.{IsLeftOf}
+use Rattle.chunk_plans.specs.Leaving.{HasNumber, IsLeftOf}
 use Rattle.chunk_plans.specs.declared.write.ChunkWrite.{ChunkWrite}
 use Rattle.chunk_plans.specs.Writes.{IsPlanOf, IsReadyWrite, chunk_of_write}
 use Rattle.commits.specs.Writes.{stored_write_keys}
@@ -23,6 +23,7 @@ pub record IsPlannedBy (store : StoreSeen) (log : Log) (number : ℕ) (w : Chunk
   pub chunk : p.chunk.now ≡ w.chunk.now
   pub key : p.key ≡ w.key
   pub left : (k : Known) → known_after log.events w.array ≡ Some k → IsLeftOf k (chunk_of_write w) p.left
+  pub numbered : HasNumber number p.left
   pub plan : (opening : Opening) (start : Contents) (k : Known) → Agrees opening store log → opening.store.contents ≡ Some start → known_after log.events w.array ≡ Some k
       → IsReadyWrite start log k w → IsPlanOf start log.events number k w p.left
 

@@ -21,7 +21,7 @@ use Rattle.chunk_plans.specs.Agreement.{Opening, Agrees}
 use Rattle.chunk_plans.specs.Changing.{with_cells}
 use Rattle.chunk_plans.specs.Seen.{StoreSeen}
 use Rattle.chunk_plans.specs.Kept.{IsCurrent}
-use Rattle.chunk_plans.specs.Leaving.{IsLeftOf}
+use Rattle.chunk_plans.specs.Leaving.{HasNumber, IsLeftOf}
 use Rattle.chunk_plans.specs.Log.{Log}
 use Rattle.chunk_plans.specs.declared.plan.Left.{Left}
 use Rattle.chunk_plans.specs.declared.plan.Left.TheVariants.{Stored, Held}
@@ -41,6 +41,7 @@ pub record IsPlanned (log : Log) (e : Event) (p : Planned) : Type 0 where
   pub of_index : chunk.index ≡ p.chunk.now
   pub named : chunk_key array chunk.index ≡ p.key
   pub left : IsLeftOf array chunk p.left
+  pub numbered : HasNumber (length log.events + 1) p.left
 
 -- bytes that are left of a chunk are what is kept of it behind the event, and cells are the chunk then
 abbrev pub IsRightLeft : Contents → Log → Event → Known → Chunk → Left → Type 0

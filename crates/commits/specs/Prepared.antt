@@ -1,5 +1,5 @@
 -- What a transaction prepared for its commit.
-use Rattle.std.specs.Prelude.{◌≡◌, ◌⊎◌, ℕ, List, [], ◌∷◌, length, map, true, Option, Some, None, Contains}
+use Rattle.std.specs.Prelude.{◌≡◌, ◌⊎◌, ℕ, List, [], ◌∷◌, length, map, take, true, Option, Some, None, IsTrue, Contains}
 use Rattle.std.specs.List.{AllByRecursion}
 use Rattle.cells.specs.Places.{IsInside, c_place, cell_count}
 use Rattle.cells.specs.Shapes.{is_inside}
@@ -11,7 +11,7 @@ use Rattle.history.specs.Arrays.{Known, known_after, chunk_shape, is_local}
 use Rattle.history.specs.Chunks.{Chunk, IsIndexOf, cell_at, chunk_key, chunk_of}
 use Rattle.history.specs.Commit.{Key, Transaction, kept_ops, read_generation}
 use Rattle.history.specs.Generations.{HasKey}
-use Rattle.history.specs.Reads.{footprint_of}
+use Rattle.history.specs.Reads.{footprint_of, has_mark, mark_of}
 use Rattle.history.specs.Touch.{writes_chunk}
 use Rattle.history.specs.Writes.{Put, puts_of, written}
 use Rattle.chunk_plans.specs.declared.write.ChunkWrite.{ChunkWrite}
@@ -78,6 +78,12 @@ pub record AreMarks (events : History) (t : Transaction) (marks : List Mark) : T
   pub each : AllByRecursion (IsMarkOf events t) marks
   pub all : (c : Chunk) → Contains (footprint_of events t.ops) c → HasMark events c marks
   pub sorted : AreRising (map (λ (m : Mark). m.key) marks)
+
+-- a chunk was read at its mark: it has one, and its array was known then
+pub record WasReadAt (events : History) (t : Transaction) (c : Chunk) : Type 0 where
+  pub marked : IsTrue (has_mark t.marks c)
+  pub array : Known
+  pub known : known_after (take (mark_of t.marks c) events) c.array ≡ Some array
 
 -- what was prepared is the transaction's
 pub record IsPreparedFor (events : History) (t : Transaction) (p : Prepared) : Type 0 where

@@ -3,6 +3,7 @@ ghost use Rattle.std.specs.Prelude.{◌≡◌, ◌∷◌, ◌++◌, ◌+◌, ◌
 ghost use Rattle.std.specs.List.{AllByRecursion};
 ghost use Rattle.history.specs.Arrays.{known_after};
 ghost use Rattle.history.specs.Commit.{is_write};
+ghost use Rattle.chunk_plans.specs.Leaving.{HasNumber};
 ghost use Rattle.chunk_plans.specs.Seen.{IsFrame};
 ghost use Rattle.commits.specs.Plans.{keys_of};
 ghost use Rattle.chunk_plans.specs.Writes.{IsWrite};
@@ -76,6 +77,7 @@ fn make_one<K: KvStore>(
 ) -> Result<u64, ChangeError>
     requires agrees { IsStateByKey (K.seen state.old.store) state.old.log owner line mode ops plan }
     requires plan { IsKeyPlan state.old.log.events plan }
+    requires numbered { HasNumber (length state.old.log.events + 1) plan.left }
     ensures number { IfOk result (λ n. n ≡ length state.old.log.events + 1) }
     ensures after { OnOk result (state.new.log.events
         ≡ state.old.log.events ++ key_event owner line mode ops plan.entry.key ∷ []) }

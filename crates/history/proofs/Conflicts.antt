@@ -24,7 +24,7 @@ use Rattle.history.proofs.Known.{known_split, no_array, none_is_none}
 use Rattle.history.proofs.Untouched.{generation_touched, chunk_array}
 use Rattle.history.proofs.Generations.{generation_of-rises}
 use Rattle.history.proofs.Presence.{world_some}
-use Rattle.history.proofs.Longer.{IsOpenedAs, known-longer}
+use Rattle.history.proofs.Longer.{IsOpenedAs, AlwaysStay, legal_stay}
 use Rattle.history.proofs.Written.{puts_elsewhere}
 use Rattle.history.specs.Staged.{IsTransaction}
 use Rattle.history.proofs.Transactions.{all_with}
@@ -114,22 +114,24 @@ known_at_mark start events t c tx read =
     let first = present_known (known_after early x.array) x (ap (λ o. is_present_in o x) (sym at) ∙ present) in
     (first.0, ap (known_after early) (sym number) ∙ first.1)
 
-pub conflict_is_real : (start : Contents) (events : History) (t : Transaction) (key : Key) (read now : ℕ) → IsLegal start events → IsTransaction start events t → (is : IsConflict events t key read now) → IsRealConflict events is.chunk read now
-conflict_is_real start events t key read now legal tx is =
+-- a conflict over a chunk whose array was known at the chunk's mark is real
+pub conflict_after_mark : (events : History) (t : Transaction) (key : Key) (read now : ℕ) → AlwaysStay events → (is : IsConflict events t key read now) (k : Known) → known_after (take (mark_of t.marks is.chunk) events) is.chunk.array ≡ Some k
+    → IsRealConflict events is.chunk read now
+conflict_after_mark events t key read now stay is k then =
     let c = is.chunk in
     let m = mark_of t.marks c in
     let early = take m events in
-    let first = known_at_mark start events t c tx is.conflict.was_read in
-    let then : known_after early c.array ≡ Some first.0 = first.1 in
-    let low : first.0.opened ≤ generation_of early c = opening_touches c early first.0 then in
-    let parts : early ++ drop m events ≡ events = take-append-drop m events in
-    let last : IsOpenedAs first.0.info first.0.opened (known_after events c.array) =
-    subst (λ h. IsOpenedAs first.0.info first.0.opened (known_after h c.array)) parts
-    (known-longer start early c.array first.0.info first.0.opened (itself (known_after early c.array) first.0 then) (drop m events) (subst (IsLegal start) (sym parts) legal)) in
-    let known = opened_of_known first.0.info first.0.opened (known_after events c.array) last in
+    let low : k.opened ≤ generation_of early c = opening_touches c early k then in
+    let last : IsOpenedAs k.info k.opened (known_after events c.array) = stay early (drop m events) (take-append-drop m events) c.array k.info k.opened (itself (known_after early c.array) k then) in
+    let known = opened_of_known k.info k.opened (known_after events c.array) last in
     let rises : read_generation events t.marks c < generation_of events c = is.conflict.touched in
     let same = known.2 in
-    let later = touched_later start events c known.0 legal known.1 (omega arith) in
+    let later = touched_later events c known.0 stay known.1 (omega arith) in
     let now_at = is.now_at in
     let read_at = is.read_at in
     subst (λ n. IsRealConflict events c read n) (sym now_at) (record { touch = later.0; no_opening = later.1; later = omega arith })
+
+pub conflict_is_real : (start : Contents) (events : History) (t : Transaction) (key : Key) (read now : ℕ) → IsLegal start events → IsTransaction start events t → (is : IsConflict events t key read now) → IsRealConflict events is.chunk read now
+conflict_is_real start events t key read now legal tx is =
+    let first = known_at_mark start events t is.chunk tx is.conflict.was_read in
+    conflict_after_mark events t key read now (legal_stay start events legal) is first.0 first.1

@@ -8,7 +8,6 @@ use Rattle.std.specs.Str.{bytes_eq}
 use Rattle.std.proofs.lemmas.Map.Text.{is_eq-slice_cmp}
 use Rattle.std.specs.Ordering.{nat_cmp}
 use Rattle.std.specs.Cmp.Lexicographic.{slice_cmp, nat_list_cmp_total}
-use Rattle.kv_face.specs.Store.{Contents}
 use Rattle.chunk_forms.specs.Names as names
 use Rattle.history.specs.declared.array.ArrayInfo.{ArrayInfo}
 use Rattle.history.specs.declared.event.Event.{Event}
@@ -17,14 +16,13 @@ use Rattle.history.specs.History.{History}
 use Rattle.history.specs.Arrays.{Known, known_after, form_of}
 use Rattle.history.specs.Chunks.{Chunk, IsIndexOf, home_text, chunk_key, key_in}
 use Rattle.history.specs.Touch.{touches, touches_by, generation_of}
-use Rattle.history.specs.Legal.{IsLegal}
 use Rattle.history.specs.Generations.{HasKey, Generations, HasChangedKey, IsGenerationTable, IsKeyTouched, IsNumbered}
 use Rattle.history.proofs.Known.{known_split, no_array, length-more, some_inj, opened_as}
 use Rattle.history.proofs.Untouched.{generation_touched, generation_untouched}
 use Rattle.history.proofs.Generations.{generation_of-le-length, generation_of-rises}
-use Rattle.history.proofs.Longer.{IsOpenedAs, known-longer}
+use Rattle.history.proofs.Longer.{IsOpenedAs, ArraysStay}
 use Rattle.history.proofs.Conflicts.{itself, opening_touches}
-use Rattle.history.proofs.Apart.{key_is, one_key}
+use Rattle.history.proofs.Apart.{key_is}
 use Rattle.history.proofs.Ordering.{IsAmong}
 use Rattle.history.proofs.Tests.{true_or_false, less_or_not}
 use Rattle.history.proofs.Touching.{opened_then}
@@ -42,8 +40,9 @@ unfolding IsOpenedAs
 as_opened i n None opened = absurd opened
 as_opened i n (Some k) opened = (k, refl, opened.0, opened.1)
 
-newer : (start : Contents) (h : History) (e : Event) (a : ℕ) (l : Known) → IsLegal start (h ++ e ∷ []) → known_after h a ≡ Some l → (k : Known) × (known_after (h ++ e ∷ []) a ≡ Some k) × (k.info ≡ l.info) × (k.opened ≡ l.opened)
-newer start h e a l legal is = as_opened l.info l.opened (known_after (h ++ e ∷ []) a) (known-longer start h a l.info l.opened (itself (known_after h a) l is) (e ∷ []) legal)
+-- no two chunks have one key
+abbrev pub HasOneChunkAKey : History → Type 0
+HasOneChunkAKey events = (c d : Chunk) (key : List ℕ) → HasKey events c key → HasKey events d key → c ≡ d
 
 same_key : (k l : Known) (index : List ℕ) → k.info ≡ l.info → k.opened ≡ l.opened → chunk_key k index ≡ chunk_key l index
 same_key k l index info opened =
@@ -62,9 +61,12 @@ older_key : (h : History) (e : Event) (c : Chunk) (key : List ℕ) (has : HasKey
 unfolding moved
 older_key h e c key has low = let l = older h e c.array has.array has.known low in (moved (h ++ e ∷ []) h c key has l.0 l.1 l.2 l.3, l.3)
 
-newer_key : (start : Contents) (h : History) (e : Event) (c : Chunk) (key : List ℕ) → IsLegal start (h ++ e ∷ []) → (has : HasKey h c key) → (new : HasKey (h ++ e ∷ []) c key) × (new.array.opened ≡ has.array.opened)
+newer_key : (h : History) (e : Event) (c : Chunk) (key : List ℕ) → ArraysStay h (h ++ e ∷ []) → (has : HasKey h c key) → (new : HasKey (h ++ e ∷ []) c key) × (new.array.opened ≡ has.array.opened)
 unfolding moved
-newer_key start h e c key legal has = let k = newer start h e c.array has.array legal has.known in (moved h (h ++ e ∷ []) c key has k.0 k.1 k.2 k.3, k.3)
+newer_key h e c key stay has =
+    let l = has.array in
+    let k = as_opened l.info l.opened (known_after (h ++ e ∷ []) c.array) (stay c.array l.info l.opened (itself (known_after h c.array) l has.known)) in
+    (moved h (h ++ e ∷ []) c key has k.0 k.1 k.2 k.3, k.3)
 
 -- no chunk is there at first
 pub generations_none : IsGenerationTable [] finmap.empty
@@ -73,11 +75,8 @@ generations_none = record {
   others = λ key none. get-empty (slice_cmp nat_cmp) key;
 }
 
-one_of_key : (start : Contents) (events : History) (c d : Chunk) (key : List ℕ) → IsLegal start events → HasKey events c key → HasKey events d key → c ≡ d
-one_of_key start events c d key legal has other = one_key start events legal c d has.array other.array key has.known other.known has.valid other.valid has.named other.named
-
 -- one event more
-module _ (start : Contents) (h : History) (e : Event) (table next : Generations) (legal : IsLegal start (h ++ e ∷ [])) (before : IsGenerationTable h table) (numbered : IsNumbered h e table next) where
+module _ (h : History) (e : Event) (table next : Generations) (one : HasOneChunkAKey (h ++ e ∷ [])) (stay : ArraysStay h (h ++ e ∷ [])) (before : IsGenerationTable h table) (numbered : IsNumbered h e table next) where
   of_changed : (c : Chunk) (key : List ℕ) → HasChangedKey (h ++ e ∷ []) c key → finmap.get next key ≡ Some (generation_of (h ++ e ∷ []) c)
   of_changed c key there =
       let within = generation_of-le-length (h ++ e ∷ []) c in
@@ -88,7 +87,7 @@ module _ (start : Contents) (h : History) (e : Event) (table next : Generations)
         | inl t ↦ numbered.touched c key (record { has = there.has; touched = t; opened = low }) ∙ ap Some (sym (generation_touched h e c t))
         | inr f ↦
             let alone : (d : Chunk) → ¬ IsKeyTouched h e d key =
-            λ d it. let clash : true ≡ false = sym it.touched ∙ ap (touches h e) (one_of_key start (h ++ e ∷ []) d c key legal it.has there.has) ∙ f in cc in
+            λ d it. let clash : true ≡ false = sym it.touched ∙ ap (touches h e) (one d c key it.has there.has) ∙ f in cc in
             let old = older_key h e c key there.has low in
             let same = generation_untouched h e c f in
             let opened = old.1 in
@@ -99,7 +98,7 @@ module _ (start : Contents) (h : History) (e : Event) (table next : Generations)
   of_others key none =
       numbered.others key (λ c it. let now = generation_touched h e c it.touched in let low = it.opened in none c (record { has = it.has; touched = omega arith }))
       ∙ before.others key (λ c there.
-      let new = newer_key start h e c key legal there.has in
+      let new = newer_key h e c key stay there.has in
       let opened = new.1 in
       let rises = generation_of-rises h c (e ∷ []) in
       let late = there.touched in
@@ -127,9 +126,9 @@ fault_numbers_none h e mount table kind = record {
 }
 
 -- a generation is what the table has at the chunk's key, else the number of its array's opening
-pub generation_by_table : (start : Contents) (events : History) (table : Generations) (c : Chunk) (key : List ℕ) → IsLegal start events → IsGenerationTable events table → (has : HasKey events c key)
+pub generation_by_table : (events : History) (table : Generations) (c : Chunk) (key : List ℕ) → HasOneChunkAKey events → IsGenerationTable events table → (has : HasKey events c key)
     → generation_of events c ≡ unwrap_or (finmap.get table key) has.array.opened
-generation_by_table start events table c key legal is has =
+generation_by_table events table c key one is has =
     elim (less_or_not has.array.opened (generation_of events c)) [
       | inl late ↦ ap (λ o. unwrap_or o has.array.opened) (sym (is.changed c key (record { has = has; touched = late })))
       | inr early ↦
@@ -137,7 +136,7 @@ generation_by_table start events table c key legal is has =
           let none : (d : Chunk) → ¬ HasChangedKey events d key =
           λ d there.
           let late = there.touched in
-          let same = one_of_key start events c d key legal has there.has in
+          let same = one c d key has there.has in
           let opened = one_opening events c d key has there.has same in
           let generation : generation_of events c ≡ generation_of events d = ap (generation_of events) same in
           omega arith in

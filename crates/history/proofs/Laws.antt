@@ -24,7 +24,7 @@ pub use Rattle.history.proofs.Known.{opened_le, known_below}
 -- an array that is there was opened as it is, and stays the same one as events follow
 pub use Rattle.history.proofs.Conflicts.{itself as opened_itself}
 pub use Rattle.history.proofs.GenerationTables.{as_opened}
-pub use Rattle.history.proofs.Longer.{known-longer}
+pub use Rattle.history.proofs.Longer.{ArraysStay, AlwaysStay, legal_stay, known-longer}
 pub use Rattle.history.proofs.Shrinks.{known_still}
 -- one that none of the later events has given a new shape is as it was; the number of its last new shape is one of the events'
 pub use Rattle.history.proofs.Unresized.{known_unresized, resized_after-le-length}
@@ -66,7 +66,7 @@ pub use Rattle.history.proofs.CutCounts.{cut_count}
 -- an event that touches a chunk gives it its number, and any other leaves its generation
 pub use Rattle.history.proofs.Untouched.{generation_touched, generation_untouched}
 -- a table of generations tells a chunk's: what it has at the key, else the number of the array's opening
-pub use Rattle.history.proofs.GenerationTables.{generation_by_table}
+pub use Rattle.history.proofs.GenerationTables.{HasOneChunkAKey, generation_by_table}
 -- the table of no event, that behind one more, and that no opening and no failed call changes it
 pub use Rattle.history.proofs.GenerationTables.{generations_none, generations_more, opening_numbers_none, fault_numbers_none}
 -- the last word that operations put at a cell, and a word that stands where none is put
@@ -120,7 +120,7 @@ pub use Rattle.history.proofs.Longer.{chunk_of-longer, known-after_take, mark_of
 -- marks at any moment from which nothing touches a chunk show the same
 pub use Rattle.history.proofs.Marks.{IsGenerationAt, reads_at_generations}
 -- a chunk that was read was known at its mark; a conflict is of one; without one none of the chunks that were read has a later generation
-pub use Rattle.history.proofs.Conflicts.{known_at_mark, opening_touches, conflict_is_real}
+pub use Rattle.history.proofs.Conflicts.{known_at_mark, opening_touches, conflict_is_real, conflict_after_mark}
 pub use Rattle.history.proofs.Commits.{read_generation-le-mark, nothing_read, no_conflict_of_writes}
 pub use Rattle.history.proofs.Meetings.{no_conflict_of_none}
 -- each target of a view lay in its array's shape after some of the events
@@ -146,6 +146,13 @@ pub use Rattle.history.proofs.RunCommits.{run_shorter}
 pub use Rattle.history.proofs.RunCommits.{run_keeps_legal, commit_line_legal, write_line_legal}
 -- a conflict is another session's, and a commit that read nothing meets none
 pub use Rattle.history.proofs.ForeignConflicts.{IsForeignConflict, run_foreign, session_conflicts, writes_meet_none}
+-- so is one of a chunk with a mark, whatever was read, where the session made no change since the transaction began: as it does behind a begin,
+-- a read and events without one of its own changes
+pub use Rattle.history.proofs.MetConflicts.{met_is_foreign, quiet_begun, quiet_marked}
+pub use Rattle.history.proofs.Quiet.{HasQuiet, IsNoChange, IsQuiet, seen_quiet}
+-- what a line does is of the session's transaction, or outside of one; what refuses it is no conflict
+pub use Rattle.history.proofs.ActFits.{IsActIn, IsAskedIn, act_of-in}
+pub use Rattle.history.proofs.Settled.{IsSettled, IsAskedSettled, act_of-settled}
 -- the arrays as one thread would keep them are those of the history, where every commit is one event
 pub use Rattle.history.proofs.Plain.{plain-world, plain-values}
 -- a session alone is the single session, whose answers are a run

@@ -40,6 +40,7 @@ pub mod KnownViews
 pub mod StepsKnown
 pub mod Quiet
 pub mod Settled
+pub mod MetConflicts
 pub mod ForeignConflicts
 pub mod Shrinks
 pub mod Meetings

@@ -116,3 +116,15 @@ seen-longer start early late marks before ops legal within seen =
     let f = marked_world start early (mark_of marks) in
     let g = marked_world start (early ++ late) (mark_of marks) in
     reads_kept f g before ops (each_cell (IsKeptAt f g) (marked_kept start early late marks legal within) (first_reads before ops)) seen
+
+-- an array that was there is there later, as it was opened
+abbrev pub ArraysStay : History → History → Type 0
+ArraysStay early later = (a : ℕ) (i : ArrayInfo) (n : ℕ) → IsOpenedAs i n (known_after early a) → IsOpenedAs i n (known_after later a)
+
+-- so it is from each part of a history on
+abbrev pub AlwaysStay : History → Type 0
+AlwaysStay events = (early late : History) → early ++ late ≡ events → ArraysStay early events
+
+pub legal_stay : (start : Contents) (events : History) → IsLegal start events → AlwaysStay events
+legal_stay start events legal early late parts a i n opened =
+    subst (λ h. IsOpenedAs i n (known_after h a)) parts (known-longer start early a i n opened late (subst (IsLegal start) (sym parts) legal))

@@ -12,14 +12,13 @@ use Rattle.history.specs.Chunks.{Chunk, chunk_of}
 use Rattle.history.specs.Touch.{touches, touches_by, generation_of}
 use Rattle.history.specs.Writes.{puts_of}
 use Rattle.history.specs.Content.{content_after, cut_to, present_shape}
-use Rattle.history.specs.Legal.{IsLegal}
 use Rattle.history.specs.Commit.{Key, Transaction, done}
 use Rattle.history.proofs.Histories.{known_after-more}
 use Rattle.history.proofs.Known.{opened_as, some_inj}
 use Rattle.history.proofs.Untouched.{content_touched}
 use Rattle.history.proofs.Generations.{generation_of-touches}
 use Rattle.history.specs.Generations.{IsTouched}
-use Rattle.history.proofs.Longer.{IsOpenedAs, known-longer}
+use Rattle.history.proofs.Longer.{IsOpenedAs, AlwaysStay}
 use Rattle.history.proofs.Written.{else_word, last_put, written-is}
 
 -- a commit leaves the last word that it puts at a cell, else the one before, and past the shape the fill
@@ -47,9 +46,9 @@ unfolding IsOpenedAs
 opened_known i n o k is info number = subst (IsOpenedAs i n) (sym is) (info, number)
 
 -- an event after its array's opening that touches a chunk is a commit or a resize
-pub touched_later : (start : Contents) (events : History) (c : Chunk) (k : Known) → IsLegal start events → known_after events c.array ≡ Some k → k.opened < generation_of events c
+pub touched_later : (events : History) (c : Chunk) (k : Known) → AlwaysStay events → known_after events c.array ≡ Some k → k.opened < generation_of events c
     → (t : IsTouched events c (generation_of events c)) × ((info : ArrayInfo) → t.event.kind ≢ Opened info)
-touched_later start events c k legal is late =
+touched_later events c k stay is late =
     let t = generation_of-touches c events (omega arith) in (
       t,
       λ info kind.
@@ -59,8 +58,7 @@ touched_later start events c k legal is late =
           let number : info.number ≡ c.array = eqb-true info.number c.array (ap (λ g. touches_by before g c) (sym kind) ∙ t.touched) in
           let now = opened_then before t.event info c.array kind number in
           let first : IsOpenedAs info (length before + 1) (known_after early c.array) = opened_known info (length before + 1) (known_after early c.array) (opened_as before info) now refl refl in
-          let last : IsOpenedAs info (length before + 1) (known_after events c.array) =
-          subst (λ h. IsOpenedAs info (length before + 1) (known_after h c.array)) parts (known-longer start early c.array info (length before + 1) first t.later (subst (IsLegal start) (sym parts) legal)) in
+          let last : IsOpenedAs info (length before + 1) (known_after events c.array) = stay early t.later parts c.array info (length before + 1) first in
           let opened = same_opened info (length before + 1) (known_after events c.array) k is last in
           let same = t.number in
           absurd (omega arith),

@@ -1,8 +1,7 @@
 -- One leaf more that is opened in a turn, and one that isn't.
 use Rattle.std.proofs.Common.{◌≡◌, ◌∙◌, ℕ, ◌+◌, List, [], ◌∷◌, ◌++◌, length, ◌⊎◌, inl, inr, Option, Some, None, Result, Ok, Err, refl, sym, ap, subst, append-nil}
-use Rattle.std.specs.Prelude.{false, option_to_list}
+use Rattle.std.specs.Prelude.{option_to_list}
 use Rattle.std.specs.List.{AllByRecursion}
-use Rattle.sessions.specs.Status.{is_ok_body}
 use Rattle.sessions.specs.declared.Body as printed
 use Rattle.sessions.specs.declared.Body.TheVariants as body
 use Rattle.cells.specs.Dense.{DenseCells}
@@ -19,7 +18,7 @@ use Rattle.history.specs.Sessions.{Names}
 use Rattle.history.specs.Steps.{IsRow}
 use Rattle.kv_face.specs.Store.{Contents}
 use Rattle.sessions.specs.AnswerBodies.{body_of}
-use Rattle.session_openings.specs.Events.{IsArrayOpened, AreTold, IsRefusalWith}
+use Rattle.session_openings.specs.Events.{IsArrayOpened, AreTold, IsRefusalWith, IsUnbound}
 use Rattle.session_openings.specs.Openings.{AreAllOpened, OpensOne, IsLeafRefused, RefusesOne}
 use Rattle.session_openings.proofs.EventLaws.{added_are, added_nothing, openings_more, failed_told, openings_told}
 use Rattle.session_openings.proofs.RefusalLaws.{memory_with, unseen_with, unseen_or}
@@ -75,26 +74,26 @@ module _ (book : BookView Opening) (old_pass new : PassView Event Opening) (node
   IsAnswered = ((answer ≡ body.Memory) × IsUnseen e) ⊎ (answer ≡ body_of (open_answer node leaf events e))
 
   module _ (first : PassView Event Opening) (leaves rest : List SpecLeaf) (so : AreAllOpened book first old_pass leaves (stored node leaf ∷ rest) arrays events) where
-    with_none : IsUnseen e → IsRefusalWith events answer → AreTold (added_by first new) answer × (is_ok_body answer ≡ false)
+    with_none : IsUnseen e → IsRefusalWith events answer → AreTold (added_by first new) answer × IsUnbound answer
     with_none unseen right =
         let same = adds_none book.fixed.store.contents turn.before new.seen old_pass.number leaf e unseen turn.answer in (
           refused_with book first old_pass new (stored node leaf) leaves rest arrays events answer so (added_nothing book first old_pass new so.opened.passed turn.before turn.added turn.turn same) right,
           right.refused,
         )
 
-    with_failed : (event : ℕ) → e ≡ error.StoreFailed event → answer ≡ body_of (open_answer node leaf events e) → AreTold (added_by first new) answer × (is_ok_body answer ≡ false)
+    with_failed : (event : ℕ) → e ≡ error.StoreFailed event → answer ≡ body_of (open_answer node leaf events e) → AreTold (added_by first new) answer × IsUnbound answer
     with_failed event is told =
         let failed : HasFailedLeaf turn.before new.seen old_pass.number leaf event = subst (λ (x : OpenError). IsOpening book.fixed.store.contents turn.before old_pass.number leaf (Err x) new.seen) is turn.answer in
         let same : answer ≡ body.StoreFailed event [] (Some events) = told ∙ ap (λ x. body_of (open_answer node leaf events x)) is in (
           inr (failed_told book first old_pass new so.opened.passed turn.before turn.added turn.turn leaf.mount event events answer (added_are book first old_pass new so.opened.passed turn.before turn.added turn.turn _ failed.added) so.openings so.opened.events_are failed.number same),
-          ap is_ok_body same,
+          (old.store_failed event [] (Some events), same, tt),
         )
 
-    by_kind : IsUnseen e ⊎ ((event : ℕ) × (e ≡ error.StoreFailed event)) → answer ≡ body_of (open_answer node leaf events e) → AreTold (added_by first new) answer × (is_ok_body answer ≡ false)
+    by_kind : IsUnseen e ⊎ ((event : ℕ) × (e ≡ error.StoreFailed event)) → answer ≡ body_of (open_answer node leaf events e) → AreTold (added_by first new) answer × IsUnbound answer
     by_kind (inl unseen) told = with_none unseen (subst (IsRefusalWith events) (sym told) (unseen_with events node leaf e unseen))
     by_kind (inr failed) told = with_failed failed.0 failed.1 told
 
-    events_told : IsAnswered → AreTold (added_by first new) answer × (is_ok_body answer ≡ false)
+    events_told : IsAnswered → AreTold (added_by first new) answer × IsUnbound answer
     events_told (inl wants) = with_none wants.1 (subst (IsRefusalWith events) (sym wants.0) (memory_with events))
     events_told (inr told) = by_kind (unseen_or e) told
 
@@ -128,7 +127,7 @@ pub refuses_before : (book : BookView Opening) (pass : PassView Event Opening) (
 refuses_before book pass wanted arrays events first leaves rest so = record {
   passed = so.opened.passed;
   events = refused_with book first pass pass wanted leaves rest arrays events body.Memory so refl (memory_with events);
-  refused = refl;
+  refused = (old.memory, refl, tt);
   told = λ start is. (
     old.memory,
     refl,
@@ -143,7 +142,7 @@ refuses_behind book old_pass new wanted arrays events turn first leaves rest so 
   events =
       refused_with book first old_pass new wanted leaves rest arrays events body.Memory so (added_nothing book first old_pass new so.opened.passed new.seen [] turn refl)
       (memory_with events);
-  refused = refl;
+  refused = (old.memory, refl, tt);
   told = λ start is. (
     old.memory,
     refl,

@@ -1,6 +1,7 @@
 -- Rows of lines that open, and the names behind them.
 use Rattle.std.proofs.Common.{◌≡◌, ◌∙◌, ℕ, ◌+◌, suc, Bool, List, [], ◌∷◌, length, ◌⊎◌, inl, inr, Option, Some, None, Result, Ok, Err, refl, sym, ap, subst, arith, is_some}
 use Rattle.std.specs.Prelude.{false}
+use Rattle.std.specs.FinMap as finmap
 use Rattle.std.specs.List.{AllByRecursion}
 use Rattle.sessions.specs.Status.{is_ok_body}
 use Rattle.sessions.specs.declared.Body as printed
@@ -19,7 +20,7 @@ use Rattle.history.specs.Steps.{IsRow, IsAnswered, done_line, open_done, open_un
 use Rattle.history.specs.Viewing.{opened_body}
 use Rattle.kv_face.specs.Store.{Contents}
 use Rattle.sessions.specs.AnswerBodies.{body_of}
-use Rattle.sessions.specs.Caused.{IsCausedBy, by_none, by_opening}
+use Rattle.sessions.specs.Caused.{IsCausedAct, IsCausedBy, IsOpenRefusal, by_act, open_made, open_none}
 use Rattle.sessions.specs.Causes.{build_cause}
 use Rattle.sessions.specs.MeaningOpenings.{leaf_of, node_of, leaves_from, leaves_of, build_cause_of, by_built, build_of}
 use Rattle.sessions.proofs.Laws.{build_within}
@@ -28,7 +29,7 @@ use Rattle.session_openings.specs.Opened.{IsUnbuilt, IsBuiltBy, IsBoundToPlan, I
 use Rattle.session_openings.specs.Openings.{AreAllOpened, IsLeafRefused}
 use Rattle.session_openings.proofs.EventLaws.{openings_told}
 use Rattle.session_openings.proofs.PlanLaws.{length-leaves, build-full}
-use Rattle.session_openings.proofs.RefusalLaws.{memory_with}
+use Rattle.session_openings.proofs.RefusalLaws.{memory_with, unbound_not_ok}
 use Rattle.sessions.specs.Opening.{AreOpenedBy}
 use Rattle.sessions.specs.Turns.{IsRested, HasPassed, added_by}
 use Rattle.sessions.proofs.Laws.{none_added, passed_alone, kept_bound, outside_none}
@@ -105,6 +106,20 @@ module _ (book : BookView Opening) (first now : PassView Event Opening) (plan : 
         (λ t line. open_unbuilt (so.opened.told start is).2 (build-full plan arrays count ∙ ap by_built made))),
   )
 
+  abbrev Cause : Names → Body → Type 0
+  Cause ns b = (t : Option TxnSeen) (line : ℕ) → IsCausedAct (fixed_by book.fixed finmap.empty) first.number now.seen (session_state names (length first.seen) t) line (opens name (leaves_of plan) (build_of plan)) ns (transaction_in t) b (added_by first now)
+
+  abbrev Caused : Type 0
+  Caused = (b : Body) × (answer ≡ body_of b) × Cause later b
+
+  caused_none : (b : Body) → answer ≡ body_of b → IsOpenRefusal b → later ≡ names → Caused
+  caused_none b told refusal same = (b, told, subst (λ ns. Cause ns b) (sym same) (λ t line. open_none refusal))
+
+  caused_bound : (view : View) → built arrays plan.tree ≡ Ok view → answer ≡ body.Opened name (look_of view).dtype (own_transform view).domain (numbers_of (added_by first now)) → later ≡ bind names name view → Caused
+  caused_bound view made told bound =
+      let b : Body = opened_body name view (numbers_of (added_by first now)) in
+      (b, told, subst (λ ns. Cause ns b) (sym bound) (λ t line. open_made arrays (build-full plan arrays count ∙ ap by_built made)))
+
   told_with : TellsOpenings events answer → failure_in answer ≡ None → AreTold (added_by first now) answer
   told_with told none = openings_told (added_by first now) events answer so.openings so.opened.events_are told none
 
@@ -116,6 +131,7 @@ module _ (book : BookView Opening) (first now : PassView Event Opening) (plan : 
     passed = so.opened.passed;
     events = told_with (subst (TellsOpenings events) (sym wants) (memory_with events).told) (ap failure_in wants);
     bound = inr (same, ap is_ok_body wants);
+    caused = caused_none old.memory wants tt same;
     told = λ start is. told_wanting start is wants same;
   }
 
@@ -133,6 +149,7 @@ module _ (book : BookView Opening) (first now : PassView Event Opening) (plan : 
       bound = bound;
       told = told ∙ ap (λ es. body.Opened name (look_of view).dtype (own_transform view).domain es) (sym so.opened.events_are);
     });
+    caused = caused_bound view made (told ∙ ap (λ es. body.Opened name (look_of view).dtype (own_transform view).domain es) (sym so.opened.events_are)) bound;
     told = λ start is. told_bound start view is made told bound;
   }
 
@@ -141,6 +158,7 @@ module _ (book : BookView Opening) (first now : PassView Event Opening) (plan : 
     passed = so.opened.passed;
     events = told_with (subst (TellsOpenings events) (sym told) (λ es is. tells es is)) (ap failure_in told);
     bound = inr (same, ap is_ok_body told);
+    caused = caused_none (old.refused_spec path (build_cause_of cause) events) (told ∙ ap (λ c. body.RefusedSpec path c events) (sym (same_cause cause))) tt same;
     told = λ start is. told_unbuilt start path cause is made told same;
   }
   unbuilt build_error.Memory made told same = no_view told same
@@ -162,7 +180,8 @@ pub line_refused : (book : BookView Opening) (first now : PassView Event Opening
 line_refused book first now plan names name answer refused = record {
   passed = refused.passed;
   events = refused.events;
-  bound = inr (refl, refused.refused);
+  bound = inr (refl, ap is_ok_body refused.refused.1 ∙ unbound_not_ok refused.refused.0 refused.refused.2);
+  caused = (refused.refused.0, refused.refused.1, λ t line. open_none refused.refused.2);
   told = λ start is. let p = refused.told start is in (p.0, p.1, λ t line. p.2 names t line name (build_of plan));
 }
 
@@ -194,11 +213,10 @@ view_known first now plan name names later answer over bound =
 pub refused_alone : (pass : PassView Event Opening) → AreTold (added_by pass pass) body.InTransaction
 refused_alone pass = subst (λ own. AreTold own body.InTransaction) (sym (none_added pass)) (inl (record { are = tt; told = λ events is. absurd (let no_such : ⊥ = cc in no_such); none = refl }))
 
--- over any store, a name is bound to the view that the Spec builds, or none is
-pub opening_caused : (book : BookView Opening) (first now : PassView Event Opening) (plan : OpenPlan) (name : Text) (names later : Names) (t : Option TxnSeen) (line : ℕ) (answer : printed.Body) → IsBoundOrNot first now plan name names later answer
+-- over any store, outside of a transaction, the line is answered for its cause
+pub opening_caused : (book : BookView Opening) (first now : PassView Event Opening) (plan : OpenPlan) (names later : Names) (name : Text) (answer : printed.Body) (t : Option TxnSeen) (line : ℕ) → is_some t ≡ false → IsLineOpened book first now names later name plan answer
     → IsCausedBy book first now (session_state names (length first.seen) t) line (opening name (leaves_of plan) (build_of plan)) later (transaction_in t) answer
-opening_caused book first now plan name names later t line answer (inl bound) =
-    subst (λ ns. IsCausedBy book first now (session_state names (length first.seen) t) line (opening name (leaves_of plan) (build_of plan)) ns (transaction_in t) answer) (sym bound.bound)
-    (by_opening bound.arrays (build-full plan bound.arrays bound.count ∙ ap by_built bound.made))
-opening_caused book first now plan name names later t line answer (inr same) =
-    subst (λ ns. IsCausedBy book first now (session_state names (length first.seen) t) line (opening name (leaves_of plan) (build_of plan)) ns (transaction_in t) answer) (sym same.0) by_none
+opening_caused book first now plan names later name answer t line none opened =
+    let cause = opened.caused in
+    subst (IsCausedBy book first now (session_state names (length first.seen) t) line (opening name (leaves_of plan) (build_of plan)) later (transaction_in t)) (sym cause.1)
+    (by_act (outside_none t (Ok (opens name (leaves_of plan) (build_of plan))) none) (cause.2 t line))

@@ -1,13 +1,15 @@
 -- The events that a line adds when it opens a Spec, and what its answer tells of them.
-use Rattle.std.specs.Prelude.{◌≡◌, ◌⊎◌, ℕ, List, [], ◌∷◌, ◌++◌, Option, Some, None, false}
+use Rattle.std.specs.Prelude.{◌≡◌, ◌⊎◌, ℕ, List, [], ◌∷◌, ◌++◌, Option, Some, None}
 use Rattle.std.specs.List.{AllByRecursion}
-use Rattle.sessions.specs.Status.{is_ok_body}
 use Rattle.sessions.specs.declared.Body.{Body}
 use Rattle.sessions.specs.declared.Body.TheVariants as body
 use Rattle.history.specs.declared.array.ArrayInfo.{ArrayInfo}
 use Rattle.history.specs.declared.event.Kind.TheVariants.{Opened, Fault}
+use Rattle.history.specs.Answers as old
 use Rattle.history.specs.Answers.{Text}
 use Rattle.history.specs.Own.{Numbered, numbers_of}
+use Rattle.sessions.specs.AnswerBodies.{body_of}
+use Rattle.sessions.specs.Caused.{IsOpenRefusal}
 
 -- an array was opened
 abbrev pub IsArrayOpened : Numbered → Type 0
@@ -54,8 +56,12 @@ pub record AreOpenings (own : List Numbered) (answer : Body) : Type 0 where
 abbrev pub AreTold : List Numbered → Body → Type 0
 AreTold own answer = AreOpenings own answer ⊎ HasFailed own answer
 
--- an answer that isn't Ok, tells no failed call, and of openings these numbers
+-- the printed answer to an open line that binds no name
+abbrev pub IsUnbound : Body → Type 0
+IsUnbound answer = (refusal : old.Body) × (answer ≡ body_of refusal) × IsOpenRefusal refusal
+
+-- an answer that binds no name, tells no failed call, and of openings these numbers
 pub record IsRefusalWith (numbers : List ℕ) (answer : Body) : Type 0 where
-  pub refused : is_ok_body answer ≡ false
+  pub refused : IsUnbound answer
   pub none : failure_in answer ≡ None
   pub told : TellsOpenings numbers answer

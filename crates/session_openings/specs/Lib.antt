@@ -18,6 +18,7 @@ pub use Rattle.sessions.specs.MeaningOpenings
 pub use Rattle.sessions.specs.AnswerBodies as Bodies
 pub use Rattle.sessions.specs.Refusals
 pub use Rattle.sessions.specs.TxnTurns
+pub use Rattle.sessions.specs.CommitCauses
 pub use Rattle.sessions.specs.Committing
 pub use Rattle.sessions.specs.Conditions
 pub use Rattle.sessions.specs.Opening

@@ -1,5 +1,6 @@
 -- What a session answers to a line that opens a Spec, and what the line leaves.
 use Rattle.std.specs.Prelude.{◌≡◌, ◌⊎◌, ℕ, List, length, false, Option, Some, Result, Ok, Err}
+use Rattle.std.specs.FinMap as finmap
 use Rattle.std.specs.List.{AllByRecursion}
 use Rattle.sessions.specs.Status.{is_ok_body}
 use Rattle.sessions.specs.declared.Body as printed
@@ -15,6 +16,7 @@ use Rattle.kv_face.specs.Store.{Contents}
 use Rattle.sessions.specs.AnswerBodies.{body_of}
 use Rattle.sessions.specs.MeaningOpenings.{leaves_of, build_of}
 use Rattle.session_openings.specs.Events.{AreTold}
+use Rattle.sessions.specs.Caused.{IsCausedAct}
 use Rattle.sessions.specs.Turns.{HasPassed, added_by}
 use Rattle.sessions.specs.Standing.{session_state, transaction_in}
 use Rattle.sessions.specs.Told.{IsBoundAs}
@@ -57,11 +59,13 @@ pub record IsBoundToPlan (first now : PassView Event Opening) (plan : OpenPlan) 
 abbrev pub IsBoundOrNot : PassView Event Opening → PassView Event Opening → OpenPlan → Text → Names → Names → printed.Body → Type 0
 IsBoundOrNot first now plan name names later answer = IsBoundToPlan first now plan name names later answer ⊎ ((later ≡ names) × (is_ok_body answer ≡ false))
 
--- a line that opens: the pass rests, the answer tells the line's events, and the name is bound or nothing is; where the store told its
--- contents at the start, the answer is that of a row, by which the names are these
+-- a line that opens: the pass rests, the answer tells the line's events, and the name is bound or nothing is; its act is answered for its cause; where
+-- the store told its contents at the start, the answer is that of a row, by which the names are these
 pub record IsLineOpened (book : BookView Opening) (first now : PassView Event Opening) (names later : Names) (name : Text) (plan : OpenPlan) (answer : printed.Body) : Type 0 where
   pub passed : HasPassed book first now
   pub events : AreTold (added_by first now) answer
   pub bound : IsBoundOrNot first now plan name names later answer
+  pub caused : (b : Body) × (answer ≡ body_of b)
+      × ((t : Option TxnSeen) (line : ℕ) → IsCausedAct (fixed_by book.fixed finmap.empty) first.number now.seen (session_state names (length first.seen) t) line (opens name (leaves_of plan) (build_of plan)) later (transaction_in t) b (added_by first now))
   pub told : (start : Contents) → book.fixed.store.contents ≡ Some start → (b : Body) × (answer ≡ body_of b)
       × ((t : Option TxnSeen) (line : ℕ) → IsRow (fixed_by book.fixed start) first.number now.seen (session_state names (length first.seen) t) line (opens name (leaves_of plan) (build_of plan)) later (transaction_in t) b (added_by first now))

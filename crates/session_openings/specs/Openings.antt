@@ -1,7 +1,6 @@
 -- A Spec's leaves as they are opened one after another, over every store.
-use Rattle.std.specs.Prelude.{◌≡◌, ◌<◌, ℕ, List, ◌∷◌, length, vec_capacity, false, Option, Some}
+use Rattle.std.specs.Prelude.{◌≡◌, ◌<◌, ℕ, List, ◌∷◌, length, vec_capacity, Option, Some}
 use Rattle.std.specs.List.{AllByRecursion}
-use Rattle.sessions.specs.Status.{is_ok_body}
 use Rattle.sessions.specs.declared.Body as printed
 use Rattle.history.specs.declared.event.Event.{Event}
 use Rattle.history.specs.Acts.{opens}
@@ -11,7 +10,7 @@ use Rattle.history.specs.Sessions.{Names}
 use Rattle.history.specs.Steps.{IsRow}
 use Rattle.kv_face.specs.Store.{Contents}
 use Rattle.sessions.specs.AnswerBodies.{body_of}
-use Rattle.session_openings.specs.Events.{IsArrayOpened, AreTold}
+use Rattle.session_openings.specs.Events.{IsArrayOpened, AreTold, IsUnbound}
 use Rattle.session_openings.specs.declared.opening.OpenedArrays.{OpenedArrays}
 use Rattle.sessions.specs.Opening.{AreOpenedBy}
 use Rattle.sessions.specs.Turns.{HasPassed, added_by}
@@ -32,12 +31,12 @@ abbrev pub OpensOne : BookView Opening → PassView Event Opening → PassView E
 OpensOne book old new leaf arrays events later_arrays later_events = (first : PassView Event Opening) (leaves rest : List SpecLeaf)
     → AreAllOpened book first old leaves (leaf ∷ rest) arrays events → AreAllOpened book first new leaves rest later_arrays later_events
 
--- a line whose leaf isn't opened: the pass rests, the answer tells the line's events and is not Ok; where the store told its contents at
+-- a line whose leaf isn't opened: the pass rests, the answer tells the line's events and binds no name; where the store told its contents at
 -- the start, it is that of a row
 pub record IsLeafRefused (book : BookView Opening) (first now : PassView Event Opening) (leaves : List SpecLeaf) (answer : printed.Body) : Type 0 where
   pub passed : HasPassed book first now
   pub events : AreTold (added_by first now) answer
-  pub refused : is_ok_body answer ≡ false
+  pub refused : IsUnbound answer
   pub told : (start : Contents) → book.fixed.store.contents ≡ Some start → (b : Body) × (answer ≡ body_of b)
       × ((names : Names) (t : Option TxnSeen) (line : ℕ) (name : Text) (build : Build) → IsRow (fixed_by book.fixed start) first.number now.seen (session_state names (length first.seen) t) line (opens name leaves build) names (transaction_in t) b (added_by first now))
 

@@ -8,6 +8,7 @@ ghost use Rattle.history.specs.Legal.{IsMount};
 ghost use Rattle.history.specs.Lines.{opening, given, stored};
 ghost use Rattle.indexmap.specs.IndexMap.{get_by_text};
 ghost use Rattle.sessions.specs.AnswerBodies.{body_of};
+ghost use Rattle.sessions.specs.Caused.{IsCausedBy};
 ghost use Rattle.sessions.specs.MeaningOpenings.{leaf_of, node_of, leaves_from, leaves_of, build_of};
 ghost use Rattle.session_openings.specs.Events.{AreTold};
 ghost use Rattle.session_openings.specs.Opened.{IsBoundOrNot, IsBuiltBy, IsLineOpened};
@@ -58,6 +59,9 @@ pub fn open<K: KvStore, R: Wait, G: Gate>(
     requires views { AreViews (get_by_text names.old) }
     requires known { AreKnownNames pass.old.seen (get_by_text names.old) }
     ensures told { (line : ℕ) → IsToldBy around.now.book.now pass.old pass.new
+        (session_state (get_by_text names.old) (length pass.old.seen) txn.now) line
+        (opening name.now (leaves_of plan) (build_of plan)) (get_by_text names.new) (transaction_in txn.now) result }
+    ensures caused { (line : ℕ) → IsCausedBy around.now.book.now pass.old pass.new
         (session_state (get_by_text names.old) (length pass.old.seen) txn.now) line
         (opening name.now (leaves_of plan) (build_of plan)) (get_by_text names.new) (transaction_in txn.now) result }
     ensures events { AreTold (added_by pass.old pass.new) result }

@@ -1,7 +1,9 @@
 -- Lines that are answered for their causes, one after another.
 use Rattle.std.proofs.Common.{◌≡◌, ◌∙◌, ℕ, ◌+◌, Bool, true, false, List, [], ◌∷◌, ◌++◌, length, Option, Some, None, refl, sym, ap, subst}
+use Rattle.std.specs.Prelude.{◌≢◌}
 use Rattle.std.specs.FinMap as finmap
 use Rattle.history.specs.declared.event.Event.{Event}
+use Rattle.history.specs.Acts.{act_of}
 use Rattle.history.specs.Commit.{Fixed, Transaction}
 use Rattle.history.specs.Lines.{Line}
 use Rattle.history.specs.Sessions.{Names, SessionState, at_first}
@@ -9,19 +11,21 @@ use Rattle.session_openings.specs.declared.Body.{Body}
 use Rattle.session_openings.specs.declared.Body.TheVariants as printed
 use Rattle.session_openings.specs.Agreement.{Opening}
 use Rattle.session_openings.specs.Answers.{fixed_by}
-use Rattle.session_openings.specs.Caused.{IsCaused, IsCausedBy, by_line}
+use Rattle.session_openings.specs.Caused.{IsCaused, IsCausedBy}
 use Rattle.session_openings.specs.Standing.{session_state, transaction_in}
 use Rattle.session_openings.specs.Told.{IsTold}
 use Rattle.session_openings.specs.Turns.{HasPassed, added_by}
+use Rattle.session_openings.proofs.Laws.{IsPlainAsked, plain_caused}
 use Rattle.session_runs.specs.Causes.{AreCaused, blank_given, last_given, line_given, none_given}
 use Rattle.session_runs.specs.Session.{IsCausedTo, SessionSeen, state_of}
 use Rattle.turn_book.specs.Passes.{BookView, PassView}
 
--- a line of which the history has a row whatever the store holds
-pub anywhere_caused : (book : BookView Opening) (old_pass new : PassView Event Opening) (s : SessionState) (line : ℕ) (asked : Line) (names : Names) (t : Option Transaction) (answer : Body) → added_by old_pass new ≡ []
+-- a line that looks at no store, and adds no event
+pub anywhere_caused : (book : BookView Opening) (old_pass new : PassView Event Opening) (s : SessionState) (line : ℕ) (asked : Line) (names : Names) (t : Option Transaction) (answer : Body) → added_by old_pass new ≡ [] → IsPlainAsked (act_of s.names s.transaction asked)
     → ((fixed : Fixed) → IsTold fixed old_pass.number new.seen s line asked names t answer []) → IsCausedBy book old_pass new s line asked names t answer
-anywhere_caused book old_pass new s line asked names t answer none told =
-    subst (IsCaused (fixed_by book.fixed finmap.empty) old_pass.number new.seen s line asked names t answer) (sym none) (by_line (λ start. told (fixed_by book.fixed start)))
+anywhere_caused book old_pass new s line asked names t answer none plain told =
+    let anywhere : Fixed = fixed_by book.fixed finmap.empty in
+    subst (IsCaused anywhere old_pass.number new.seen s line asked names t answer) (sym none) (plain_caused anywhere anywhere old_pass.number new.seen s line asked names t answer [] plain (told anywhere))
 
 -- before the first line
 pub caused_first : (fixed : Fixed) (s : SessionSeen) → s.pass.seen ≡ [] → s.log ≡ [] → at_first ≡ state_of s → IsCausedTo fixed s []
@@ -67,10 +71,10 @@ module _ (book : BookView Opening) (was now : SessionSeen) (lines : List (Option
       subst (λ n. AreCaused fixed n (lines ++ Some asked ∷ []) now.log now.pass.seen last) (sym passed.number)
       (subst (λ l. AreCaused fixed was.pass.number (lines ++ Some asked ∷ []) l now.pass.seen last) log_is are)
 
-  goes_on : IsCausedTo fixed now (lines ++ Some asked ∷ [])
-  goes_on = record {
+  goes_on : answer ≢ printed.Memory → IsCausedTo fixed now (lines ++ Some asked ∷ [])
+  goes_on other = record {
     last = Some (state_of now);
-    are = as_logged (Some (state_of now)) (line_given (goes fixed was lines going before) passed.before at_line);
+    are = as_logged (Some (state_of now)) (line_given (goes fixed was lines going before) passed.before other at_line);
     ongoing = λ on. refl;
   }
 
@@ -84,9 +88,9 @@ module _ (book : BookView Opening) (was now : SessionSeen) (lines : List (Option
     ongoing = λ on. absurd (let clash : true ≡ false = sym ended ∙ on in let no_such : ⊥ = cc in no_such);
   }
 
-  pub caused_next : (now.ended ≡ true → answer ≡ printed.Memory) → IsCausedTo fixed now (lines ++ Some asked ∷ [])
-  caused_next only = by now.ended refl
+  pub caused_next : (now.ended ≡ true → answer ≡ printed.Memory) → (answer ≡ printed.Memory → now.ended ≡ true) → IsCausedTo fixed now (lines ++ Some asked ∷ [])
+  caused_next only all = by now.ended refl
     where
       by : (e : Bool) → now.ended ≡ e → IsCausedTo fixed now (lines ++ Some asked ∷ [])
       by true e = ends (only e) e
-      by false e = goes_on
+      by false e = goes_on (λ wants. let clash : true ≡ false = sym (all wants) ∙ e in let no_such : ⊥ = cc in no_such)

@@ -1,6 +1,8 @@
 pub mod EndRows
 pub mod Failing
 pub mod CauseLaws
+pub mod Quiet
+pub mod Foreign
 pub mod StepLaws
 pub mod LineLaws
 pub mod ScriptLaws

@@ -184,7 +184,7 @@ session_next book was now lines line asked answer going passed told logged only 
       ap (map (λ (a : Answer). a.line)) logged ∙ map-append (λ (a : Answer). a.line) was.log (record { line = line; body = answer } ∷ []) ∙ ap (λ ns. ns ++ line ∷ []) on.answered
       ∙ sym (numbers_more 1 line lines asked (at ∙ omega arith));
   failed = failed_next book was.pass now.pass was.log now.log (record { line = line; body = answer }) passed logged tells on.failed;
-  caused = caused_next book was now lines line asked answer going passed cause logged at on.caused only;
+  caused = caused_next book was now lines line asked answer going passed cause logged at on.caused only all;
   told = λ start is. by start is now.ended refl;
   fit = fit;
 }

@@ -9,6 +9,7 @@ pub mod Sends
 pub mod Worked
 pub mod NamesCopied
 pub mod Finishing
+pub mod Foreign
 pub mod Alone
 pub mod RunLaws
 pub mod Laws

@@ -87,6 +87,11 @@ pub log_caused : (book : BookView Opening) (mounts : List (List ℕ)) (history :
 log_caused book mounts history k script log is =
     let to = is.run.on.caused in
     let seen = is.session.pass.seen in
+    let rest = is.seen.0 in
+    let parts : seen ++ rest ≡ history = is.seen.1 in
+    let own : entries_of owner_of k seen ≡ is.session.pass.mine = subst (λ n. entries_of owner_of n seen ≡ is.session.pass.mine) is.number_is is.run.on.rested.own in
+    let none : entries_of owner_of k rest ≡ [] = no_other k seen rest (ap (entries_of owner_of k) parts ∙ is.own ∙ sym own) in
+    let behind : drop (length seen) history ≡ rest = ap (drop (length seen)) (sym parts) ∙ drop_front seen rest in
     record {
       given = is.run.given;
       left = is.run.left;
@@ -96,6 +101,7 @@ log_caused book mounts history k script log is =
       last = to.last;
       are = subst (λ n. AreCaused (fixed_by book.fixed finmap.empty) n is.run.given log seen to.last) is.number_is
           (subst (λ l. AreCaused (fixed_by book.fixed finmap.empty) is.session.pass.number is.run.given l seen to.last) is.log_is to.are);
+      no_more = ap (own_events k (length seen + 1)) behind ∙ own-none k (length seen + 1) rest none;
     }
 
 -- logs of sessions are printed ones of a run

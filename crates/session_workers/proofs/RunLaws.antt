@@ -1,5 +1,5 @@
 -- A run over mounts is one that its contract says.
-use Rattle.std.proofs.Common.{◌≡◌, ◌∙◌, ℕ, ◌+◌, Bool, true, List, [], ◌∷◌, ◌++◌, map, length, Option, Some, None, refl, sym, ap, subst, arith}
+use Rattle.std.proofs.Common.{◌≡◌, ◌∙◌, ℕ, ◌+◌, ◌<◌, Bool, true, List, [], ◌∷◌, ◌++◌, map, length, Option, Some, None, refl, sym, ap, subst, arith}
 use Rattle.std.specs.Prelude.{count_by}
 use mathlib.Core.List.{IsPrefix}
 use Rattle.std.specs.FinMap as finmap
@@ -20,10 +20,12 @@ use Rattle.session_workers.specs.Caused.{IsCausedLog}
 use Rattle.session_workers.specs.Finished.{AreBack, IsRun}
 use Rattle.session_workers.specs.MountRuns.{fixed_over, IsPrintedRun, IsEmptyMount, IsSerialRun, IsSingleRun}
 use Rattle.session_workers.proofs.Alone.{alone_where, alone_run}
+use Rattle.session_workers.proofs.Chosen.{below as place_below, got}
+use Rattle.session_workers.proofs.Foreign.{log_foreign}
 use Rattle.session_workers.proofs.Finishing.{names_stay, union_stays, prefixes_stay, count_stays, own_counts, counts_rise, counts_sum, faults_rise, listed_rise, all_closed}
 use Rattle.serial_runs.specs.Runs.{IsRunOf, AreLogs, AreOfMount}
 use Rattle.serial_runs.specs.Serial.{IsSerial}
-use Rattle.serial_runs.proofs.Laws.{logs_foreign, run_alike, serial}
+use Rattle.serial_runs.proofs.Laws.{run_alike, serial}
 use Rattle.session_workers.specs.Workers.{AreSessionLogs, AreWhole, asked_by, numbers_from}
 use Rattle.session_workers.specs.Runs.{ArePrinted}
 use Rattle.session_workers.proofs.Joined.{joined}
@@ -113,7 +115,6 @@ module _ (scripts : List (List ℕ)) (old mid new : List Part) (limit : ℕ) (lo
         answers = printed.answers;
         printed = printed.printed;
         run = run_of start holds printed;
-        foreign = logs_foreign (fixed_over old start) log.events (map (asked_by (names_of old)) scripts) printed.answers holds.legal printed.are;
         store = holds.contents;
         still = union_stays mid new finished ∙ holds.told;
       }
@@ -192,6 +193,8 @@ module _ (scripts : List (List ℕ)) (old mid new : List Part) (limit : ℕ) (lo
     caused = λ k script answers here at.
         subst (λ (o : Opening). IsCausedLog (fixed_by o finmap.empty) (names_of old) log.events k script answers) ended.fixed
         (log_caused ended.book (names_of old) log.events k script answers (ended.each k script answers here at));
+    foreign = λ k answers at. let script = got scripts k (subst (λ n. k < n) ended.count (place_below logs k answers at)) in
+        log_foreign ended.book (names_of old) log.events k script.0 answers agrees.outline (ended.each k script.0 answers script.1 at);
     owners = ended.owners;
     back = back are;
     told = printed_run;

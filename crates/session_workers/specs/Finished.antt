@@ -13,6 +13,7 @@ use Rattle.kv_mounts.specs.Parts.{Part, AreMounts, names_of}
 use Rattle.kv_mounts.specs.Union.{faults_of, has_failed, prefixes_of, union_of}
 use Rattle.session_runs.specs.Failures.{failures_by, failures_of}
 use Rattle.session_workers.specs.Caused.{IsCausedLog}
+use Rattle.session_workers.specs.Foreign.{AreForeign}
 use Rattle.session_workers.specs.MountRuns.{fixed_over, IsPrintedRun, IsEmptyMount, IsSerialRun, IsSingleRun}
 use Rattle.state_laws.specs.Agreement.{is_fault}
 -- what a script asks, and that a log has its answers
@@ -57,6 +58,8 @@ pub record IsRun (scripts : List (List ℕ)) (old new : List Part) (history : Hi
   -- which for conflict, shrunk, not_atomic, too_many_chunks and store_failed is told
   pub caused : (k : ℕ) (script : List ℕ) (log : List Answer) → slice_get scripts k ≡ Some script → slice_get logs k ≡ Some log
       → IsCausedLog (fixed_over old finmap.empty) (names_of old) history k script log
+  -- each conflict names a chunk that a later commit or resize of another session touched
+  pub foreign : AreForeign history logs
   pub owners : AllByRecursion (λ (e : Event). e.owner < length scripts) history
   pub back : AreBack old new history unfinished
   -- where the stores told their contents, the history is legal, the logs are those of sessions that ran the scripts over it, and the stores hold what it

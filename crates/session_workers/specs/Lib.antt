@@ -1,6 +1,7 @@
 pub mod Workers
 pub mod Runs
 pub mod Caused
+pub mod Foreign
 pub mod Alone
 pub mod MountRuns
 pub mod Finished

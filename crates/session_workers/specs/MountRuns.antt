@@ -11,7 +11,6 @@ use Rattle.kv_mounts.specs.Parts.{Part, names_of}
 use Rattle.kv_mounts.specs.Union.{union_of, prefixes_of, change_count_of}
 use Rattle.session_runs.specs.Bodies.{answer_of}
 use Rattle.session_workers.specs.Alone.{IsAloneRun}
-use Rattle.serial_runs.specs.Foreign.{AreForeign}
 use Rattle.serial_runs.specs.Runs.{IsRunOf}
 use Rattle.serial_runs.specs.Serial.{IsSerial}
 use Rattle.session_workers.specs.Workers.{asked_by}
@@ -20,14 +19,12 @@ use Rattle.session_workers.specs.Workers.{asked_by}
 abbrev pub fixed_over : List Part → Contents → Fixed
 fixed_over parts start = record { start = start; prefixes = prefixes_of parts }
 
--- the logs are printed ones of a run of the scripts' lines: the history is legal, each log is one of a session on its lines, each conflict is with another
--- session, and the stores hold what the history says and were changed as often as it says
+-- the logs are printed ones of a run of the scripts' lines: the history is legal, each log is one of a session on its lines, and the stores hold what the
+-- history says and were changed as often as it says
 pub record IsPrintedRun (start : Contents) (scripts : List (List ℕ)) (old new : List Part) (history : History) (logs : List (List Answer)) : Type 0 where
   pub answers : List (List plain.Answer)
   pub printed : logs ≡ map (map answer_of) answers
   pub run : IsRunOf (fixed_over old start) (map (asked_by (names_of old)) scripts) history answers (union_of new) (change_count_of old) (change_count_of new)
-  -- each conflict names a chunk that a later commit or resize of another session touched
-  pub foreign : AreForeign history answers
   -- the stores still tell what they hold
   pub store : Contents
   pub still : union_of new ≡ Some store

@@ -1,9 +1,13 @@
 -- What lines are answered over any store, for their causes.
 use Rattle.std.proofs.Common.{◌≡◌, ◌∙◌, ◌⊎◌, inl, inr, ℕ, ◌+◌, ◌==◌, false, cond, List, [], ◌∷◌, ◌++◌, length, Option, Some, None, Result, Ok, Err, refl, sym, ap, subst, arith, append-nil}
 use Rattle.std.proofs.lemmas.Bool.Decides.{nat_tests}
+use Rattle.std.specs.Prelude.{◌≢◌}
 use Rattle.std.specs.FinMap as finmap
+use Rattle.chunk_elements.specs.declared.error.ChunkError.TheVariants as chunk
+use Rattle.chunk_forms.specs.declared.form.Damage.{Damage}
+use Rattle.chunk_forms.specs.declared.form.Damage.TheVariants as damage
 use Rattle.history.specs.declared.event.Event.{Event}
-use Rattle.history.specs.Acts.{reads, writes, resizes, act_of, without}
+use Rattle.history.specs.Acts.{Act, Asked, reads, writes, resizes, act_of, without}
 use Rattle.history.specs.Answers as old_answers
 use Rattle.history.specs.Answers.{Text}
 use Rattle.history.specs.Arrays.{known_after}
@@ -16,10 +20,11 @@ use Rattle.history.specs.Refusals.{HasTooManyCut, IsNotAtomicResize}
 use Rattle.history.specs.ResizeRows.{MayResize}
 use Rattle.history.specs.Sessions.{Names, SessionState, plain_mode, reader}
 use Rattle.history.specs.Shown.{AreMarked, after_read}
-use Rattle.history.specs.Steps.{write_alone}
+use Rattle.history.specs.Steps.{IsRow, open_done, open_refused, open_unbuilt, open_failed, open_wanting, view_done, read_done, read_shrunk, read_damaged, read_failed, write_staged, write_done, begin_done, commit_done, abort_done, resize_done, resize_many, resize_split, resize_damaged, resize_failed, resolve_done, resolve_refused, IsAnswered, refused_line, wanting, done_line, write_alone}
 use Rattle.history.specs.Viewing.{cell_fault, values_body}
+use Rattle.n5_blocks.specs.declared.chunk.BlockError.TheVariants as block
 use Rattle.session_turns.specs.declared.Body.{Body}
-use Rattle.session_turns.specs.declared.Body.TheVariants.{Memory, NoTransaction}
+use Rattle.session_turns.specs.declared.Body.TheVariants.{Conflict, Memory, NoTransaction}
 use Rattle.session_turns.specs.declared.CommitRefused.{CommitRefused}
 use Rattle.session_turns.specs.declared.CommitRefused.TheVariants as refused
 use Rattle.session_turns.specs.declared.ReadError.{ReadError}
@@ -35,30 +40,84 @@ use Rattle.session_turns.specs.CommitCauses.{IsCausedCommit, for_memory_first}
 use Rattle.session_turns.specs.Committing.{HasCommitted, IsCommittedIn, IsCommitTurn}
 use Rattle.session_turns.specs.Reading.{IsFoundUnless, IsReadError}
 use Rattle.session_turns.specs.Standing.{session_state, transaction_in}
-use Rattle.session_turns.specs.Told.{IsAnswerTo, IsToldAlone}
+use Rattle.session_turns.specs.Told.{IsAnswerTo, IsTold, IsToldAlone}
 use Rattle.session_turns.specs.Turns.{IsRested, IsResizeTurn, added_by}
 use Rattle.session_turns.specs.Txn.{TxnSeen, transaction_of}
-use Rattle.session_turns.proofs.Laws.{commit_caused, found_all, none_added, own_of_turn, same_rest, told_refused}
+use Rattle.session_turns.proofs.Laws.{commit_caused, found_all, none_added, own_of_turn, same_rest}
 use Rattle.sessions.specs.Bodies.{resized_answer}
-use Rattle.sessions.specs.Caused.{IsCaused, IsCausedAct, IsCausedBy, by_act, by_line, by_memory, commit_made, read_cut, read_failing, read_given, read_spoilt, resize_apart, resize_failing, resize_made, resize_much, resize_spoilt, write_made}
+use Rattle.sessions.specs.Caused.{IsCaused, IsCausedAct, IsCausedBy, abort_made, begin_made, by_act, by_line, by_memory, commit_made, read_cut, read_failing, read_given, read_spoilt, resize_apart, resize_failing, resize_made, resize_much, resize_spoilt, resolve_made, resolve_none, view_made, write_kept, write_made}
 use Rattle.sessions.specs.Commits.{IsCommittedAs, left_behind}
 use Rattle.sessions.specs.Reads.{IsAnsweredRead, IsReadAs, IsUnread}
 use Rattle.sessions.specs.Writes.{IsWrittenAs}
 use Rattle.sessions.proofs.CommitRows.{turn_of}
+use Rattle.sessions.proofs.PlainLines.{IsPlainAct, IsPlainAsked}
 use Rattle.sessions.proofs.ReadRows.{behind, failed_own, none_read, still}
 use Rattle.stack_driver.specs.declared.view.View.{View}
 use Rattle.stack_driver.specs.References.{Reference}
 use Rattle.turn_book.specs.Passes.{BookView, PassView}
 
+-- bytes that are no chunk are no conflict
+pub damage_no_conflict : (key : List ℕ) (cause : Damage) (other : List ℕ) (was now : ℕ) → body_of (old_answers.damaged key cause) ≢ Conflict other was now
+damage_no_conflict key (damage.Zarr (chunk.WrongLength have want)) other was now = λ is. let no_such : ⊥ = cc in no_such
+damage_no_conflict key (damage.Zarr chunk.Memory) other was now = λ is. let no_such : ⊥ = cc in no_such
+damage_no_conflict key (damage.N5 (block.WrongMode have)) other was now = λ is. let no_such : ⊥ = cc in no_such
+damage_no_conflict key (damage.N5 (block.WrongRank have)) other was now = λ is. let no_such : ⊥ = cc in no_such
+damage_no_conflict key (damage.N5 (block.WrongSize dim have)) other was now = λ is. let no_such : ⊥ = cc in no_such
+damage_no_conflict key (damage.N5 (block.WrongLength have want)) other was now = λ is. let no_such : ⊥ = cc in no_such
+damage_no_conflict key (damage.N5 block.Memory) other was now = λ is. let no_such : ⊥ = cc in no_such
+
+-- an act that looks at no store is answered by its row
+module _ (fixed anywhere : Fixed) (owner : ℕ) (events : History) (s : SessionState) (line : ℕ) where
+  plain_row : (act : Act) (names : Names) (left : Option Transaction) (answer : old_answers.Body) (own : List Numbered) → IsPlainAct act → IsRow fixed owner events s line act names left answer own → IsCausedAct anywhere owner events s line act names left answer own
+  plain_row act names left answer own plain (open_done opened built) = absurd plain
+  plain_row act names left answer own plain (open_refused opened refused) = absurd plain
+  plain_row act names left answer own plain (open_unbuilt opened built) = absurd plain
+  plain_row act names left answer own plain (open_failed before opened failed) = absurd plain
+  plain_row act names left answer own plain (open_wanting opened) = absurd plain
+  plain_row act names left answer own plain view_done = view_made
+  plain_row act names left answer own plain (read_done is) = absurd plain
+  plain_row act names left answer own plain (read_shrunk is) = absurd plain
+  plain_row act names left answer own plain (read_damaged is) = absurd plain
+  plain_row act names left answer own plain (read_failed before is) = absurd plain
+  plain_row act names left answer own plain write_staged = write_kept
+  plain_row act names left answer own plain (write_done is) = absurd plain
+  plain_row act names left answer own plain begin_done = begin_made
+  plain_row act names left answer own plain (commit_done is) = absurd plain
+  plain_row act names left answer own plain abort_done = abort_made
+  plain_row act names left answer own plain (resize_done n may sound) = absurd plain
+  plain_row act names left answer own plain (resize_many many) = absurd plain
+  plain_row act names left answer own plain (resize_split few split) = absurd plain
+  plain_row act names left answer own plain (resize_damaged may is) = absurd plain
+  plain_row act names left answer own plain (resize_failed n may on) = absurd plain
+  plain_row act names left answer own plain (resolve_done m low high is) = resolve_made m low high is
+  plain_row act names left answer own plain (resolve_refused m low high is) = resolve_none m low high is
+
+  plain_answered : (asked : Line) (a : Asked) (names : Names) (left : Option Transaction) (answer : old_answers.Body) (own : List Numbered) → act_of s.names s.transaction asked ≡ a → IsPlainAsked a → IsAnswered fixed owner events s line a names left answer own
+      → IsCaused anywhere owner events s line asked names left (body_of answer) own
+  plain_answered asked a names left answer own is plain refused_line = by_line is
+  plain_answered asked a names left answer own is plain wanting = by_memory
+  plain_answered asked a names left answer own is plain (done_line {act = act} row) = by_act is (plain_row act names left answer own plain row)
+
+  -- so is a line with such an act
+  pub plain_caused : (asked : Line) (names : Names) (t : Option Transaction) (answer : Body) (own : List Numbered) → IsPlainAsked (act_of s.names s.transaction asked) → IsTold fixed owner events s line asked names t answer own
+      → IsCaused anywhere owner events s line asked names t answer own
+  plain_caused asked names t answer own plain told =
+      subst (λ b. IsCaused anywhere owner events s line asked names t b own) (sym told.printed) (plain_answered asked (act_of s.names s.transaction asked) names t told.body own refl plain told.row)
+
 -- a line that takes no turn
-pub alone_caused : (book : BookView Opening) (pass : PassView Event Opening) (s : SessionState) (line : ℕ) (asked : Line) (names : Names) (t : Option Transaction) (answer : Body) → IsToldAlone s line asked names t answer
+pub alone_caused : (book : BookView Opening) (pass : PassView Event Opening) (s : SessionState) (line : ℕ) (asked : Line) (names : Names) (t : Option Transaction) (answer : Body) → IsPlainAsked (act_of s.names s.transaction asked) → IsToldAlone s line asked names t answer
     → IsCausedBy book pass pass s line asked names t answer
-alone_caused book pass s line asked names t answer told =
-    subst (IsCaused (fixed_by book.fixed finmap.empty) pass.number pass.seen s line asked names t answer) (sym (none_added pass)) (by_line (λ start. told (fixed_by book.fixed start) pass.number pass.seen))
+alone_caused book pass s line asked names t answer plain told =
+    let anywhere : Fixed = fixed_by book.fixed finmap.empty in
+    subst (IsCaused anywhere pass.number pass.seen s line asked names t answer) (sym (none_added pass)) (plain_caused anywhere anywhere pass.number pass.seen s line asked names t answer [] plain (told anywhere pass.number pass.seen))
 
 -- and one that is refused before it takes one
 pub refused_caused : (book : BookView Opening) (pass : PassView Event Opening) (s : SessionState) (line : ℕ) (asked : Line) (answer : Body) → IsAnswerTo (act_of s.names s.transaction asked) answer → IsCausedBy book pass pass s line asked s.names s.transaction answer
-refused_caused book pass s line asked answer is = alone_caused book pass s line asked s.names s.transaction answer (λ fixed owner events. told_refused fixed owner events s line asked answer is)
+refused_caused book pass s line asked answer is = subst (IsCaused (fixed_by book.fixed finmap.empty) pass.number pass.seen s line asked s.names s.transaction answer) (sym (none_added pass)) (by is)
+  where
+    by : IsAnswerTo (act_of s.names s.transaction asked) answer → IsCaused (fixed_by book.fixed finmap.empty) pass.number pass.seen s line asked s.names s.transaction answer []
+    by (inl wants) = subst (λ b. IsCaused (fixed_by book.fixed finmap.empty) pass.number pass.seen s line asked s.names s.transaction b []) (sym wants) by_memory
+    by (inr told) = subst (λ b. IsCaused (fixed_by book.fixed finmap.empty) pass.number pass.seen s line asked s.names s.transaction b []) (sym told.2) (by_line told.1)
 
 -- a read
 module _ (book : BookView Opening) (old new : PassView Event Opening) (rested : IsRested book old) (st : Option TxnSeen) (t later : TxnSeen) (v : View) (down : Option Downsampling) (names : Names) (line : ℕ) (asked : Line)

@@ -1,42 +1,63 @@
--- What a line of a session is answered over any store: a row of the history's session, less what that says of bytes and of chunks that others touched.
-use Rattle.std.specs.Prelude.{◌≡◌, ℕ, ◌+◌, List, [], ◌∷◌, ◌++◌, length, Option, None, Ok}
+-- What a line of a session is answered over any store: a row of the history's session, less what that says of bytes, and of what an open line found.
+use Rattle.std.specs.Prelude.{◌≡◌, ◌≤◌, ℕ, ◌+◌, List, [], ◌∷◌, ◌++◌, length, take, Option, Some, None, Ok, Err}
 use Rattle.std.specs.FinMap as finmap
 use Rattle.chunk_forms.specs.declared.form.Damage.{Damage}
 use Rattle.history.specs.declared.event.Event.{Event}
-use Rattle.history.specs.Acts.{Act, reads, writes, commits, resizes, act_of}
+use Rattle.history.specs.declared.event.Mode.{Mode}
+use Rattle.history.specs.Acts.{Act, opens, binds, reads, stages, writes, begins, commits, aborts, resizes, resolves, act_of}
 use Rattle.history.specs.Answers as old
 use Rattle.history.specs.Answers.{Text}
 use Rattle.history.specs.Arrays.{known_after}
 use Rattle.history.specs.Commit.{Key, Fixed, Transaction}
 use Rattle.history.specs.History.{History}
-use Rattle.history.specs.Lines.{SpecLeaf, Build, Downsampling, Line, opening}
-use Rattle.history.specs.Own.{Numbered, fault, fault_at, resized_event}
+use Rattle.history.specs.Lines.{SpecLeaf, Build, Downsampling, Line}
+use Rattle.history.specs.Own.{Numbered, numbers_of, fault, fault_at, resized_event}
 use Rattle.history.specs.ReadRows.{IsFetched, IsOnMount, IsShrunkBy, with_read}
 use Rattle.history.specs.Reads.{Marks}
 use Rattle.history.specs.Refusals.{HasTooManyCut, IsNotAtomicResize}
-use Rattle.history.specs.ResizeRows.{MayResize}
-use Rattle.history.specs.Sessions.{Names, SessionState, bind, reader}
+use Rattle.history.specs.ResizeRows.{MayResize, shape_after}
+use Rattle.history.specs.Sessions.{Names, SessionState, bind, new_transaction, reader}
 use Rattle.history.specs.Shown.{AreMarked}
-use Rattle.history.specs.Steps.{as_written, write_alone}
-use Rattle.history.specs.Viewing.{values_body}
+use Rattle.history.specs.Steps.{as_written, with_write, write_alone}
+use Rattle.history.specs.Viewing.{opened_body, resolved_body, values_body, viewed_body}
 use Rattle.index_transform.specs.Cells.{count_answer}
-use Rattle.kv_face.specs.Store.{Contents}
 use Rattle.session_turns.specs.declared.Body.{Body}
 use Rattle.session_turns.specs.declared.Body.TheVariants.{Memory}
 use Rattle.session_turns.specs.Agreement.{Opening}
 use Rattle.session_turns.specs.Answers.{fixed_by}
 use Rattle.session_turns.specs.Bodies.{body_of}
 use Rattle.session_turns.specs.CommitCauses.{IsCausedCommit}
-use Rattle.session_turns.specs.Told.{IsTold}
 use Rattle.session_turns.specs.Turns.{added_by}
+use Rattle.stack_driver.specs.declared.ComposeError.{ComposeError}
+use Rattle.stack_driver.specs.declared.error.RenewError.TheVariants.{Refused}
 use Rattle.stack_driver.specs.declared.view.View.{View}
 use Rattle.stack_driver.specs.References.{Reference}
+use Rattle.stack_driver.specs.Renewed.{renewed}
 use Rattle.stack_driver.specs.Views.{look_of}
 use Rattle.turn_book.specs.Passes.{BookView, PassView}
 
--- what a read, a write outside of a transaction, a commit or a resize answers, over the events that are seen in the end: the names and the transaction
--- then, and the events that are added
+-- an answer to an open line that binds no name: what it asks for or the view over it is refused, a call of a store failed, or memory was wanting
+abbrev pub IsOpenRefusal : old.Body → Type 0
+IsOpenRefusal (old.bad_spec path events) = Unit {0}
+IsOpenRefusal (old.refused_spec path cause events) = Unit {0}
+IsOpenRefusal (old.not_found at path events) = Unit {0}
+IsOpenRefusal (old.exists at path events) = Unit {0}
+IsOpenRefusal (old.path_taken at path events) = Unit {0}
+IsOpenRefusal (old.mismatch at member path events) = Unit {0}
+IsOpenRefusal (old.bad_metadata key why events) = Unit {0}
+IsOpenRefusal (old.store_failed event done events) = Unit {0}
+IsOpenRefusal old.memory = Unit {0}
+IsOpenRefusal answer = ⊥
+
+-- what an act is answered, over the events that are seen in the end: the names and the transaction then, and the events that are added
 pub data IsCausedAct (fixed : Fixed) (owner : ℕ) (events : History) (s : SessionState) (line : ℕ) : Act → Names → Option Transaction → old.Body → List Numbered → Type 0 where
+  -- open, Opened: the view that the Spec builds of some arrays
+  open_made : {name : Text} {leaves : List SpecLeaf} {build : Build} {view : View} {own : List Numbered} (refs : List Reference) → build refs ≡ Ok view
+      → IsCausedAct fixed owner events s line (opens name leaves build) (bind s.names name view) s.transaction (opened_body name view (numbers_of own)) own
+  -- open, refused or failed; what it found is not said
+  open_none : {name : Text} {leaves : List SpecLeaf} {build : Build} {answer : old.Body} {own : List Numbered} → IsOpenRefusal answer → IsCausedAct fixed owner events s line (opens name leaves build) s.names s.transaction answer own
+  -- view, Viewed
+  view_made : {name : Text} {view : View} → IsCausedAct fixed owner events s line (binds name view) (bind s.names name view) s.transaction (viewed_body name view) []
   -- read, Values: a word for each cell, by marks that the read may have
   read_given : {view : View} {down : Option Downsampling} {marks : Marks} (words : List ℕ) → AreMarked events s.seen (reader line s.transaction) view marks → count_answer (look_of view).dims ≡ Ok (length words)
       → IsCausedAct fixed owner events s line (reads view down) s.names (with_read s.transaction view words marks) (values_body view down words) []
@@ -48,11 +69,17 @@ pub data IsCausedAct (fixed : Fixed) (owner : ℕ) (events : History) (s : Sessi
   -- read, StoreFailed: the failed call is the last event, of a mount of which the read fetches a chunk
   read_failing : {view : View} {down : Option Downsampling} {mount : Text} (before : History) → events ≡ before ++ fault owner mount ∷ [] → IsFetched before (reader line s.transaction) view mount
       → IsCausedAct fixed owner events s line (reads view down) s.names s.transaction (old.store_failed (length before + 1) [] None) (fault_at (length before + 1) owner mount)
-  -- write outside of a transaction: the answers of its commit
+  -- write in a transaction, Staged
+  write_kept : {t : Transaction} {view : View} {words : List ℕ} → IsCausedAct fixed owner events s line (stages t view words) s.names (Some (with_write t view words)) (old.staged (length words)) []
+  -- write outside of one: the answers of its commit
   write_made : {view : View} {words : List ℕ} {left : Option Transaction} {answer : old.Body} {own : List Numbered} → IsCausedCommit fixed owner events (write_alone line view words) left answer own
       → IsCausedAct fixed owner events s line (writes view words) s.names None (as_written (length words) answer) own
+  -- begin, Begun
+  begin_made : {mode : Mode} → IsCausedAct fixed owner events s line (begins mode) s.names (Some (new_transaction line mode)) old.begun []
   -- commit
   commit_made : {t : Transaction} {left : Option Transaction} {answer : old.Body} {own : List Numbered} → IsCausedCommit fixed owner events t left answer own → IsCausedAct fixed owner events s line (commits t) s.names left answer own
+  -- abort, Aborted
+  abort_made : IsCausedAct fixed owner events s line aborts s.names None old.aborted []
   -- resize, Resized
   resize_made : {array : Reference} {shape : List ℕ} (before : History) → events ≡ before ++ resized_event owner array.number shape ∷ [] → MayResize fixed before array.number shape
       → IsCausedAct fixed owner events s line (resizes array shape) s.names s.transaction (old.resized (length before + 1)) (record { number = length before + 1; event = resized_event owner array.number shape } ∷ [])
@@ -68,21 +95,22 @@ pub data IsCausedAct (fixed : Fixed) (owner : ℕ) (events : History) (s : Sessi
   -- resize, StoreFailed: the failed call is the last event, of the array's mount
   resize_failing : {array : Reference} {shape : List ℕ} {mount : Text} (before : History) → events ≡ before ++ fault owner mount ∷ [] → MayResize fixed before array.number shape → IsOnMount mount (known_after before array.number)
       → IsCausedAct fixed owner events s line (resizes array shape) s.names s.transaction (old.store_failed (length before + 1) [] None) (fault_at (length before + 1) owner mount)
+  -- resolve, Resolved, by the array's shape after m events
+  resolve_made : {name : Text} {view made : View} {array : Reference} (m : ℕ) → s.seen ≤ m → m ≤ length events → renewed (shape_after (take m events) array.number) view ≡ Ok made
+      → IsCausedAct fixed owner events s line (resolves name view array) (bind s.names name made) s.transaction (resolved_body name made) []
+  -- resolve, refused, by the array's shape after m events
+  resolve_none : {name : Text} {view : View} {array : Reference} {cause : ComposeError} (m : ℕ) → s.seen ≤ m → m ≤ length events → renewed (shape_after (take m events) array.number) view ≡ Err (Refused cause)
+      → IsCausedAct fixed owner events s line (resolves name view array) s.names s.transaction (old.refused_view cause) []
 
 -- what a line is answered
 pub data IsCaused (fixed : Fixed) (owner : ℕ) (events : History) (s : SessionState) (line : ℕ) : Line → Names → Option Transaction → Body → List Numbered → Type 0 where
-  -- as the history's session is, whatever the store holds: the line's own refusals, and the lines that ask no store
-  by_line : {asked : Line} {names : Names} {t : Option Transaction} {answer : Body} {own : List Numbered} → ((start : Contents) → IsTold (record { start = start; prefixes = fixed.prefixes }) owner events s line asked names t answer own)
-      → IsCaused fixed owner events s line asked names t answer own
+  -- by its own refusal: nothing changes
+  by_line : {asked : Line} {answer : old.Body} → act_of s.names s.transaction asked ≡ Err answer → IsCaused fixed owner events s line asked s.names s.transaction (body_of answer) []
   -- for a cause of what it does
-  by_act : {asked : Line} {act : Act} {names : Names} {t : Option Transaction} {body : old.Body} {own : List Numbered} → act_of s.names s.transaction asked ≡ Ok act → IsCausedAct fixed owner events s line act names t body own
-      → IsCaused fixed owner events s line asked names t (body_of body) own
+  by_act : {asked : Line} {act : Act} {names : Names} {t : Option Transaction} {answer : old.Body} {own : List Numbered} → act_of s.names s.transaction asked ≡ Ok act → IsCausedAct fixed owner events s line act names t answer own
+      → IsCaused fixed owner events s line asked names t (body_of answer) own
   -- Memory, without an event; after it nobody goes on
   by_memory : {asked : Line} {names : Names} {t : Option Transaction} → IsCaused fixed owner events s line asked names t Memory []
-  -- open: the name is bound to the view that the Spec builds of some arrays, or none is; of its answer nothing is said here
-  by_opening : {name : Text} {leaves : List SpecLeaf} {build : Build} {view : View} {answer : Body} {own : List Numbered} (refs : List Reference) → build refs ≡ Ok view
-      → IsCaused fixed owner events s line (opening name leaves build) (bind s.names name view) s.transaction answer own
-  by_none : {name : Text} {leaves : List SpecLeaf} {build : Build} {answer : Body} {own : List Numbered} → IsCaused fixed owner events s line (opening name leaves build) s.names s.transaction answer own
 
 -- so is a line before which a pass was so, and behind which it is so: the events that it adds are the pass's own new ones
 abbrev pub IsCausedBy : BookView Opening → PassView Event Opening → PassView Event Opening → SessionState → ℕ → Line → Names → Option Transaction → Body → Type 0

@@ -10,6 +10,7 @@ pub use Rattle.session_turns.specs.Answers
 pub use Rattle.session_turns.specs.Asked
 pub use Rattle.session_turns.specs.Causes
 pub use Rattle.session_turns.specs.Changes
+pub use Rattle.session_turns.specs.CommitCauses
 pub use Rattle.session_turns.specs.Committing
 pub use Rattle.session_turns.specs.Conditions
 pub use Rattle.session_turns.specs.Failures

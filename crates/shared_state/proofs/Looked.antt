@@ -21,6 +21,7 @@ use Rattle.state_laws.proofs.Laws.{agrees_read}
 
 pub answered_back : (store next : StoreSeen) (log : Log) (c : Chunk) (snapshot : SnapshotCells) → IsRead store next → next.faults ≤ store.faults → IsAnswered next log c snapshot → IsAnswered store log c snapshot
 answered_back store next log c snapshot read steady is = record {
+  generation = is.generation;
   cells = is.cells;
   now = λ opening start k agrees told known. is.now opening start k (agrees_read opening store next log read steady agrees) told known;
 }

@@ -51,10 +51,7 @@ impl<K: KvStore> State<K> {
         requires agrees { IsState (K.seen self.now.store) self.now.log }
         ensures by_table { (c : Chunk) (has : HasKey self.now.log.events c key.now)
             → result ≡ generation_in self.now.log has.array key.now }
-        ensures none { IsNobodys self.now.log.events key.now → result ≡ 0 }
-        ensures told { (opening : Opening) (start : Contents)
-            → Agrees opening (K.seen self.now.store) self.now.log → opening.store.contents ≡ Some start
-            → IsGenerationOf self.now.log.events key.now result }
+        ensures history { IsGenerationOf self.now.log.events key.now result }
     {
         // A look at the length, by which the contract knows that numbers of events have 64 bits.
         let _ = self.events().len();

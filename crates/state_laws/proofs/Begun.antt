@@ -33,6 +33,7 @@ agrees_begun store limit = record {
   limit = refl;
   count = refl;
   outline = tt;
+  generations = generations_none;
   mounts = λ a k mount is on. absurd (no_array a k is);
   kept = All-nil (IsKept []);
   held = λ a k is local. absurd (no_array a k is);
@@ -42,7 +43,6 @@ agrees_begun store limit = record {
     told = told;
     represents = begins_represented start;
     counted = begins_counted store.changes;
-    generations = generations_none;
     kept = All-nil (IsKeptNow start []);
     held = λ a k is local. absurd (no_array a k is);
   };

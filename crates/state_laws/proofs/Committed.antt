@@ -26,7 +26,7 @@ use Rattle.history.specs.Generations.{Generations, IsNumbered}
 use Rattle.history.specs.Legal.{IsLegal, IsLegalKind, is_opening}
 use Rattle.history.specs.ReadRows.{mount_of}
 use Rattle.history.specs.Touch.{touches}
-use Rattle.history.proofs.Laws.{changes_applied, counted_more, counted_same, generations_more, known_after-more, legal_more, represents_event, some_inj, opened_le, snapshot_longer, generation_untouched}
+use Rattle.history.proofs.Laws.{changes_applied, counted_more, counted_same, generation_touched, known_after-more, legal_more, represents_event, some_inj, opened_le, snapshot_longer, generation_untouched}
 use Rattle.std.specs.FinMap.{get-insert}
 use Rattle.std.specs.Cmp.Lexicographic.{nat_list_cmp_total}
 use Rattle.std.proofs.lemmas.Map.Text.{is_eq-slice_cmp}
@@ -44,7 +44,7 @@ use Rattle.state_laws.specs.declared.deed.ChangeError.TheVariants as error
 use Rattle.state_laws.specs.Fetches.{HasFailed}
 use Rattle.state_laws.proofs.Got.{agrees_quiet}
 use Rattle.state_laws.proofs.Later.{count_more, frame_then, not_risen, agrees_fault}
-use Rattle.state_laws.proofs.Outline.{outline-more}
+use Rattle.state_laws.proofs.Outline.{outline-more, numbered_more}
 
 -- what holds of all entries holds of those that pass a test
 passed_by : {X : Type 0} (Q : X → Type 0) (x : X) (xs : List X) (b : Bool) → (b ≡ true → Q x) → AllByRecursion Q xs → AllByRecursion Q (cond b (x ∷ xs) xs)
@@ -161,27 +161,16 @@ module _ (opening : Opening) (store next : StoreSeen) (log : Log) (e : Event) (k
     pub none : length changes ≡ 0 → next.changes ≡ store.changes
 
   module _ (owed : IsOwed) where
-    kept_later : (entry : Entry) → IsKept h entry → IsKept later entry
-    kept_later entry is =
-        let still = owed.still is.chunk.array is.array is.known in
-        record {
-          chunk = is.chunk;
-          array = still.now;
-          known = still.known;
-          stored = ap (λ (i : ArrayInfo). is_local i.home) still.info ∙ is.stored;
-          valid = subst (λ (i : ArrayInfo). IsIndexOf i is.chunk.index) (sym still.info) is.valid;
-          named = ap (λ o. key_in o is.chunk) still.known ∙ ap Some (same_key is.array still.now is.chunk.index still.info still.opened) ∙ sym (ap (λ o. key_in o is.chunk) is.known) ∙ is.named;
-          cells = record {
-            dtype = is.cells.dtype ∙ ap (λ (i : ArrayInfo). i.dtype) (sym still.info);
-            shape = is.cells.shape ∙ ap chunk_box (sym still.info);
-          };
-        }
-
-    all_kept : All (IsKept later) changed_log.cache.entries
-    all_kept =
-        All-from_recursion (IsKept later) changed_log.cache.entries
-        (weaker (λ e. IsKept h e × (IsOneOf keys e.0 → ⊥)) (IsKept later) changed_log.cache.entries (λ entry is. kept_later entry is.0)
-        (left (IsKept h) keys log.cache.entries (recursion_from_All (IsKept h) log.cache.entries agrees.kept)))
+    numbered : IsNumbered h e log.generations changed_log.generations
+    numbered = record {
+      touched = λ c key it. get-with_numbers (length h + 1) key keys log.generations ∙ ap (λ b. cond b (Some (length h + 1)) (finmap.get log.generations key)) (among key keys (touched.all c key it));
+      others = λ key none.
+          get-with_numbers (length h + 1) key keys log.generations
+          ∙ elim (true_or_false (list_any (bytes_eq key) keys)) [
+            | inl t ↦ let there = touched.only key (one_of key keys t) in absurd (none there.0 there.1)
+            | inr f ↦ ap (λ b. cond b (Some (length h + 1)) (finmap.get log.generations key)) f
+          ];
+    }
 
     -- a chunk whose key isn't touched
     untouched : (c : Chunk) (k l : Known) (key : List ℕ) → known_after h c.array ≡ Some k → known_after later c.array ≡ Some l → l.opened ≡ k.opened → IsIndexOf l.info c.index → key_in (known_after later c.array) c ≡ Some key
@@ -196,6 +185,49 @@ module _ (opening : Opening) (store next : StoreSeen) (log : Log) (e : Event) (k
           })))
       | inr f ↦ f
     ]
+
+    kept_later : (entry : Entry) → IsKept h entry → (IsOneOf keys entry.0 → ⊥) → IsKept later entry
+    kept_later entry is apart =
+        let still = owed.still is.chunk.array is.array is.known in
+        let valid : IsIndexOf still.now.info is.chunk.index = subst (λ (i : ArrayInfo). IsIndexOf i is.chunk.index) (sym still.info) is.valid in
+        let named : key_in (known_after later is.chunk.array) is.chunk ≡ Some entry.0 =
+        ap (λ o. key_in o is.chunk) still.known ∙ ap Some (same_key is.array still.now is.chunk.index still.info still.opened) ∙ sym (ap (λ o. key_in o is.chunk) is.known) ∙ is.named in
+        record {
+          chunk = is.chunk;
+          array = still.now;
+          known = still.known;
+          stored = ap (λ (i : ArrayInfo). is_local i.home) still.info ∙ is.stored;
+          valid = valid;
+          named = named;
+          generation = is.generation ∙ sym (generation_untouched h e is.chunk (untouched is.chunk is.array still.now entry.0 is.known still.known still.opened valid named apart));
+          cells = record {
+            dtype = is.cells.dtype ∙ ap (λ (i : ArrayInfo). i.dtype) (sym still.info);
+            shape = is.cells.shape ∙ ap chunk_box (sym still.info);
+          };
+        }
+
+    all_kept : All (IsKept later) changed_log.cache.entries
+    all_kept =
+        All-from_recursion (IsKept later) changed_log.cache.entries
+        (weaker (λ e. IsKept h e × (IsOneOf keys e.0 → ⊥)) (IsKept later) changed_log.cache.entries (λ entry is. kept_later entry is.0 is.1)
+        (left (IsKept h) keys log.cache.entries (recursion_from_All (IsKept h) log.cache.entries agrees.kept)))
+
+    -- cells that the run holds, as they were or others
+    still_held : (a : ℕ) (k : Known) → IsHeld log a k → IsHeldStill log changed_log e a k → IsHeld changed_log a k
+    still_held a k was still = record {
+      snapshot = was.snapshot;
+      held = still.same ∙ was.held;
+      cells = was.cells;
+      generation = λ index valid. was.generation index valid ∙ sym (generation_untouched h e (record { array = a; index = index }) (still.untouched index valid));
+    }
+
+    anew_held : (a : ℕ) (k : Known) → IsHeldAnew log changed_log e a k → IsHeld changed_log a k
+    anew_held a k anew = record {
+      snapshot = anew.snapshot;
+      held = anew.held;
+      cells = anew.cells;
+      generation = λ index valid. anew.generation ∙ sym (generation_touched h e (record { array = a; index = index }) (anew.touched index valid));
+    }
 
     module _ (start : Contents) (told : opening.store.contents ≡ Some start) where
       true_to : IsTrueTo start opening store log
@@ -217,7 +249,7 @@ module _ (opening : Opening) (store next : StoreSeen) (log : Log) (e : Event) (k
       unfolding kept_later
       kept_now_later entry is =
           let was = is.0.0 in
-          let kept = kept_later entry was in
+          let kept = kept_later entry was is.1 in
           let still = owed.still was.chunk.array was.array was.known in
           let quiet = untouched was.chunk was.array still.now entry.0 was.known still.known still.opened kept.valid kept.named is.1 in
           (kept, current_later was.array still.now was.chunk entry.1 still.known quiet is.0.1)
@@ -229,30 +261,21 @@ module _ (opening : Opening) (store next : StoreSeen) (log : Log) (e : Event) (k
           (left (IsKeptNow start h) keys log.cache.entries (recursion_from_All (IsKeptNow start h) log.cache.entries true_to.kept)))
 
       held_still : (a : ℕ) (k : Known) → known_after h a ≡ Some k → known_after later a ≡ Some k → is_local k.info.home ≡ true → IsHeldStill log changed_log e a k → IsHeldNow start changed_log a k
+      unfolding still_held
       held_still a k known now local still =
           let was = true_to.held a k known local in (
-            record { snapshot = was.0.snapshot; held = still.same ∙ was.0.held; cells = was.0.cells },
+            still_held a k was.0 still,
             λ index valid. current_later k k (record { array = a; index = index }) was.0.snapshot now (still.untouched index valid) (was.1 index valid),
           )
 
       held_anew : (a : ℕ) (k : Known) → known_after h a ≡ Some k → is_local k.info.home ≡ true → IsHeldAnew log changed_log e a k → IsHeldNow start changed_log a k
-      held_anew a k known local anew = (record { snapshot = anew.snapshot; held = anew.held; cells = anew.cells }, λ index valid. owed.held_now start told a k known local anew index valid)
+      unfolding anew_held
+      held_anew a k known local anew = (anew_held a k anew, λ index valid. owed.held_now start told a k known local anew index valid)
 
       held_now : (a : ℕ) (k : Known) → known_after later a ≡ Some k → is_local k.info.home ≡ true → IsHeldNow start changed_log a k
       held_now a k known local =
           let held = owed.held a k known local in
           elim held.1 [ inl still ↦ held_still a k held.0 known local still | inr anew ↦ held_anew a k held.0 local anew ]
-
-      numbered : IsNumbered h e log.generations changed_log.generations
-      numbered = record {
-        touched = λ c key it. get-with_numbers (length h + 1) key keys log.generations ∙ ap (λ b. cond b (Some (length h + 1)) (finmap.get log.generations key)) (among key keys (touched.all c key it));
-        others = λ key none.
-            get-with_numbers (length h + 1) key keys log.generations
-            ∙ elim (true_or_false (list_any (bytes_eq key) keys)) [
-              | inl t ↦ let there = touched.only key (one_of key keys t) in absurd (none there.0 there.1)
-              | inr f ↦ ap (λ b. cond b (Some (length h + 1)) (finmap.get log.generations key)) f
-            ];
-      }
 
       -- the changes are counted
       counted_by : (b : Bool) → nat_lt 0 (length changes) ≡ b → IsCounted start opening.store.changes next.changes later
@@ -273,7 +296,6 @@ module _ (opening : Opening) (store next : StoreSeen) (log : Log) (e : Event) (k
             told = owed.made true_to.contents true_to.told;
             represents = represents_event start h e true_to.legal legal_kind true_to.contents (after true_to.contents changes) true_to.represents (changes_applied start h e true_to.contents changes right.1);
             counted = counted_by (nat_lt 0 (length changes)) refl;
-            generations = generations_more start h e log.generations changed_log.generations legal true_to.generations numbered;
             kept = all_now;
             held = held_now;
           }
@@ -282,8 +304,8 @@ module _ (opening : Opening) (store next : StoreSeen) (log : Log) (e : Event) (k
     held_then a k known local =
         let held = owed.held a k known local in
         elim held.1 [
-          | inl still ↦ let was = agrees.held a k held.0 local in record { snapshot = was.snapshot; held = still.same ∙ was.held; cells = was.cells }
-          | inr anew ↦ record { snapshot = anew.snapshot; held = anew.held; cells = anew.cells }
+          | inl still ↦ still_held a k (agrees.held a k held.0 local) still
+          | inr anew ↦ anew_held a k anew
         ]
 
     -- it keeps the agreement
@@ -306,6 +328,7 @@ module _ (opening : Opening) (store next : StoreSeen) (log : Log) (e : Event) (k
           let same : count_by is_opening later ≡ count_by is_opening h + 0 = count_more is_opening h e ∙ ap (λ b. count_by is_opening h + cond {A = ℕ} b 1 0) owed.no_opening in
           omega arith;
       outline = owed.outline;
+      generations = numbered_more h e log.generations changed_log.generations owed.outline agrees.generations numbered;
       mounts = λ a l m known on.
           let was = owed.back a l known in
           subst (λ names. TakesMount names m) (sym owed.frame.names) (agrees.mounts a was.0 m was.1 (ap (λ (i : ArrayInfo). mount_of i.home) (sym was.2) ∙ on));

@@ -1,5 +1,5 @@
 -- A state agrees with its opening behind an array that entered the run.
-use Rattle.std.proofs.Common.{◌≡◌, ◌≢◌, ℕ, ◌+◌, ◌<◌, ◌≤◌, ◌⊎◌, inl, inr, List, [], ◌∷◌, ◌++◌, length, Bool, true, false, cond, Option, Some, None, refl, sym, ap, subst, ◌∙◌, arith, eqb-true, length-append, zero, suc}
+use Rattle.std.proofs.Common.{◌≡◌, ◌≢◌, ℕ, ◌+◌, ◌<◌, ◌≤◌, ◌⊎◌, inl, inr, List, [], ◌∷◌, ◌++◌, length, Bool, true, false, cond, Option, Some, None, refl, sym, ap, subst, ◌∙◌, arith, eq-eqb, eqb-true, length-append, zero, suc}
 use Rattle.std.specs.Prelude.{◌==◌, count_by}
 use Rattle.std.specs.List.{slice_get}
 use Rattle.std.specs.Option.{option_map, option_map_or}
@@ -20,7 +20,7 @@ use Rattle.history.specs.ReadRows.{mount_of}
 use Rattle.history.specs.Store.{RepresentsHistory}
 use Rattle.history.specs.Stored.{IsApplied}
 use Rattle.history.specs.Touch.{touches}
-use Rattle.history.proofs.Laws.{apart_texts, key_is, opening_numbers_none, known_after-more, legal_more, opened_as, some_inj, none_is_none, known_below}
+use Rattle.history.proofs.Laws.{apart_texts, key_is, generation_touched, opening_numbers_none, known_after-more, legal_more, opened_as, some_inj, none_is_none, known_below}
 use Rattle.state_laws.specs.Seen.{StoreSeen, IsFrame}
 use Rattle.state_laws.specs.Log.{Log, cells_held}
 use Rattle.state_laws.specs.Kept.{AreCellsOf, IsCurrent}
@@ -117,7 +117,7 @@ module _ (opening : Opening) (store next : StoreSeen) (log : Log) (owner : ℕ) 
 
   -- what is owed for a new local array: its cells
   abbrev pub HoldsCells : Type 0
-  HoldsCells = is_local info.home ≡ true → (snapshot : SnapshotCells) × (local ≡ Some snapshot) × AreCellsOf (opened_as h info) snapshot
+  HoldsCells = is_local info.home ≡ true → (snapshot : SnapshotCells) × (local ≡ Some snapshot) × AreCellsOf (opened_as h info) snapshot × (snapshot.generation ≡ length h + 1)
       × ((start : Contents) (index : List ℕ) → opening.store.contents ≡ Some start → IsLegal start later → IsIndexOf info index → IsCurrent start later (opened_as h info) (record { array = info.number; index = index }) snapshot)
 
   -- and for what is done to a store that tells its contents
@@ -130,7 +130,7 @@ module _ (opening : Opening) (store next : StoreSeen) (log : Log) (owner : ℕ) 
   held_by holds a k is (inr new) =
       let cells = holds (ap (λ (l : Known). is_local l.info.home) new.1 ∙ is) in
       let there : cells_held log_later a ≡ Some cells.0 = ap (cells_held log_later) (sym new.0) ∙ held_new ∙ cells.1 in
-      let held : IsHeld log_later a k = record { snapshot = cells.0; held = there; cells = subst (λ l. AreCellsOf l cells.0) new.1 cells.2 } in
+      let held : IsHeld log_later a k = record { snapshot = cells.0; held = there; cells = subst (λ l. AreCellsOf l cells.0) new.1 cells.2; generation = λ index valid. cells.3 ∙ sym (generation_touched h e (record { array = a; index = index }) (eq-eqb info.number a new.0)) } in
       inr (
         held,
         λ start told legal. (
@@ -138,7 +138,7 @@ module _ (opening : Opening) (store next : StoreSeen) (log : Log) (owner : ℕ) 
           λ index valid.
               subst (λ l. IsCurrent start later l (record { array = a; index = index }) cells.0) new.1
               (subst (λ n. IsCurrent start later (opened_as h info) (record { array = n; index = index }) cells.0) new.0
-              (cells.3 start index told legal (subst (λ (l : Known). IsIndexOf l.info index) (sym new.1) valid))),
+              (cells.4 start index told legal (subst (λ (l : Known). IsIndexOf l.info index) (sym new.1) valid))),
         ),
       )
 
@@ -162,6 +162,7 @@ module _ (opening : Opening) (store next : StoreSeen) (log : Log) (owner : ℕ) 
             let more : count_by is_opening later ≡ count_by is_opening h + 1 = count_more is_opening h e in
             omega arith;
         outline = outline_opened h owner info agrees.outline is_opening_of;
+        numbered = opening_numbers_none h e info log.generations refl;
         mounts = λ a k m is on. elim (split a k is) [
           | inl old ↦ subst (λ names. TakesMount names m) (sym frame.names) (agrees.mounts a k m old on)
           | inr new ↦ takes m (ap (λ (l : Known). mount_of l.info.home) new.1 ∙ on)
@@ -169,5 +170,5 @@ module _ (opening : Opening) (store next : StoreSeen) (log : Log) (owner : ℕ) 
         held = λ a k is on. held_by holds a k on (split a k is);
         done = λ start told true_to.
             let done = entered start told true_to in
-            (done.0, done.1, legal_more start h e true_to.legal is_opening_of, done.2, done.3, opening_numbers_none h e info log.generations refl);
+            (done.0, done.1, legal_more start h e true_to.legal is_opening_of, done.2, done.3);
       })

@@ -68,6 +68,7 @@ module _ (store : StoreSeen) (log : Log) (c : Chunk) (key : List ℕ) (f : Form)
   pub decoded_answered : (snapshot : SnapshotCells) → snapshot.generation ≡ generation_in log named.array key → snapshot.cells.dtype ≡ dtype_of f → snapshot.cells.shape ≡ chunk_shape_of f
       → ((index : List ℕ) → IsInside (chunk_shape_of f) index → stored_word f (fill_of f) bytes index ≡ Some (word_at snapshot.cells index)) → IsAnswered store log c snapshot
   decoded_answered snapshot generation dtype shape words = record {
+    generation = generation ∙ generation_now state.0 store log c key named.array state.1 named named.known;
     cells = λ k known.
         let same = some_inj named.array k (sym named.known ∙ known) in
         subst (λ l. AreCellsOf l snapshot) same (cells_by_form named.array f snapshot is stored (kept_as store log c.array named.array f state named.known stored is) dtype shape);
@@ -76,7 +77,7 @@ module _ (store : StoreSeen) (log : Log) (c : Chunk) (key : List ℕ) (f : Form)
         let true_to = agrees.holds start told in
         let here = held true_to.contents true_to.told ∙ ap (finmap.get true_to.contents) (sym named.named) in
         subst (λ l. IsCurrent start log.events l c snapshot) same
-        (decoded_now start true_to.contents log.events c named.array f true_to.legal true_to.represents named.known stored named.valid is snapshot (generation ∙ generation_now opening start store log c key named.array agrees told named named.known)
+        (decoded_now start true_to.contents log.events c named.array f true_to.legal true_to.represents named.known stored named.valid is snapshot (generation ∙ generation_now opening store log c key named.array agrees named named.known)
         (λ index inside. subst (λ o. stored_word f (fill_of f) o index ≡ Some (word_at snapshot.cells index)) here (words index inside)));
   }
 

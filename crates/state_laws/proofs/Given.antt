@@ -155,7 +155,7 @@ module _ (opening : Opening) (store : StoreSeen) (log : Log) (owner : ℕ) (cell
   pub agrees_given : Agrees opening store (entered log owner info (Some snapshot))
   agrees_given =
       agrees_opened opening store store log owner info (Some snapshot) agrees may_open (frame_same store) (omega arith) (λ m on. absurd (none_is_none m on))
-      (λ local. (snapshot, refl, record { dtype = refl; shape = refl }, λ start index told legal is. current start index is))
+      (λ local. (snapshot, refl, record { dtype = refl; shape = refl }, refl, λ start index told legal is. current start index is))
       (λ start told true_to. (
         true_to.contents,
         true_to.told,

@@ -27,6 +27,7 @@ agrees_quiet opening store next log read steady is = record {
   limit = is.limit;
   count = is.count;
   outline = is.outline;
+  generations = is.generations;
   mounts = λ a k m known on. subst (λ names. TakesMount names m) (sym read.frame.names) (is.mounts a k m known on);
   kept = is.kept;
   held = is.held;
@@ -38,7 +39,6 @@ agrees_quiet opening store next log read steady is = record {
         told = read.contents ∙ was.told;
         represents = was.represents;
         counted = subst (λ n. IsCounted start opening.store.changes n log.events) (sym read.changes) was.counted;
-        generations = was.generations;
         kept = was.kept;
         held = was.held;
       };

@@ -20,15 +20,15 @@ use Rattle.history.specs.Own.{fault}
 use Rattle.history.specs.ReadRows.{mount_of}
 use Rattle.history.specs.Store.{RepresentsHistory}
 use Rattle.history.specs.Stored.{IsApplied}
-use Rattle.history.specs.Touch.{touches}
-use Rattle.history.proofs.Laws.{fault_applied, counted_same, generations_more, fault_numbers_none, some_inj, known_after-more, legal_step, legal_more}
+use Rattle.history.specs.Touch.{touches, generation_of}
+use Rattle.history.proofs.Laws.{fault_applied, counted_same, fault_numbers_none, some_inj, known_after-more, legal_step, legal_more}
 use Rattle.history.proofs.Laws.{represents_event, snapshot_longer, generation_untouched}
 use Rattle.state_laws.specs.Seen.{StoreSeen, IsFrame, IsQuiet, IsRead}
 use Rattle.state_laws.specs.Log.{Log, cells_held}
 use Rattle.state_laws.specs.Outline.{outline}
 use Rattle.state_laws.specs.Kept.{IsKept, IsKeptNow, IsCurrent}
 use Rattle.state_laws.specs.Agreement.{Opening, Agrees, IsTrueTo, IsHeld, IsHeldNow, is_fault, TakesMount}
-use Rattle.state_laws.proofs.Outline.{outline_fault}
+use Rattle.state_laws.proofs.Outline.{outline_fault, numbered_more}
 
 pub count_more : (f : Event → Bool) (events : History) (e : Event) → count_by f (events ++ e ∷ []) ≡ count_by f events + cond (f e) 1 0
 count_more f events e = fold-append (λ a x. a + cond {A = ℕ} (f x) 1 0) 0 events (e ∷ [])
@@ -72,6 +72,7 @@ module _ (h : History) (e : Event) (stays : (a : ℕ) (k : Known) → known_afte
         valid = is.valid;
         named = ap (λ o. key_in o is.chunk) known ∙ sym (ap (λ o. key_in o is.chunk) is.known) ∙ is.named;
         cells = is.cells;
+        generation = is.generation ∙ sym (generation_untouched h e is.chunk (quiet is.chunk is.array is.known));
       }
 
   current_later : (start : Contents) (k : Known) (c : Chunk) (snapshot : SnapshotCells) → IsLegal start later → IsCurrent start h k c snapshot → IsCurrent start later k c snapshot
@@ -95,18 +96,29 @@ module _ (h : History) (e : Event) (stays : (a : ℕ) (k : Known) → known_afte
     -- what the event does to a store that tells its contents
     abbrev pub IsDoneTo : Contents → Contents → Type 0
     IsDoneTo start old =
-        (new : Contents) × (next.contents ≡ Some new) × IsLegal start later × IsApplied start h e old new × IsCounted start opening.store.changes next.changes later × IsNumbered h e log.generations log.generations
+        (new : Contents) × (next.contents ≡ Some new) × IsLegal start later × IsApplied start h e old new × IsCounted start opening.store.changes next.changes later
+
+    -- a local array that was there has its cells still
+    held_old : (a : ℕ) (k : Known) → known_after h a ≡ Some k → cells_held log_later a ≡ cells_held log a → IsHeld log a k → IsHeld log_later a k
+    held_old a k known same was = record {
+      snapshot = was.snapshot;
+      held = same ∙ was.held;
+      cells = was.cells;
+      generation = λ index valid.
+          let c : Chunk = record { array = a; index = index } in
+          was.generation index valid ∙ ap (λ g. generation_of g c) events ∙ sym (generation_untouched h e c (quiet c k known));
+    }
 
     held_later : (a : ℕ) (k : Known) → Agrees opening store log → is_local k.info.home ≡ true → Held a k → IsHeld log_later a k
     held_later a k is local (inl old) =
-        let was = is.held a k (ap (λ g. known_after g a) events ∙ old.0) local in
-        record { snapshot = was.snapshot; held = old.1 ∙ was.held; cells = was.cells }
+        held_old a k old.0 old.1 (is.held a k (ap (λ g. known_after g a) events ∙ old.0) local)
     held_later a k is local (inr new) = new.0
 
     held_now_later : (start : Contents) (a : ℕ) (k : Known) → IsTrueTo start opening store log → opening.store.contents ≡ Some start → IsLegal start later → is_local k.info.home ≡ true → Held a k → IsHeldNow start log_later a k
+    unfolding held_old
     held_now_later start a k is told legal local (inl old) =
         let was = is.held a k (ap (λ g. known_after g a) events ∙ old.0) local in (
-          record { snapshot = was.0.snapshot; held = old.1 ∙ was.0.held; cells = was.0.cells },
+          held_old a k old.0 old.1 was.0,
           λ index valid. current_later start k (record { array = a; index = index }) was.0.snapshot legal (subst (λ g. IsCurrent start g k (record { array = a; index = index }) was.0.snapshot) events (was.1 index valid)),
         )
     held_now_later start a k is told legal local (inr new) = new.1 start told legal
@@ -120,7 +132,6 @@ module _ (h : History) (e : Event) (stays : (a : ℕ) (k : Known) → known_afte
           told = done.1;
           represents = let steps = legal_step start h e legal in represents_event start h e steps.0 steps.1 is.contents done.0 (subst (λ g. RepresentsHistory is.contents start g) events is.represents) done.3;
           counted = done.4;
-          generations = generations_more start h e log.generations log.generations legal (subst (λ g. IsGenerationTable g log.generations) events is.generations) done.5;
           kept = All-weaker (IsKeptNow start h) (IsKeptNow start later) (λ entry k. kept_now_later start entry legal k) log.cache.entries (subst (λ g. All (IsKeptNow start g) log.cache.entries) events is.kept);
           held = λ a k known local. held_now_later start a k is told legal local (held a k known local);
         }
@@ -132,6 +143,7 @@ module _ (h : History) (e : Event) (stays : (a : ℕ) (k : Known) → known_afte
       pub told : opening.store.faults < next.faults → 0 < count_by is_fault later
       pub count : length locals ≡ count_by is_opening later
       pub outline : IsLegal finmap.empty (outline later)
+      pub numbered : IsNumbered h e log.generations log.generations
       pub mounts : (a : ℕ) (k : Known) (mount : List ℕ) → known_after later a ≡ Some k → mount_of k.info.home ≡ Some mount → TakesMount next.names mount
       pub held : (a : ℕ) (k : Known) → known_after later a ≡ Some k → is_local k.info.home ≡ true → Held a k
       pub done : (start : Contents) → opening.store.contents ≡ Some start → (is : IsTrueTo start opening store log) → IsDoneTo start is.contents
@@ -144,6 +156,7 @@ module _ (h : History) (e : Event) (stays : (a : ℕ) (k : Known) → known_afte
       limit = is.limit;
       count = owed.count;
       outline = owed.outline;
+      generations = numbered_more h e log.generations log.generations owed.outline (subst (λ g. IsGenerationTable g log.generations) events is.generations) owed.numbered;
       mounts = owed.mounts;
       kept = All-weaker (IsKept h) (IsKept later) kept_later log.cache.entries (subst (λ g. All (IsKept g) log.cache.entries) events is.kept);
       held = λ a k known local. held_later a k is local (owed.held a k known local);
@@ -166,6 +179,7 @@ agrees_fault opening store next log owner mount read rose is =
       told = λ more. let one : count_by is_fault (h ++ e ∷ []) ≡ count_by is_fault h + 1 = count_more is_fault h e in omega (arith, one);
       count = is.count ∙ sym (count_more is_opening h e ∙ plus_none (count_by is_opening h));
       outline = outline_fault h owner mount is.outline;
+      numbered = fault_numbers_none h e mount log.generations refl;
       mounts = λ a k m known on. subst (λ names. TakesMount names m) (sym read.frame.names) (is.mounts a k m (sym (same a) ∙ known) on);
       held = λ a k known local. inl (sym (same a) ∙ known, refl);
       done = λ start told true_to. (
@@ -174,7 +188,6 @@ agrees_fault opening store next log owner mount read rose is =
         legal_more start h e true_to.legal tt,
         fault_applied start true_to.contents h owner mount,
         counted_same start opening.store.changes store.changes next.changes h e true_to.counted refl read.changes,
-        fault_numbers_none h e mount log.generations refl,
       );
     })
   where

@@ -50,6 +50,8 @@ pub use Rattle.state_laws.proofs.Keyed.{local_some, local_none, stored_some, not
 -- behind a commit, and behind a new shape, a state agrees with each opening by which it was right
 pub use Rattle.state_laws.proofs.Committed.{agrees_deed}
 pub use Rattle.state_laws.proofs.Reshaped.{agrees_shape}
+-- where the outline is legal, no two chunks have one key, and arrays stay as they were opened
+pub use Rattle.state_laws.proofs.Outline.{one_chunk_in, stay_in}
 -- a history and its outline have the same arrays, each as its metadata or its cells say
 pub use Rattle.state_laws.proofs.Outline.{known-outline, good_in}
 -- changes go together where their keys do

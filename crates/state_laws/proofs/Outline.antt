@@ -15,7 +15,9 @@ use Rattle.history.specs.Legal.{IsLegal, IsLegalOpening, IsApartFrom, opens, is_
 use Rattle.history.specs.Own.{fault, opened_event}
 use Rattle.history.specs.Touch.{is_key}
 use Rattle.history.specs.Places.{array_at, at_step, location, location_of, locations, clashes, least, opened_array, IsFree}
-use Rattle.history.proofs.Laws.{each_history, known_after-more, legal_more, array_at-more, locations-more, one_key, IsGood, known_good}
+use Rattle.history.specs.Generations.{Generations, IsGenerationTable, IsNumbered}
+use Rattle.history.proofs.Laws.{AlwaysStay, HasOneChunkAKey, each_history, generations_more, legal_stay, known_after-more, legal_more, array_at-more, locations-more, one_key, IsGood, known_good}
+use Rattle.history.proofs.Longer.{IsOpenedAs}
 use Rattle.state_laws.specs.Outline.{outlined, outlined_event, outline}
 
 pub outline-more : (h : History) (e : Event) → outline (h ++ e ∷ []) ≡ outline h ++ outlined_event e ∷ []
@@ -113,6 +115,19 @@ pub one_key_in : (h : History) → IsLegal finmap.empty (outline h) → (c d : C
     → key_of h c ≡ Some key → key_of h d ≡ Some key → c ≡ d
 one_key_in h legal c d k l key kc kd vc vd nc nd =
     one_key finmap.empty (outline h) legal c d k l key (known-outline c.array h ∙ kc) (known-outline d.array h ∙ kd) vc vd (ap (λ o. key_in o c) (known-outline c.array h) ∙ nc) (ap (λ o. key_in o d) (known-outline d.array h) ∙ nd)
+
+pub one_chunk_in : (h : History) → IsLegal finmap.empty (outline h) → HasOneChunkAKey h
+one_chunk_in h legal c d key has other = one_key_in h legal c d has.array other.array key has.known other.known has.valid other.valid has.named other.named
+
+-- an array that was there stays as it was opened
+pub stay_in : (h : History) → IsLegal finmap.empty (outline h) → AlwaysStay h
+stay_in h legal early late parts a i n opened =
+    subst (IsOpenedAs i n) (known-outline a h)
+    (legal_stay finmap.empty (outline h) legal (outline early) (outline late) (sym (map-append outlined_event early late) ∙ ap outline parts) a i n (subst (IsOpenedAs i n) (sym (known-outline a early)) opened))
+
+-- a table of generations, one event later
+pub numbered_more : (h : History) (e : Event) (table next : Generations) → IsLegal finmap.empty (outline (h ++ e ∷ [])) → IsGenerationTable h table → IsNumbered h e table next → IsGenerationTable (h ++ e ∷ []) next
+numbered_more h e table next legal = generations_more h e table next (one_chunk_in (h ++ e ∷ []) legal) (stay_in (h ++ e ∷ []) legal h (e ∷ []) refl)
 
 pub good_in : (h : History) → IsLegal finmap.empty (outline h) → (a : ℕ) (k : Known) → known_after h a ≡ Some k → IsGood a k
 good_in h legal a k is = known_good finmap.empty a (outline h) legal k (known-outline a h ∙ is)

@@ -13,6 +13,7 @@ use Rattle.history.specs.Generations.{IsGenerationTable}
 use Rattle.history.specs.Legal.{IsLegal, is_opening}
 use Rattle.history.specs.ReadRows.{mount_of}
 use Rattle.history.specs.Store.{RepresentsHistory}
+use Rattle.history.specs.Touch.{generation_of}
 use Rattle.state_laws.specs.Seen.{StoreSeen, IsFrame}
 use Rattle.state_laws.specs.Log.{Log, cells_held}
 use Rattle.state_laws.specs.Outline.{outline}
@@ -36,11 +37,12 @@ is_fault e = fails e.kind
 abbrev pub TakesMount : Option (List (List ℕ)) → List ℕ → Type 0
 TakesMount names mount = (rest : List ℕ) → takes names (mount ++ 47 ∷ rest) ≡ true
 
--- the run's one chunk of a local array
+-- the run's one chunk of a local array, with its generation
 pub record IsHeld (log : Log) (a : ℕ) (k : Known) : Type 0 where
   pub snapshot : SnapshotCells
   pub held : cells_held log a ≡ Some snapshot
   pub cells : AreCellsOf k snapshot
+  pub generation : (index : List ℕ) → IsIndexOf k.info index → snapshot.generation ≡ generation_of log.events (record { array = a; index = index })
 
 -- which is as it is now
 abbrev pub IsHeldNow : Contents → Log → ℕ → Known → Type 0
@@ -56,8 +58,6 @@ pub record IsTrueTo (start : Contents) (opening : Opening) (store : StoreSeen) (
   pub represents : RepresentsHistory contents start log.events
   -- its changes are counted
   pub counted : IsCounted start opening.store.changes store.changes log.events
-  -- each generation is that of the history
-  pub generations : IsGenerationTable log.events log.generations
   -- and every chunk that is kept is as it is now
   pub kept : All (IsKeptNow start log.events) log.cache.entries
   pub held : (a : ℕ) (k : Known) → known_after log.events a ≡ Some k → is_local k.info.home ≡ true → IsHeldNow start log a k
@@ -73,8 +73,10 @@ pub record Agrees (opening : Opening) (store : StoreSeen) (log : Log) : Type 0 w
   pub count : length log.locals ≡ count_by is_opening log.events
   -- arrays were opened, and got shapes, as a history may
   pub outline : IsLegal finmap.empty (outline log.events)
+  -- each generation is that of the history
+  pub generations : IsGenerationTable log.events log.generations
   pub mounts : (a : ℕ) (k : Known) (mount : List ℕ) → known_after log.events a ≡ Some k → mount_of k.info.home ≡ Some mount → TakesMount store.names mount
-  -- what is kept of chunks has their dtypes and shapes
+  -- what is kept of chunks has their dtypes, shapes and generations
   pub kept : All (IsKept log.events) log.cache.entries
   pub held : (a : ℕ) (k : Known) → known_after log.events a ≡ Some k → is_local k.info.home ≡ true → IsHeld log a k
   -- and where the store told its contents at the start, all is as the history says

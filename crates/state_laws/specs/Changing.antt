@@ -56,11 +56,12 @@ pub record IsHeldStill (log later : Log) (e : Event) (a : ℕ) (k : Known) : Typ
   pub same : cells_held later a ≡ cells_held log a
   pub untouched : (index : List ℕ) → IsIndexOf k.info index → touches log.events e (record { array = a; index = index }) ≡ false
 
--- one that it touches has others
+-- one that it touches has others, of its number
 pub record IsHeldAnew (log later : Log) (e : Event) (a : ℕ) (k : Known) : Type 0 where
   pub snapshot : SnapshotCells
   pub held : cells_held later a ≡ Some snapshot
   pub cells : AreCellsOf k snapshot
+  pub generation : snapshot.generation ≡ length log.events + 1
   pub touched : (index : List ℕ) → IsIndexOf k.info index → touches log.events e (record { array = a; index = index }) ≡ true
 
 -- a commit, or one key of it, that may be made: its keys are those of the chunks that it touches, and local arrays keep their cells or

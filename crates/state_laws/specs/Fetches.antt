@@ -35,8 +35,9 @@ pub record IsNamed (events : History) (c : Chunk) (key : List ℕ) : Type 0 wher
 abbrev pub bounds_in : History → ℕ → Known → Bounds
 bounds_in events a k = record { shape = k.shape; resized = resized_after events a }
 
--- these are the chunk's cells: of its dtype and shape, and as they are now where the store told its contents at the start
+-- these are the chunk's cells: of its dtype, shape and generation, and as they are now where the store told its contents at the start
 pub record IsAnswered (store : StoreSeen) (log : Log) (c : Chunk) (snapshot : SnapshotCells) : Type 0 where
+  pub generation : snapshot.generation ≡ generation_of log.events c
   pub cells : (k : Known) → known_after log.events c.array ≡ Some k → AreCellsOf k snapshot
   pub now : (opening : Opening) (start : Contents) (k : Known) → Agrees opening store log → opening.store.contents ≡ Some start → known_after log.events c.array ≡ Some k → IsCurrent start log.events k c snapshot
 

@@ -7,6 +7,7 @@ use Rattle.history.specs.History.{History}
 use Rattle.history.specs.Arrays.{Known, known_after, is_local}
 use Rattle.history.specs.Chunks.{Chunk, IsIndexOf, key_of}
 use Rattle.history.specs.Snapshots.{IsSnapshotOf, chunk_box}
+use Rattle.history.specs.Touch.{generation_of}
 
 -- cells of a chunk's dtype and shape
 pub record AreCellsOf (k : Known) (snapshot : SnapshotCells) : Type 0 where
@@ -17,7 +18,7 @@ pub record AreCellsOf (k : Known) (snapshot : SnapshotCells) : Type 0 where
 abbrev pub IsCurrent : Contents → History → Known → Chunk → SnapshotCells → Type 0
 IsCurrent start events k c snapshot = IsSnapshotOf start events k c snapshot.generation (word_at snapshot.cells)
 
--- cells that are kept under the key of a chunk of a stored array
+-- cells that are kept under the key of a chunk of a stored array, with its generation
 pub record IsKept (events : History) (entry : List ℕ × SnapshotCells) : Type 0 where
   pub chunk : Chunk
   pub array : Known
@@ -26,6 +27,7 @@ pub record IsKept (events : History) (entry : List ℕ × SnapshotCells) : Type 
   pub valid : IsIndexOf array.info chunk.index
   pub named : key_of events chunk ≡ Some entry.0
   pub cells : AreCellsOf array entry.1
+  pub generation : entry.1.generation ≡ generation_of events chunk
 
 -- which are the chunk as it is now
 abbrev pub IsKeptNow : Contents → History → List ℕ × SnapshotCells → Type 0

@@ -18,4 +18,4 @@ commit_caused opening owner t before own result c =
     let made : IsPreparedOf c.log.events t c.prepared = subst (λ h. IsPreparedOf h t c.prepared) (sym c.at) c.of in
     subst (λ h. IsCommitCaused fixed owner h (before ++ own) t result) c.at
     (subst (λ h. IsCommitCaused fixed owner c.log.events h t result) c.added
-    (caused opening c.store c.log owner t c.prepared c.agrees made.line made.mode made.ops made.reads made.writes made.marks c.next c.later result c.told))
+    (caused opening c.store c.log owner t c.prepared c.agrees made.line made.mode made.ops made.reads made.writes made.marks made.was_read c.next c.later result c.told))

@@ -1,5 +1,5 @@
 -- What a transaction prepared may be committed in each later turn.
-use Rattle.std.proofs.Common.{◌≡◌, ◌∙◌, ℕ, List, [], ◌∷◌, ◌++◌, map, Some, sym, ap, subst, append-nil}
+use Rattle.std.proofs.Common.{◌≡◌, List, [], ◌∷◌, ◌++◌, map, Some, sym, subst}
 use Rattle.std.specs.FinMap as finmap
 use Rattle.std.specs.List.{AllByRecursion, IsDistinct}
 use Rattle.std.specs.List.Sorted.{IsPermutation, IsSortedByKey}
@@ -10,11 +10,9 @@ use mathlib.Core.List.{IsPrefix}
 use Rattle.commits.specs.PlanWrites.{IsReadyWrite}
 use Rattle.commits.specs.declared.ChunkWrite.{ChunkWrite}
 use Rattle.commits.specs.Answers.{IsCommitted}
-use Rattle.commits.specs.Prepared.{AreWrites, IsPreparedFor}
-use Rattle.commits.specs.declared.Mark.{Mark}
+use Rattle.commits.specs.Prepared.{AreWrites}
 use Rattle.commits.specs.declared.prepared.Prepared.{Prepared}
 use Rattle.history.specs.Arrays.{Known, known_after}
-use Rattle.history.specs.Commit.{kept_ops}
 use Rattle.history.specs.History.{History}
 use Rattle.history.specs.Legal.{IsLegal}
 use Rattle.history.specs.declared.event.Event.{Event}
@@ -38,7 +36,7 @@ use Rattle.transactions.specs.Recording.{AreOfFootprint, IsRecorded}
 use Rattle.chunk_fetches.specs.Turns.{HasTurned}
 use Rattle.transactions.specs.Txn.{TxnSeen, transaction_of}
 use Rattle.turn_book.specs.Passes.{BookView, PassView}
-use Rattle.transactions.proofs.MarkLaws.{are_marks, are_read}
+use Rattle.transactions.proofs.MarkLaws.{are_marks, was_read}
 use Rattle.transactions.proofs.RecordLaws.{footprint_later, recorded_later}
 use Rattle.transactions.proofs.TxnLaws.{txn_later}
 use Rattle.transactions.proofs.WriteLaws.{are_parts, are_writes, moved_all}
@@ -78,7 +76,8 @@ module _ (opening : Opening) (seen : History) (t : TxnSeen) (p : Prepared) (txn 
         ops = has.ops;
         reads = recorded.modes;
         writes = writes_at events before legal;
-        marks = are_read opening events t p.footprint.now (txn_at events before legal) footprint has.marks;
+        marks = are_marks opening events t p.footprint.now (txn_at events before legal) footprint has.marks has.marks_sorted;
+        was_read = was_read opening events t (txn_at events before legal) footprint;
       }
 
   module _ (store : StoreSeen) (log : Log) (start : Contents) (before : IsPrefix seen log.events) (agrees : Agrees opening store log) (told : opening.store.contents ≡ Some start) where
@@ -93,19 +92,13 @@ module _ (opening : Opening) (seen : History) (t : TxnSeen) (p : Prepared) (txn 
     committed_at : IsCommitted start log (transaction_of t) p
     committed_at =
         let legal : IsLegal finmap.empty (outline (seen ++ before.0)) = subst (λ h. IsLegal finmap.empty (outline h)) (sym before.1) agrees.outline in
-        let now = txn_at log.events before agrees.outline in
+        let made = prepared_at log.events before agrees.outline in
         let later = recorded_later opening seen before.0 (transaction_of t) legal (λ s is. subst (IsLegal s) (sym before.1) (agrees.holds s is).legal) txn.known recorded in
         let record_now : IsRecorded opening log.events (transaction_of t) = subst (λ h. IsRecorded opening h (transaction_of t)) before.1 later in
         record {
-          prepared = record {
-            line = has.line;
-            mode = has.mode;
-            ops = has.ops;
-            reads = record_now.modes;
-            marks = are_marks opening log.events t start p.footprint.now now record_now told has.marks has.marks_sorted;
-          };
+          prepared = record { line = made.line; mode = made.mode; ops = made.ops; reads = made.reads; marks = made.marks };
           staged = record_now.sound;
-          known = now.known;
+          known = (txn_at log.events before agrees.outline).known;
           reads = record_now.reads start told;
           ready = moved_all (λ (w : ChunkWrite). (k : Known) → known_after log.events w.array ≡ Some k → IsReadyWrite start log k w) has.unsorted p.writes.items has.moves (ready_from has.asked has.unsorted has.are_asked has.are_for);
         }

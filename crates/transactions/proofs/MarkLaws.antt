@@ -12,8 +12,7 @@ use Rattle.std.proofs.lemmas.List.Elements.{All-from_recursion, Contains-append_
 use Rattle.std.proofs.lemmas.List.Sorted.{All-permutation, Contains-permutation, IsPermutation-map}
 use Rattle.std.proofs.lemmas.Map.Keys.{IsDistinct-IsPermutation, IsDistinct-head, IsDistinct-tail}
 use Rattle.std.proofs.lemmas.Slice.Eq.{bytes_eq-Decides}
-use Rattle.commits.specs.Caused.{IsReadUnder}
-use Rattle.commits.specs.Prepared.{AreMarks, HasMark, IsMarkOf}
+use Rattle.commits.specs.Prepared.{AreMarks, HasMark, IsMarkOf, WasReadAt}
 use Rattle.commits.specs.declared.Mark.{Mark}
 use Rattle.history.specs.Arrays.{Known, known_after}
 use Rattle.history.specs.Chunks.{Chunk, IsIndexOf, chunk_key, is_chunk, key_in}
@@ -24,7 +23,6 @@ use Rattle.history.specs.Reads.{Marks, footprint_of, has_mark, mark_of}
 use Rattle.history.specs.Touch.{generation_of}
 use Rattle.history.specs.declared.array.ArrayInfo.{ArrayInfo}
 use Rattle.history.proofs.Laws.{as_opened, key_is, known-longer, one_key, opened_itself, same_chunks}
-use Rattle.kv_face.specs.Store.{Contents}
 use Rattle.commits.specs.Sorting.{key_of_mark}
 use Rattle.commits.proofs.Laws.{rising_sorted}
 use Rattle.chunk_fetches.specs.Agreement.{Opening}
@@ -33,7 +31,7 @@ use Rattle.chunk_fetches.proofs.Laws.{known-outline}
 use Rattle.chunk_fetches.specs.Kept.{IsKeptIn, chunk_at}
 use Rattle.transactions.specs.Conditions.{IsTxnIn}
 use Rattle.transactions.specs.Marking.{mark_of_kept}
-use Rattle.transactions.specs.Recording.{AreOfFootprint, IsRecorded}
+use Rattle.transactions.specs.Recording.{AreOfFootprint}
 use Rattle.transactions.specs.Txn.{TxnSeen, marks_of, transaction_of}
 use Rattle.chunk_fetches.specs.declared.kept.Kept.{Kept}
 
@@ -69,11 +67,6 @@ own_mark (m ∷ ms) once =
     rest (n ∷ ns) apart own = (ap (λ b. cond b m.1 (mark_of ms n.0)) apart.0 ∙ own.0, rest ns apart.1 own.1)
 
 -- a mark among some, by whose key the chunk is known
-record IsMarkAmong (events : History) (c : Chunk) (marks : List Mark) : Type 0 where
-  pub mark : Mark
-  pub there : Contains marks mark
-  pub has : HasKey events c mark.key
-
 has_among : (events : History) (c : Chunk) (marks : List Mark) (m : Mark) → HasKey events c m.key → Contains marks m → HasMark events c marks
 has_among events c [] m has (k, low, is) = absurd (omega (arith, low))
 has_among events c (n ∷ marks) m has (zero, low, is) = inl (subst (λ (x : Mark). HasKey events c x.key) (sym is) has)
@@ -123,29 +116,45 @@ module _ (opening : Opening) (events : History) (outlined : IsLegal finmap.empty
       each [] some apart = tt
       each (l ∷ ls) some apart = (apart_keys k l all.0 some.0 apart.0, each ls some.1 apart.1)
 
+  -- the first chunk among some that are kept that is this one, whose mark is its
+  record IsFirstOf (kept : List Kept) (c : Chunk) : Type 0 where
+    pub first : Kept
+    pub there : Contains (map mark_of_kept kept) (mark_of_kept first)
+    pub same : chunk_at first.id ≡ c
+    pub mark : mark_of (marks_of kept) c ≡ first.mark
+    pub is : IsKeptIn opening events first
+
   -- a chunk that has a mark is kept
-  mark_among : (c : Chunk) (kept : List Kept) → AllByRecursion (IsKeptIn opening events) kept → has_mark (marks_of kept) c ≡ true → IsMarkAmong events c (map mark_of_kept kept)
-  mark_among c [] all is = absurd (let no_such : ⊥ = cc in no_such)
-  mark_among c (k ∷ kept) all is = by (is_chunk (chunk_at k.id) c) refl is (mark_among c kept all.1)
+  first_of : (c : Chunk) (kept : List Kept) → AllByRecursion (IsKeptIn opening events) kept → has_mark (marks_of kept) c ≡ true → IsFirstOf kept c
+  first_of c [] all is = absurd (let no_such : ⊥ = cc in no_such)
+  first_of c (k ∷ kept) all is = by (is_chunk (chunk_at k.id) c) refl is (first_of c kept all.1)
     where
-      by : (b : Bool) → is_chunk (chunk_at k.id) c ≡ b → (b || has_mark (marks_of kept) c) ≡ true → (has_mark (marks_of kept) c ≡ true → IsMarkAmong events c (map mark_of_kept kept)) → IsMarkAmong events c (map mark_of_kept (k ∷ kept))
+      by : (b : Bool) → is_chunk (chunk_at k.id) c ≡ b → (b || has_mark (marks_of kept) c) ≡ true → (has_mark (marks_of kept) c ≡ true → IsFirstOf kept c) → IsFirstOf (k ∷ kept) c
       by true here any rest = record {
-        mark = mark_of_kept k;
+        first = k;
         there = (zero, omega arith, refl);
-        has = subst (λ d. HasKey events d k.key) (same_chunks (chunk_at k.id) c here) (has_key k all.0);
+        same = same_chunks (chunk_at k.id) c here;
+        mark = ap (λ b. cond b k.mark (mark_of (marks_of kept) c)) here;
+        is = all.0;
       }
       by false other any rest =
           let m = rest any in
-          record { mark = m.mark; there = Contains-append_right (mark_of_kept k ∷ []) (map mark_of_kept kept) m.mark m.there; has = m.has }
+          record {
+            first = m.first;
+            there = Contains-append_right (mark_of_kept k ∷ []) (map mark_of_kept kept) (mark_of_kept m.first) m.there;
+            same = m.same;
+            mark = ap (λ b. cond b k.mark (mark_of (marks_of kept) c)) other ∙ m.mark;
+            is = m.is;
+          }
 
   -- the marks of what is kept are those of the transaction
-  module _ (t : TxnSeen) (start : Contents) (told : opening.store.contents ≡ Some start) where
+  module _ (t : TxnSeen) where
     is_mark : (k : Kept) → IsKeptIn opening events k → Contains (footprint_of events t.ops) (chunk_at k.id) → mark_of (marks_of t.kept) (chunk_at k.id) ≡ k.mark → IsMarkOf events (transaction_of t) (mark_of_kept k)
     is_mark k is was_read own = record {
       chunk = chunk_at k.id;
       has = has_key k is;
       was_read = was_read;
-      generation = (is.chunk.now start told).current ∙ ap (λ n. generation_of (take n events) (chunk_at k.id)) (sym own);
+      generation = is.chunk.generation ∙ ap (λ n. generation_of (take n events) (chunk_at k.id)) (sym own);
     }
 
     are_each : (kept : List Kept) → AllByRecursion (IsKeptIn opening events) kept → AllByRecursion (λ (k : Kept). Contains (footprint_of events t.ops) (chunk_at k.id)) kept → AllByRecursion (λ (k : Kept). mark_of (marks_of t.kept) (chunk_at k.id) ≡ k.mark) kept
@@ -153,35 +162,30 @@ module _ (opening : Opening) (events : History) (outlined : IsLegal finmap.empty
     are_each [] all needed own = tt
     are_each (k ∷ kept) all needed own = (is_mark k all.0 needed.0 own.0, are_each kept all.1 needed.1 own.1)
 
--- what is kept, as marks in whatever order, is of chunks that were read
-pub are_read : (opening : Opening) (events : History) (t : TxnSeen) (marks : List Mark) → IsTxnIn opening events t → AreOfFootprint events (transaction_of t) → IsPermutation (map mark_of_kept t.kept) marks
-    → AllByRecursion (λ (m : Mark). IsReadUnder events (transaction_of t) m.key) marks
-are_read opening events t marks txn footprint moved =
+-- what is kept, as marks in the order of their keys, is what the commit prepares of the footprint
+pub are_marks : (opening : Opening) (events : History) (t : TxnSeen) (marks : List Mark) → IsTxnIn opening events t → AreOfFootprint events (transaction_of t)
+    → IsPermutation (map mark_of_kept t.kept) marks → IsSortedByKey key_of_mark (slice_cmp nat_cmp) marks → AreMarks events (transaction_of t) marks
+are_marks opening events t marks txn footprint moved sorted =
     let made = map mark_of_kept t.kept in
     let pair : Kept → Chunk × ℕ = λ k. (chunk_at k.id, k.mark) in
     let needed = all_from_map pair (λ (m : Chunk × ℕ). Contains (footprint_of events t.ops) m.0) t.kept footprint.needed in
-    recursion_from_All (λ (m : Mark). IsReadUnder events (transaction_of t) m.key) marks
-    (All-permutation (λ (m : Mark). IsReadUnder events (transaction_of t) m.key) made marks moved (All-from_recursion (λ (m : Mark). IsReadUnder events (transaction_of t) m.key) made (each t.kept txn.kept needed)))
-  where
-    each : (kept : List Kept) → AllByRecursion (IsKeptIn opening events) kept → AllByRecursion (λ (k : Kept). Contains (footprint_of events t.ops) (chunk_at k.id)) kept
-        → AllByRecursion (λ (m : Mark). IsReadUnder events (transaction_of t) m.key) (map mark_of_kept kept)
-    each [] all needed = tt
-    each (k ∷ kept) all needed = (record { chunk = chunk_at k.id; has = has_key opening events txn.outline k all.0; was_read = needed.0 }, each kept all.1 needed.1)
-
--- what is kept, as marks in the order of their keys, is what the commit prepares of the footprint
-pub are_marks : (opening : Opening) (events : History) (t : TxnSeen) (start : Contents) (marks : List Mark) → IsTxnIn opening events t → IsRecorded opening events (transaction_of t) → opening.store.contents ≡ Some start
-    → IsPermutation (map mark_of_kept t.kept) marks → IsSortedByKey key_of_mark (slice_cmp nat_cmp) marks → AreMarks events (transaction_of t) marks
-are_marks opening events t start marks txn recorded told moved sorted =
-    let made = map mark_of_kept t.kept in
-    let was = recorded.footprint in
-    let pair : Kept → Chunk × ℕ = λ k. (chunk_at k.id, k.mark) in
-    let needed = all_from_map pair (λ (m : Chunk × ℕ). Contains (footprint_of events t.ops) m.0) t.kept was.needed in
-    let own = all_from_map pair (λ (m : Chunk × ℕ). mark_of (marks_of t.kept) m.0 ≡ m.1) t.kept (own_mark (marks_of t.kept) was.once) in
-    let each = are_each opening events txn.outline t start told t.kept txn.kept needed own in
-    let keys = IsDistinct-IsPermutation bytes_eq nat_list_eq_equiv.symm (map key_of_mark made) (map key_of_mark marks) (IsPermutation-map key_of_mark made marks moved) (distinct_keys opening events txn.outline t.kept txn.kept was.once) in
+    let own = all_from_map pair (λ (m : Chunk × ℕ). mark_of (marks_of t.kept) m.0 ≡ m.1) t.kept (own_mark (marks_of t.kept) footprint.once) in
+    let each = are_each opening events txn.outline t t.kept txn.kept needed own in
+    let keys = IsDistinct-IsPermutation bytes_eq nat_list_eq_equiv.symm (map key_of_mark made) (map key_of_mark marks) (IsPermutation-map key_of_mark made marks moved) (distinct_keys opening events txn.outline t.kept txn.kept footprint.once) in
     record {
       each = recursion_from_All (IsMarkOf events (transaction_of t)) marks (All-permutation (IsMarkOf events (transaction_of t)) made marks moved (All-from_recursion (IsMarkOf events (transaction_of t)) made each));
-      all = λ c has. let m = mark_among opening events txn.outline c t.kept txn.kept (was.marked c has) in
-          has_among events c marks m.mark m.has (Contains-permutation made marks m.mark moved m.there);
+      all = λ c has.
+          let k = first_of opening events txn.outline c t.kept txn.kept (footprint.marked c has) in
+          has_among events c marks (mark_of_kept k.first) (subst (λ d. HasKey events d k.first.key) k.same (has_key opening events txn.outline k.first k.is)) (Contains-permutation made marks (mark_of_kept k.first) moved k.there);
       sorted = rising_sorted key_of_mark marks sorted keys;
+    }
+
+-- each chunk of the footprint was read at its mark
+pub was_read : (opening : Opening) (events : History) (t : TxnSeen) → IsTxnIn opening events t → AreOfFootprint events (transaction_of t) → (c : Chunk) → Contains (footprint_of events t.ops) c → WasReadAt events (transaction_of t) c
+was_read opening events t txn footprint c has =
+    let k = first_of opening events txn.outline c t.kept txn.kept (footprint.marked c has) in
+    record {
+      marked = footprint.marked c has;
+      array = k.is.chunk.array;
+      known = ap (λ n. known_after (take n events) c.array) k.mark ∙ ap (λ (d : Chunk). known_after (take k.first.mark events) d.array) (sym k.same) ∙ k.is.chunk.known;
     }

@@ -1,18 +1,17 @@
 -- A transaction's commit, in one turn.
-use Rattle.std.specs.Prelude.{◌≡◌, ◌⊎◌, ℕ, Bool, true, false, List, [], ◌∷◌, ◌++◌, Option, Some, None, Result, Ok, Err}
+use Rattle.std.specs.Prelude.{◌≡◌, ◌⊎◌, ℕ, Bool, true, false, List, [], ◌∷◌, ◌++◌, Option, Some, None, Result, Ok, Err, Contains}
 use Rattle.std.specs.FinMap as finmap
-use Rattle.std.specs.List.{AllByRecursion}
 use mathlib.Core.List.{IsPrefix}
 use Rattle.commits.specs.Answers.{IsCommitRow, IsCommitted, IsTold}
-use Rattle.commits.specs.Caused.{IsReadUnder}
-use Rattle.commits.specs.Prepared.{AreWrites}
-use Rattle.commits.specs.declared.Mark.{Mark}
+use Rattle.commits.specs.Prepared.{AreMarks, AreWrites, WasReadAt}
 use Rattle.commits.specs.declared.prepared.Prepared.{Prepared}
 use Rattle.commits.specs.declared.refused.CommitRefused.{CommitRefused}
 use Rattle.commits.specs.declared.refused.CommitRefused.TheVariants as refused
+use Rattle.history.specs.Chunks.{Chunk}
 use Rattle.history.specs.Commit.{Transaction, kept_ops}
 use Rattle.history.specs.History.{History}
 use Rattle.history.specs.Legal.{IsLegal}
+use Rattle.history.specs.Reads.{footprint_of}
 use Rattle.history.specs.declared.event.Event.{Event}
 use Rattle.kv_face.specs.Store.{Contents}
 use Rattle.chunk_fetches.specs.Agreement.{Opening, Agrees}
@@ -33,8 +32,9 @@ pub record IsPreparedOf (events : History) (t : Transaction) (p : Prepared) : Ty
   -- Reads are among its operations under repeatable read alone
   pub reads : kept_ops t ≡ t.ops
   pub writes : AreWrites events t.ops p.writes.items
-  -- the marks are of chunks that it read
-  pub marks : AllByRecursion (λ (m : Mark). IsReadUnder events t m.key) p.footprint.now
+  -- there is one mark for each chunk that it read, by the generation at which it read the chunk, whose array was known then
+  pub marks : AreMarks events t p.footprint.now
+  pub was_read : (c : Chunk) → Contains (footprint_of events t.ops) c → WasReadAt events t c
 
 -- in a turn behind these events a state that agreed with the opening answered a transaction's commit, and added these events of its own
 pub record IsCommittedIn (opening : Opening) (owner : ℕ) (t : Transaction) (before : History) (own : List Event) (result : Result (List ℕ) CommitRefused) : Type 0 where

@@ -17,6 +17,9 @@ pub held_over-requires-clause-words : goal.held_over-requires-clause-words
 held_over-requires-clause-words g c =
     held_words c.args.write c.in-Some.base c.requires.agrees c.requires.write c.requires.local (answered_some c.args.write c.args.write.chunk.now c.in_ok-base.field-0 c.in-Some.base refl c.in-Some.is c.in_ok-base.ensures.answered)
 
+pub returns-clause-numbered : goal.returns-clause-numbered
+returns-clause-numbered g c = c.in_ok-cells.ensures.generation
+
 pub returns-clause-plan : goal.returns-clause-plan
 returns-clause-plan g c opening start k agrees told known = (
   c.in_ok-cells.ensures.generation,

@@ -1,5 +1,6 @@
-use Rattle.std.proofs.Common.{◌≡◌, Err, sym, ◌∙◌, ap}
-use Rattle.chunk_plans.proofs.LeavingLaws.{now_left, now_plan, ready_left, ready_plan}
+use Rattle.std.proofs.Common.{◌≡◌, Err, sym, ◌∙◌, ap, subst}
+use Rattle.chunk_plans.specs.Leaving.{HasNumber}
+use Rattle.chunk_plans.proofs.LeavingLaws.{now_left, now_plan, ready_left, ready_numbered, ready_plan}
 use Rattle.chunk_plans.proofs.Same.{err_and, err_told}
 use Rattle.chunk_plans.proofs.Usable.{usable_some}
 use Rattle.shared_state.specs.declared.FetchError.TheVariants as fetch
@@ -13,6 +14,11 @@ returns-then-is_usable-clause-left g c k known =
     let some = usable_some _ _ c.args.write.ready (sym (c.is_usable.ensures c.requires.write.0 c.requires.write.1.known) ∙ c.if-is_usable.true) in
     ready_left c.args.write k c.form-form.result.now c.requires.agrees known (c.requires.stored k known, c.form-form.ensures k known) c.prepared.result.left some c.prepared.ensures.left
 
+pub returns-then-is_usable-clause-numbered : goal.returns-then-is_usable-clause-numbered
+returns-then-is_usable-clause-numbered g c number =
+    let some = usable_some _ _ c.args.write.ready (sym (c.is_usable.ensures c.requires.write.0 c.requires.write.1.known) ∙ c.if-is_usable.true) in
+    ready_numbered number c.args.write c.form-form.result.now c.prepared.result.left some c.prepared.ensures.left
+
 pub returns-then-is_usable-clause-plan : goal.returns-then-is_usable-clause-plan
 returns-then-is_usable-clause-plan g c opening start k number agrees told known ready =
     let some = usable_some _ _ c.args.write.ready (sym (c.is_usable.ensures c.requires.write.0 c.requires.write.1.known) ∙ c.if-is_usable.true) in
@@ -24,6 +30,9 @@ left_now-requires-clause-form g c k known = (c.requires.stored k known, c.in_ok-
 pub returns-clause-left : goal.returns-clause-left
 returns-clause-left g c k known =
     now_left c.args.write k c.in_ok-form.form c.requires.agrees known (c.requires.stored k known, c.in_ok-form.ensures k known) c.planned.result.left c.in_ok-over.over.cells c.in_ok-over.over.bytes c.planned.ensures.left c.in_ok-over.ensures.cells
+
+pub returns-clause-numbered : goal.returns-clause-numbered
+returns-clause-numbered g c number = subst (HasNumber number) (sym c.planned.ensures.left) tt
 
 pub returns-clause-plan : goal.returns-clause-plan
 returns-clause-plan g c opening start k number agrees told known ready =

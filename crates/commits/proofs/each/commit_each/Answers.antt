@@ -28,7 +28,8 @@ make_each-requires-clause-agrees g c =
 pub make_each-requires-clause-plans : goal.make_each-requires-clause-plans
 make_each-requires-clause-plans g c =
     let seen = g.K.KvStore.seen in
-    key_plans_of (seen c.args.state.now.store) c.args.state.now.log c.plan_writes.new.state.log c.args.by.ops _ c.args.writes.items c.in-Ok.plans.items c.in-Ok.ensures.same.events c.requires.all c.in-Ok.ensures.plans
+    key_plans_of (seen c.args.state.now.store) c.args.state.now.log c.plan_writes.new.state.log c.args.by.ops c.args.writes.items c.in-Ok.plans.items c.in-Ok.ensures.same.events c.requires.all
+    (subst (λ n. ArePlannedBy (seen c.args.state.now.store) c.args.state.now.log (n + 1) 1 c.args.writes.items c.in-Ok.plans.items) (ap length c.events.ensures) c.in-Ok.ensures.plans)
 
 pub make_each-requires-clause-some : goal.make_each-requires-clause-some
 make_each-requires-clause-some g c =

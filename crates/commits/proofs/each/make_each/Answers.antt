@@ -60,6 +60,9 @@ make_one-requires-clause-agrees g c =
 pub make_one-requires-clause-plan : goal.make_one-requires-clause-plan
 make_one-requires-clause-plan g c = (subst (AreKeyPlans c.loop-plan.state.log.events) c.in-Some.ensures.steps.0 c.loop-plan.invariant.plans).each.0
 
+pub make_one-requires-clause-numbered : goal.make_one-requires-clause-numbered
+make_one-requires-clause-numbered g c = (subst (AreKeyPlans c.loop-plan.state.log.events) c.in-Some.ensures.steps.0 c.loop-plan.invariant.plans).numbered.0
+
 pub returns-in_default-clause-made : goal.returns-in_default-clause-made
 returns-in_default-clause-made g c =
     let seen = g.K.KvStore.seen in

@@ -26,12 +26,12 @@ commit_planned-requires-clause-plans g c =
     let seen = g.K.KvStore.seen in
     subst (λ (commit : Commit). ArePlans c.args.state.now.log (done_event c.args.owner commit) c.in-Ok-alone.plans.items) (sym c.in-Ok-keyed.ensures)
     (subst (λ (ps : List Planned). ArePlans c.args.state.now.log (key_event c.args.owner c.args.line c.args.mode c.args.ops c.args.plan.key) ps) (sym c.in-Ok-alone.ensures)
-    (one_plan (seen c.args.state.now.store) c.args.state.now.log c.args.owner c.args.line c.args.mode c.args.ops c.args.plan (c.requires.agrees.0, c.requires.agrees.1.0) c.requires.plan))
+    (one_plan (seen c.args.state.now.store) c.args.state.now.log c.args.owner c.args.line c.args.mode c.args.ops c.args.plan (c.requires.agrees.0, c.requires.agrees.1.0) c.requires.plan c.requires.numbered))
 
 pub commit_planned-requires-clause-made : goal.commit_planned-requires-clause-made
 commit_planned-requires-clause-made g c =
     let seen = g.K.KvStore.seen in
-    subst (λ (ps : List Planned). AreMade (seen c.args.state.now.store) (changes_of ps)) (sym c.in-Ok-alone.ensures) (one_made (seen c.args.state.now.store) c.args.state.now.log c.args.owner c.args.line c.args.mode c.args.ops c.args.plan (c.requires.agrees.0, c.requires.agrees.1.0) c.requires.plan)
+    subst (λ (ps : List Planned). AreMade (seen c.args.state.now.store) (changes_of ps)) (sym c.in-Ok-alone.ensures) (one_made (seen c.args.state.now.store) c.args.state.now.log c.args.owner c.args.line c.args.mode c.args.ops c.args.plan (c.requires.agrees.0, c.requires.agrees.1.0) c.requires.plan c.requires.numbered)
 
 pub returns-clause-kept : goal.returns-clause-kept
 returns-clause-kept g c opening agrees right =

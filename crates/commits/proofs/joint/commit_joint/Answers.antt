@@ -27,20 +27,20 @@ make_joint-requires-clause-agrees g c =
 pub make_joint-requires-clause-plans : goal.make_joint-requires-clause-plans
 make_joint-requires-clause-plans g c =
     let seen = g.K.KvStore.seen in
-    joint_plans (seen c.args.state.now.store) (seen c.plan_writes.new.state.store) c.args.state.now.log c.plan_writes.new.state.log c.args.owner c.args.commit _ c.args.writes.items c.in-Ok.plans.items c.requires.whole c.in-Ok.ensures.same.events c.plan_writes.ensures.read c.requires.all
-    c.in-Ok.ensures.plans
+    joint_plans (seen c.args.state.now.store) (seen c.plan_writes.new.state.store) c.args.state.now.log c.plan_writes.new.state.log c.args.owner c.args.commit c.args.writes.items c.in-Ok.plans.items c.requires.whole c.in-Ok.ensures.same.events c.plan_writes.ensures.read c.requires.all
+    (subst (λ n. ArePlannedBy (seen c.args.state.now.store) c.args.state.now.log n 0 c.args.writes.items c.in-Ok.plans.items) (ap (λ n. n + 1) (ap length c.events.ensures)) c.in-Ok.ensures.plans)
 
 pub make_joint-requires-clause-made : goal.make_joint-requires-clause-made
 make_joint-requires-clause-made g c =
     let seen = g.K.KvStore.seen in
-    joint_made (seen c.args.state.now.store) (seen c.plan_writes.new.state.store) c.args.state.now.log c.plan_writes.new.state.log c.args.owner c.args.commit _ c.args.writes.items c.in-Ok.plans.items c.requires.whole c.in-Ok.ensures.same.events c.plan_writes.ensures.read c.requires.all
-    c.in-Ok.ensures.plans (c.requires.agrees.0, c.plan_writes.ensures.kept c.requires.agrees.0 c.requires.agrees.1.0) c.requires.together
+    joint_made (seen c.args.state.now.store) (seen c.plan_writes.new.state.store) c.args.state.now.log c.plan_writes.new.state.log c.args.owner c.args.commit c.args.writes.items c.in-Ok.plans.items c.requires.whole c.in-Ok.ensures.same.events c.plan_writes.ensures.read c.requires.all
+    (subst (λ n. ArePlannedBy (seen c.args.state.now.store) c.args.state.now.log n 0 c.args.writes.items c.in-Ok.plans.items) (ap (λ n. n + 1) (ap length c.events.ensures)) c.in-Ok.ensures.plans) (c.requires.agrees.0, c.plan_writes.ensures.kept c.requires.agrees.0 c.requires.agrees.1.0) c.requires.together
 
 pub make_joint-requires-clause-mount : goal.make_joint-requires-clause-mount
 make_joint-requires-clause-mount g c =
     let seen = g.K.KvStore.seen in
-    joint_mount (seen c.args.state.now.store) (seen c.plan_writes.new.state.store) c.args.state.now.log c.plan_writes.new.state.log c.args.owner c.args.commit _ c.args.writes.items c.in-Ok.plans.items c.requires.whole c.in-Ok.ensures.same.events c.plan_writes.ensures.read c.requires.all
-    c.in-Ok.ensures.plans c.in_ok-mount.mount (subst (λ (ws : List ChunkWrite). IsMountFor c.args.state.now.log.events ws c.in_ok-mount.mount) c.deref.ensures.value c.in_ok-mount.ensures)
+    joint_mount (seen c.args.state.now.store) (seen c.plan_writes.new.state.store) c.args.state.now.log c.plan_writes.new.state.log c.args.owner c.args.commit c.args.writes.items c.in-Ok.plans.items c.requires.whole c.in-Ok.ensures.same.events c.plan_writes.ensures.read c.requires.all
+    (subst (λ n. ArePlannedBy (seen c.args.state.now.store) c.args.state.now.log n 0 c.args.writes.items c.in-Ok.plans.items) (ap (λ n. n + 1) (ap length c.events.ensures)) c.in-Ok.ensures.plans) c.in_ok-mount.mount (subst (λ (ws : List ChunkWrite). IsMountFor c.args.state.now.log.events ws c.in_ok-mount.mount) c.deref.ensures.value c.in_ok-mount.ensures)
 
 pub returns-in-Ok-clause-made : goal.returns-in-Ok-clause-made
 returns-in-Ok-clause-made g c =

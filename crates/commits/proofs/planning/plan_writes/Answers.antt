@@ -71,7 +71,7 @@ loop-write-preserved g c =
     let p = c.in_ok-plan.plan in
     let steps = c.in-Some.ensures.steps.0 in
     let planned = planned_first (seen c.args.state.now.store) (seen c.loop-write.state.store) log c.loop-write.state.log c.loop-write.invariant.same c.loop-write.invariant.kept w p c.loop-write.next
-    (record { array = c.in_ok-plan.ensures.array; chunk = c.in_ok-plan.ensures.chunk; key = c.in_ok-plan.ensures.key; left = c.in_ok-plan.ensures.left; plan = c.in_ok-plan.ensures.plan }) in
+    (record { array = c.in_ok-plan.ensures.array; chunk = c.in_ok-plan.ensures.chunk; key = c.in_ok-plan.ensures.key; left = c.in_ok-plan.ensures.left; numbered = c.in_ok-plan.ensures.numbered; plan = c.in_ok-plan.ensures.plan }) in
     record {
       plans = λ more are.
           subst (ArePlannedBy (seen c.args.state.now.store) log c.args.number c.args.step c.args.writes.items) (sym (append_assoc c.loop-write.plans.items (p ∷ []) more) ∙ ap (λ xs. xs ++ more) (sym c.push_reserved.ensures.items))

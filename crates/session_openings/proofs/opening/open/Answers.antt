@@ -5,8 +5,8 @@ use Rattle.history.specs.Lines.{opening}
 use Rattle.history.specs.Refs.{HasKnownRefs}
 use Rattle.indexmap.specs.IndexMap.{get_by_text}
 use Rattle.sessions.specs.MeaningOpenings.{leaves_of, build_of}
-use Rattle.session_openings.proofs.LineLaws.{told_opened, opened_keeps, view_known, refused_alone}
-use Rattle.sessions.proofs.Laws.{passed_alone, names_then, told_without, refusal, outside_some}
+use Rattle.session_openings.proofs.LineLaws.{told_opened, opening_caused, opened_keeps, view_known, refused_alone}
+use Rattle.sessions.proofs.Laws.{passed_alone, names_then, told_without, refusal, refused_caused, outside_some}
 use Rattle.sessions.specs.Standing.{session_state}
 use Rattle.stack_driver.specs.Conditions.{IsView}
 use Rattle.session_openings.proofs.opening.open.Goals as goal
@@ -14,6 +14,11 @@ use Rattle.session_openings.proofs.opening.open.Goals as goal
 pub returns-then-is_some-clause-told : goal.returns-then-is_some-clause-told
 returns-then-is_some-clause-told g c = λ line.
     told_without c.args.around.now.book.now c.args.pass.now (session_state (get_by_text c.args.names.now) (length c.args.pass.now.seen) c.args.txn.now) line (opening c.args.name.now (leaves_of c.args.plan) (build_of c.args.plan)) body.InTransaction
+    (refusal _ _ old.in_transaction (outside_some c.args.txn.now _ (search rules)) refl)
+
+pub returns-then-is_some-clause-caused : goal.returns-then-is_some-clause-caused
+returns-then-is_some-clause-caused g c = λ line.
+    refused_caused c.args.around.now.book.now c.args.pass.now (session_state (get_by_text c.args.names.now) (length c.args.pass.now.seen) c.args.txn.now) line (opening c.args.name.now (leaves_of c.args.plan) (build_of c.args.plan)) body.InTransaction
     (refusal _ _ old.in_transaction (outside_some c.args.txn.now _ (search rules)) refl)
 
 pub returns-then-is_some-clause-events : goal.returns-then-is_some-clause-events
@@ -28,6 +33,10 @@ returns-then-is_some-clause-passed g c = passed_alone c.args.around.now.book.now
 pub returns-clause-told : goal.returns-clause-told
 returns-clause-told g c = λ line.
     told_opened c.args.around.now.book.now c.args.pass.now c.open_plan.new.pass c.args.plan (get_by_text c.args.names.now) (get_by_text c.open_plan.new.names) c.args.name.now c.open_plan.result c.args.txn.now line (search rules) c.open_plan.ensures
+
+pub returns-clause-caused : goal.returns-clause-caused
+returns-clause-caused g c = λ line.
+    opening_caused c.args.around.now.book.now c.args.pass.now c.open_plan.new.pass c.args.plan (get_by_text c.args.names.now) (get_by_text c.open_plan.new.names) c.args.name.now c.open_plan.result c.args.txn.now line (search rules) c.open_plan.ensures
 
 pub returns-clause-events : goal.returns-clause-events
 returns-clause-events g c = c.open_plan.ensures.events

@@ -107,12 +107,14 @@ returns-in-Open-clause-caused g c =
 pub returns-in-View-clause-caused : goal.returns-in-View-clause-caused
 returns-in-View-clause-caused g c =
     subst (λ command. IsCausedBy c.args.around.now.book.now c.args.pass.now c.args.pass.now (session_state (get_by_text c.args.names.now) (length c.args.pass.now.seen) c.args.txn.now) c.args.line (line_of (form_of command)) (get_by_text c.viewed.new.names) (transaction_in c.args.txn.now) c.viewed.result) (sym c.in-View.is)
-    (alone_caused c.args.around.now.book.now c.args.pass.now (session_state (get_by_text c.args.names.now) (length c.args.pass.now.seen) c.args.txn.now) c.args.line _ (get_by_text c.viewed.new.names) (transaction_in c.args.txn.now) c.viewed.result (c.viewed.ensures.told _ c.args.line c.args.txn.now))
+    (alone_caused c.args.around.now.book.now c.args.pass.now (session_state (get_by_text c.args.names.now) (length c.args.pass.now.seen) c.args.txn.now) c.args.line _ (get_by_text c.viewed.new.names) (transaction_in c.args.txn.now) c.viewed.result
+    (plain_view (get_by_text c.args.names.now) (transaction_in c.args.txn.now) c.in-View.name c.in-View.of (changes_of c.in-View.transform c.in-View.steps)) (c.viewed.ensures.told _ c.args.line c.args.txn.now))
 
 pub returns-in-Join-clause-caused : goal.returns-in-Join-clause-caused
 returns-in-Join-clause-caused g c =
     subst (λ command. IsCausedBy c.args.around.now.book.now c.args.pass.now c.args.pass.now (session_state (get_by_text c.args.names.now) (length c.args.pass.now.seen) c.args.txn.now) c.args.line (line_of (form_of command)) (get_by_text c.joined.new.names) (transaction_in c.args.txn.now) c.joined.result) (sym c.in-Join.is)
-    (alone_caused c.args.around.now.book.now c.args.pass.now (session_state (get_by_text c.args.names.now) (length c.args.pass.now.seen) c.args.txn.now) c.args.line _ (get_by_text c.joined.new.names) (transaction_in c.args.txn.now) c.joined.result (c.joined.ensures.told _ c.args.line c.args.txn.now))
+    (alone_caused c.args.around.now.book.now c.args.pass.now (session_state (get_by_text c.args.names.now) (length c.args.pass.now.seen) c.args.txn.now) c.args.line _ (get_by_text c.joined.new.names) (transaction_in c.args.txn.now) c.joined.result
+    (plain_join (get_by_text c.args.names.now) (transaction_in c.args.txn.now) c.in-Join.name c.in-Join.layers (join_of c.in-Join.form) (changes_of c.in-Join.transform c.in-Join.steps)) (c.joined.ensures.told _ c.args.line c.args.txn.now))
 
 pub returns-in-Read-clause-caused : goal.returns-in-Read-clause-caused
 returns-in-Read-clause-caused g c =
@@ -127,7 +129,8 @@ returns-in-Write-clause-caused g c =
 pub returns-in-Begin-clause-caused : goal.returns-in-Begin-clause-caused
 returns-in-Begin-clause-caused g c =
     subst (λ command. IsCausedBy c.args.around.now.book.now c.args.pass.now c.args.pass.now (session_state (get_by_text c.args.names.now) (length c.args.pass.now.seen) c.args.txn.now) c.args.line (line_of (form_of command)) (get_by_text c.args.names.now) (transaction_in c.begin.new.txn) c.begin.result) (sym c.in-Begin.is)
-    (alone_caused c.args.around.now.book.now c.args.pass.now (session_state (get_by_text c.args.names.now) (length c.args.pass.now.seen) c.args.txn.now) c.args.line _ (get_by_text c.args.names.now) (transaction_in c.begin.new.txn) c.begin.result (c.begin.ensures.told (get_by_text c.args.names.now) _))
+    (alone_caused c.args.around.now.book.now c.args.pass.now (session_state (get_by_text c.args.names.now) (length c.args.pass.now.seen) c.args.txn.now) c.args.line _ (get_by_text c.args.names.now) (transaction_in c.begin.new.txn) c.begin.result
+    (plain_begin (get_by_text c.args.names.now) (transaction_in c.args.txn.now) (record { atomic = c.in-Begin.atomic; repeatable_read = c.in-Begin.repeatable_read })) (c.begin.ensures.told (get_by_text c.args.names.now) _))
 
 pub returns-in-Commit-clause-caused : goal.returns-in-Commit-clause-caused
 returns-in-Commit-clause-caused g c =
@@ -137,7 +140,8 @@ returns-in-Commit-clause-caused g c =
 pub returns-in-Abort-clause-caused : goal.returns-in-Abort-clause-caused
 returns-in-Abort-clause-caused g c =
     subst (λ command. IsCausedBy c.args.around.now.book.now c.args.pass.now c.args.pass.now (session_state (get_by_text c.args.names.now) (length c.args.pass.now.seen) c.args.txn.now) c.args.line (line_of (form_of command)) (get_by_text c.args.names.now) (transaction_in c.abort.new.txn) c.abort.result) (sym c.in-Abort.is)
-    (alone_caused c.args.around.now.book.now c.args.pass.now (session_state (get_by_text c.args.names.now) (length c.args.pass.now.seen) c.args.txn.now) c.args.line _ (get_by_text c.args.names.now) (transaction_in c.abort.new.txn) c.abort.result (c.abort.ensures.told (get_by_text c.args.names.now) _))
+    (alone_caused c.args.around.now.book.now c.args.pass.now (session_state (get_by_text c.args.names.now) (length c.args.pass.now.seen) c.args.txn.now) c.args.line _ (get_by_text c.args.names.now) (transaction_in c.abort.new.txn) c.abort.result
+    (plain_abort (get_by_text c.args.names.now) (transaction_in c.args.txn.now)) (c.abort.ensures.told (get_by_text c.args.names.now) _))
 
 pub returns-in-Resize-clause-caused : goal.returns-in-Resize-clause-caused
 returns-in-Resize-clause-caused g c =

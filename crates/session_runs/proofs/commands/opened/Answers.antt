@@ -1,7 +1,6 @@
 use Rattle.std.proofs.Common.{length, subst}
 use Rattle.history.specs.Lines.{opening}
 use Rattle.indexmap.specs.IndexMap.{get_by_text}
-use Rattle.session_openings.proofs.Laws.{opening_caused}
 use Rattle.session_openings.specs.Caused.{IsCausedBy}
 use Rattle.session_openings.specs.MeaningOpenings.{leaves_of, build_of}
 use Rattle.session_openings.specs.Standing.{session_state, transaction_in}
@@ -15,4 +14,4 @@ returns-clause-failures g c = opened_tells (added_by c.args.pass.now c.open.new.
 pub returns-clause-caused : goal.returns-clause-caused
 returns-clause-caused g c = λ line.
     subst (λ n. IsCausedBy c.args.around.now.book.now c.args.pass.now c.open.new.pass (session_state (get_by_text c.args.names.now) (length c.args.pass.now.seen) c.args.txn.now) line (opening n (leaves_of c.args.plan) (build_of c.args.plan)) (get_by_text c.open.new.names) (transaction_in c.args.txn.now) c.open.result) c.items.ensures
-    (opening_caused c.args.around.now.book.now c.args.pass.now c.open.new.pass c.args.plan c.items.result.now (get_by_text c.args.names.now) (get_by_text c.open.new.names) c.args.txn.now line c.open.result c.open.ensures.bound)
+    (c.open.ensures.caused line)

@@ -23,4 +23,4 @@ pub returns-clause-caused : goal.returns-clause-caused
 returns-clause-caused g c = λ line.
     subst (λ n. IsCausedBy c.args.around.now.book.now c.args.pass.now c.resolve.new.pass (session_state (get_by_text c.args.names.now) (length c.args.pass.now.seen) c.args.txn.now) line (resolving n) (get_by_text c.resolve.new.names) (transaction_in c.args.txn.now) c.resolve.result) c.items.ensures
     (anywhere_caused c.args.around.now.book.now c.args.pass.now c.resolve.new.pass (session_state (get_by_text c.args.names.now) (length c.args.pass.now.seen) c.args.txn.now) line (resolving c.items.result.now) (get_by_text c.resolve.new.names) (transaction_in c.args.txn.now) c.resolve.result c.resolve.ensures.none
-    (λ fixed. c.resolve.ensures.anywhere fixed line))
+    (plain_resolve (get_by_text c.args.names.now) (transaction_in c.args.txn.now) c.items.result.now) (λ fixed. c.resolve.ensures.anywhere fixed line))

@@ -29,6 +29,9 @@ pub returns-in-Some-clause-caused : goal.returns-in-Some-clause-caused
 returns-in-Some-clause-caused g c =
     let names = get_by_text c.args.names.now in
     let pass = c.args.pass.now in
-    let asked = writing c.args.name.now (changes_of None c.args.steps.now) (values_of (view c.args.values)) in
+    let changes = changes_of None c.args.steps.now in
+    let values = values_of (view c.args.values) in
+    let asked = writing c.args.name.now changes values in
     subst (λ o. IsCausedBy c.args.around.now.book.now pass pass (session_state names (length pass.seen) o) c.args.line asked names (Some (transaction_of c.stage.new.t)) c.stage.result) (sym c.in-Some.is)
-    (alone_caused c.args.around.now.book.now pass (session_state names (length pass.seen) (Some c.in-Some.t)) c.args.line asked names (Some (transaction_of c.stage.new.t)) c.stage.result (c.stage.ensures.told (length pass.seen) c.args.line))
+    (alone_caused c.args.around.now.book.now pass (session_state names (length pass.seen) (Some c.in-Some.t)) c.args.line asked names (Some (transaction_of c.stage.new.t)) c.stage.result
+    (plain_stage names (transaction_of c.in-Some.t) c.args.name.now changes values) (c.stage.ensures.told (length pass.seen) c.args.line))

@@ -1,12 +1,14 @@
 use Rattle.std.proofs.Common.{◌≡◌, ◌<◌, None, Some, Ok, Err, refl, sym, ap, subst, ◌∙◌}
-use Rattle.std.specs.Prelude.{OnErr, string_bytes}
+use Rattle.std.specs.Prelude.{IfOk, OnErr, string_bytes}
 use Rattle.std.proofs.lemmas.Result.{IfOk-weaker}
 use Rattle.state_laws.specs.Chunks.{Chunk, chunk_key}
 use Rattle.state_laws.proofs.Laws.{none_is_none}
 use Rattle.state_laws.specs.Agreement.{IsState}
+use Rattle.state_laws.specs.Log.{Log}
 use Rattle.state_laws.specs.Seen.{IsRead}
-use Rattle.state_laws.specs.Fetches.{IsAnswered, IsDamagedThere, IsNamed, kept_of}
-use Rattle.state_laws.specs.Looks.{IsLook}
+use Rattle.state_laws.specs.Arrays.{known_after}
+use Rattle.state_laws.specs.Fetches.{IsAnswered, IsDamagedThere, IsNamed, kept_of, settled}
+use Rattle.state_laws.specs.Looks.{HasBounds, IsLook}
 use Rattle.state_laws.specs.declared.error.FetchError.TheVariants as fetch
 use Rattle.state_laws.proofs.Laws.{look_answered, decoded_damaged, not_risen}
 use Rattle.shared_state.proofs.Looked.{answered_back, damaged_back, stored_forth}
@@ -45,6 +47,19 @@ returns-in-Ok-clause-answered g c =
     let steady = not_risen (seen now.store).faults next.faults (λ rose. let was = c.look_at.ensures.left.told rose in let no : Ok c.in_ok-snapshot.field-0 ≡ Err (fetch.StoreFailed was.0) = sym c.in_ok-snapshot.was ∙ was.1 in cc) in
     IfOk-weaker c.put.result _ _
     (λ f is. answered_back (seen now.store) next now.log chunk f.snapshot c.look_at.ensures.left.read steady (subst (λ l. IsAnswered next l chunk f.snapshot) still is)) c.put.ensures.answered
+
+pub returns-in-Ok-clause-bounds : goal.returns-in-Ok-clause-bounds
+returns-in-Ok-clause-bounds g c =
+    let still = c.look_at.ensures.still c.in-Bytes.generation c.in-Bytes.form c.in-Bytes.bytes c.in-Bytes.bounds (c.in_ok-snapshot.was ∙ ap Ok c.in-Bytes.is) in
+    subst (λ (l : Log). IfOk c.put.result (λ f. HasBounds l c.args.array f.bounds)) still c.put.ensures.bounds
+
+pub returns-in-Ok-clause-miss : goal.returns-in-Ok-clause-miss
+returns-in-Ok-clause-miss g c =
+    let still = c.look_at.ensures.still c.in-Bytes.generation c.in-Bytes.form c.in-Bytes.bytes c.in-Bytes.bounds (c.in_ok-snapshot.was ∙ ap Ok c.in-Bytes.is) in
+    IfOk-weaker c.put.result _ _
+    (λ f after. λ k known none. after k (subst (λ (l : Log). known_after l.events c.args.array ≡ Some k) (sym still) known)
+    ∙ ap (λ n. settled c.look_at.new.self.log k n f.snapshot) (c.in_ok-key.ensures k known)
+    ∙ ap (λ (l : Log). settled l k (chunk_key k c.args.chunk.now) f.snapshot) still) c.put.ensures.after
 
 pub returns-in-Ok-clause-left : goal.returns-in-Ok-clause-left
 returns-in-Ok-clause-left g c =

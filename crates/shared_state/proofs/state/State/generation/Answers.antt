@@ -1,7 +1,7 @@
 use Rattle.std.proofs.Common.{refl, sym, ap, subst, ◌∙◌}
 use Rattle.std.specs.Prelude.{IsSome}
 use Rattle.state_laws.specs.Arrays.{known_after}
-use Rattle.state_laws.proofs.Laws.{generation_by_table}
+use Rattle.state_laws.proofs.Laws.{generation_by_table, one_chunk_in}
 use Rattle.state_laws.specs.Keyed.{IsKeyIn, IsNobodys}
 use Rattle.state_laws.proofs.Laws.{key_known}
 use Rattle.shared_state.proofs.state.State.generation.Goals as goal
@@ -17,21 +17,15 @@ returns-in-Some-clause-by_table g c = λ d has.
     let there = subst (λ key. IsKeyIn h key c.in-Some.array) c.as_bytes.ensures.value c.in-Some.ensures.some in
     c.generation_at.ensures has.array (key_known h c.requires.agrees.1.outline c.in-Some.array c.args.key.now there d has)
 
-pub returns-in-Some-clause-none : goal.returns-in-Some-clause-none
-returns-in-Some-clause-none g c = λ nobody.
+pub returns-in-Some-clause-history : goal.returns-in-Some-clause-history
+returns-in-Some-clause-history g c =
     let h = c.args.self.now.log.events in
     let there = subst (λ key. IsKeyIn h key c.in-Some.array) c.as_bytes.ensures.value c.in-Some.ensures.some in
-    absurd (nobody there.chunk there.has)
-
-pub returns-in-Some-clause-told : goal.returns-in-Some-clause-told
-returns-in-Some-clause-told g c = λ opening start agrees told.
-    let h = c.args.self.now.log.events in
-    let there = subst (λ key. IsKeyIn h key c.in-Some.array) c.as_bytes.ensures.value c.in-Some.ensures.some in
-    let true_to = agrees.holds start told in
+    let state = c.requires.agrees.1 in
     record {
       of_chunk = λ d has.
-          c.generation_at.ensures has.array (key_known h c.requires.agrees.1.outline c.in-Some.array c.args.key.now there d has)
-          ∙ sym (generation_by_table start h c.args.self.now.log.generations d c.args.key.now true_to.legal true_to.generations has);
+          c.generation_at.ensures has.array (key_known h state.outline c.in-Some.array c.args.key.now there d has)
+          ∙ sym (generation_by_table h c.args.self.now.log.generations d c.args.key.now (one_chunk_in h state.outline) state.generations has);
       of_none = λ nobody. absurd (nobody there.chunk there.has);
     }
 
@@ -40,7 +34,7 @@ returns-in-None-clause-by_table g c = λ d has.
     let nobody = subst (IsNobodys c.args.self.now.log.events) c.as_bytes.ensures.value (c.array_of.ensures.none c.in-None.is) in
     absurd (nobody d has)
 
-pub returns-in-None-clause-told : goal.returns-in-None-clause-told
-returns-in-None-clause-told g c = λ opening start agrees told.
+pub returns-in-None-clause-history : goal.returns-in-None-clause-history
+returns-in-None-clause-history g c =
     let nobody = subst (IsNobodys c.args.self.now.log.events) c.as_bytes.ensures.value (c.array_of.ensures.none c.in-None.is) in
     record { of_chunk = λ d has. absurd (nobody d has); of_none = λ none. refl }
