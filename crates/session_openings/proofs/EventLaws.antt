@@ -7,7 +7,7 @@ use Rattle.history.specs.declared.event.Event.{Event}
 use Rattle.history.specs.Answers.{Text}
 use Rattle.history.specs.History.{History}
 use Rattle.history.specs.Own.{Numbered, numbered, numbers_of, fault}
-use Rattle.session_openings.specs.Events.{IsArrayOpened, failure_in, TellsOpenings, HasFailed, AreOpenings, AreTold}
+use Rattle.sessions.specs.OpenEvents.{IsArrayOpened, failure_in, TellsOpenings, HasFailed, AreOpenings, AreTold}
 use Rattle.sessions.specs.Turns.{IsTurn, HasPassed, added_by}
 use Rattle.sessions.proofs.Laws.{own_of_turn, added_then, same_rest}
 use Rattle.sessions.specs.Agreement.{Opening}

@@ -18,7 +18,8 @@ use Rattle.history.specs.Sessions.{Names}
 use Rattle.history.specs.Steps.{IsRow}
 use Rattle.kv_face.specs.Store.{Contents}
 use Rattle.sessions.specs.AnswerBodies.{body_of}
-use Rattle.session_openings.specs.Events.{IsArrayOpened, AreTold, IsRefusalWith, IsUnbound}
+use Rattle.sessions.specs.OpenEvents.{IsArrayOpened, AreTold}
+use Rattle.session_openings.specs.Events.{IsRefusalWith, IsUnbound}
 use Rattle.session_openings.specs.Openings.{AreAllOpened, OpensOne, IsLeafRefused, RefusesOne}
 use Rattle.session_openings.proofs.EventLaws.{added_are, added_nothing, openings_more, failed_told, openings_told}
 use Rattle.session_openings.proofs.RefusalLaws.{memory_with, unseen_with, unseen_or}

@@ -24,7 +24,7 @@ use Rattle.sessions.specs.Caused.{IsCausedAct, IsCausedBy, IsOpenRefusal, by_act
 use Rattle.sessions.specs.Causes.{build_cause}
 use Rattle.sessions.specs.MeaningOpenings.{leaf_of, node_of, leaves_from, leaves_of, build_cause_of, by_built, build_of}
 use Rattle.sessions.proofs.Laws.{build_within}
-use Rattle.session_openings.specs.Events.{IsArrayOpened, TellsOpenings, failure_in, AreTold}
+use Rattle.sessions.specs.OpenEvents.{IsArrayOpened, TellsOpenings, failure_in, AreTold}
 use Rattle.session_openings.specs.Opened.{IsUnbuilt, IsBuiltBy, IsBoundToPlan, IsBoundOrNot, IsLineOpened}
 use Rattle.session_openings.specs.Openings.{AreAllOpened, IsLeafRefused}
 use Rattle.session_openings.proofs.EventLaws.{openings_told}
@@ -112,13 +112,16 @@ module _ (book : BookView Opening) (first now : PassView Event Opening) (plan : 
   abbrev Caused : Type 0
   Caused = (b : Body) × (answer ≡ body_of b) × Cause later b
 
-  caused_none : (b : Body) → answer ≡ body_of b → IsOpenRefusal b → later ≡ names → Caused
-  caused_none b told refusal same = (b, told, subst (λ ns. Cause ns b) (sym same) (λ t line. open_none refusal))
+  caused_none : (b : Body) → answer ≡ body_of b → IsOpenRefusal b → AreTold (added_by first now) answer → later ≡ names → Caused
+  caused_none b told refusal is same = (b, told, subst (λ ns. Cause ns b) (sym same) (λ t line. open_none (subst (AreTold (added_by first now)) told is) refusal))
+
+  count_leaves : length arrays ≡ length (leaves_of plan)
+  count_leaves = let sum = so.opened.count in omega (arith, sum)
 
   caused_bound : (view : View) → built arrays plan.tree ≡ Ok view → answer ≡ body.Opened name (look_of view).dtype (own_transform view).domain (numbers_of (added_by first now)) → later ≡ bind names name view → Caused
   caused_bound view made told bound =
       let b : Body = opened_body name view (numbers_of (added_by first now)) in
-      (b, told, subst (λ ns. Cause ns b) (sym bound) (λ t line. open_made arrays (build-full plan arrays count ∙ ap by_built made)))
+      (b, told, subst (λ ns. Cause ns b) (sym bound) (λ t line. open_made arrays count_leaves so.opened.known so.openings (build-full plan arrays count ∙ ap by_built made)))
 
   told_with : TellsOpenings events answer → failure_in answer ≡ None → AreTold (added_by first now) answer
   told_with told none = openings_told (added_by first now) events answer so.openings so.opened.events_are told none
@@ -126,12 +129,15 @@ module _ (book : BookView Opening) (first now : PassView Event Opening) (plan : 
   tells : (es : List ℕ) → Some events ≡ Some es → es ≡ events
   tells es is = cc
 
+  wants_told : answer ≡ body.Memory → AreTold (added_by first now) answer
+  wants_told wants = told_with (subst (TellsOpenings events) (sym wants) (memory_with events).told) (ap failure_in wants)
+
   no_view : answer ≡ body.Memory → later ≡ names → IsLineOpened book first now names later name plan answer
   no_view wants same = record {
     passed = so.opened.passed;
-    events = told_with (subst (TellsOpenings events) (sym wants) (memory_with events).told) (ap failure_in wants);
+    events = wants_told wants;
     bound = inr (same, ap is_ok_body wants);
-    caused = caused_none old.memory wants tt same;
+    caused = caused_none old.memory wants tt (wants_told wants) same;
     told = λ start is. told_wanting start is wants same;
   }
 
@@ -156,11 +162,14 @@ module _ (book : BookView Opening) (first now : PassView Event Opening) (plan : 
   unbuilt : (e : BuildError) → built arrays plan.tree ≡ Err e → IsUnbuilt e events answer → later ≡ names → IsLineOpened book first now names later name plan answer
   unbuilt (build_error.Refused path cause) made told same = record {
     passed = so.opened.passed;
-    events = told_with (subst (TellsOpenings events) (sym told) (λ es is. tells es is)) (ap failure_in told);
+    events = refusal_told;
     bound = inr (same, ap is_ok_body told);
-    caused = caused_none (old.refused_spec path (build_cause_of cause) events) (told ∙ ap (λ c. body.RefusedSpec path c events) (sym (same_cause cause))) tt same;
+    caused = caused_none (old.refused_spec path (build_cause_of cause) events) (told ∙ ap (λ c. body.RefusedSpec path c events) (sym (same_cause cause))) tt refusal_told same;
     told = λ start is. told_unbuilt start path cause is made told same;
   }
+    where
+      refusal_told : AreTold (added_by first now) answer
+      refusal_told = told_with (subst (TellsOpenings events) (sym told) (λ es is. tells es is)) (ap failure_in told)
   unbuilt build_error.Memory made told same = no_view told same
 
   pub line_opened : IsBuiltBy (built arrays plan.tree) events name names later answer → IsLineOpened book first now names later name plan answer
@@ -181,7 +190,7 @@ line_refused book first now plan names name answer refused = record {
   passed = refused.passed;
   events = refused.events;
   bound = inr (refl, ap is_ok_body refused.refused.1 ∙ unbound_not_ok refused.refused.0 refused.refused.2);
-  caused = (refused.refused.0, refused.refused.1, λ t line. open_none refused.refused.2);
+  caused = (refused.refused.0, refused.refused.1, λ t line. open_none (subst (AreTold (added_by first now)) refused.refused.1 refused.events) refused.refused.2);
   told = λ start is. let p = refused.told start is in (p.0, p.1, λ t line. p.2 names t line name (build_of plan));
 }
 

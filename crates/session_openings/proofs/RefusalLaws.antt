@@ -12,7 +12,8 @@ use Rattle.sessions.specs.Caused.{IsOpenRefusal}
 use Rattle.sessions.specs.Causes.{metadata_body}
 use Rattle.meta_forms.specs.declared.error.MetaError.{MetaError}
 use Rattle.meta_forms.specs.declared.error.MetaError.TheVariants as meta
-use Rattle.session_openings.specs.Events.{openings_in, TellsOpenings, IsRefusalWith}
+use Rattle.sessions.specs.OpenEvents.{openings_in, TellsOpenings}
+use Rattle.session_openings.specs.Events.{IsRefusalWith}
 use Rattle.sessions.specs.Opening.{open_answer, IsUnseen}
 use Rattle.sessions.specs.Status.{is_ok_body}
 use Rattle.sessions.specs.declared.OpenError.{OpenError}

@@ -25,6 +25,7 @@ pub use Rattle.sessions.specs.Opening
 pub use Rattle.sessions.specs.Reading
 pub use Rattle.sessions.specs.Recording
 pub use Rattle.sessions.specs.Caused
+pub use Rattle.sessions.specs.OpenEvents
 pub use Rattle.sessions.specs.Commits
 pub use Rattle.sessions.specs.Reads
 pub use Rattle.sessions.specs.Form

@@ -15,7 +15,7 @@ use Rattle.history.specs.Steps.{IsRow}
 use Rattle.kv_face.specs.Store.{Contents}
 use Rattle.sessions.specs.AnswerBodies.{body_of}
 use Rattle.sessions.specs.MeaningOpenings.{leaves_of, build_of}
-use Rattle.session_openings.specs.Events.{AreTold}
+use Rattle.sessions.specs.OpenEvents.{AreTold}
 use Rattle.sessions.specs.Caused.{IsCausedAct}
 use Rattle.sessions.specs.Turns.{HasPassed, added_by}
 use Rattle.sessions.specs.Standing.{session_state, transaction_in}

@@ -10,7 +10,8 @@ use Rattle.history.specs.Sessions.{Names}
 use Rattle.history.specs.Steps.{IsRow}
 use Rattle.kv_face.specs.Store.{Contents}
 use Rattle.sessions.specs.AnswerBodies.{body_of}
-use Rattle.session_openings.specs.Events.{IsArrayOpened, AreTold, IsUnbound}
+use Rattle.sessions.specs.OpenEvents.{IsArrayOpened, AreTold}
+use Rattle.session_openings.specs.Events.{IsUnbound}
 use Rattle.session_openings.specs.declared.opening.OpenedArrays.{OpenedArrays}
 use Rattle.sessions.specs.Opening.{AreOpenedBy}
 use Rattle.sessions.specs.Turns.{HasPassed, added_by}

@@ -10,7 +10,7 @@ ghost use Rattle.indexmap.specs.IndexMap.{get_by_text};
 ghost use Rattle.sessions.specs.AnswerBodies.{body_of};
 ghost use Rattle.sessions.specs.Caused.{IsCausedBy};
 ghost use Rattle.sessions.specs.MeaningOpenings.{leaf_of, node_of, leaves_from, leaves_of, build_of};
-ghost use Rattle.session_openings.specs.Events.{AreTold};
+ghost use Rattle.sessions.specs.OpenEvents.{AreTold};
 ghost use Rattle.session_openings.specs.Opened.{IsBoundOrNot, IsBuiltBy, IsLineOpened};
 ghost use Rattle.session_openings.specs.Openings.{AreAllOpened, OpensOne, IsLeafRefused, RefusesOne, HasRoom};
 ghost use Rattle.session_openings.specs.Wanted.{MayBeAsked, MayOpen, wanted_leaf};

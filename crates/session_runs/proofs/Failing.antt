@@ -11,7 +11,7 @@ use Rattle.history.specs.Own.{Numbered, numbers_of, own_events}
 use Rattle.line_parts.specs.declared.error.LineError.{LineError}
 use Rattle.line_parts.specs.declared.error.LineError.TheVariants as line
 use Rattle.line_parts.specs.declared.SpecError.TheVariants as spec
-use Rattle.session_openings.specs.Events.{AreTold, IsArrayOpened, failure_in}
+use Rattle.session_openings.specs.OpenEvents.{AreTold, IsArrayOpened, failure_in}
 use Rattle.session_openings.specs.Failures.{TellsFailures, failures_by, failures_in, failures_of}
 use Rattle.session_openings.specs.Refusals.{refusal_body}
 use Rattle.session_openings.specs.Turns.{HasPassed, added_by}

@@ -75,10 +75,10 @@ module _ (fixed : Fixed) (owner : ℕ) (events : History) where
 
   act_foreign : (s : SessionState) (line : ℕ) (act : Act) (names : Names) (left : Option Transaction) (answer : old.Body) (own : List Numbered) → IsCausedAct fixed owner events s line act names left answer own → IsActIn s.transaction act
       → ((t : Transaction) → s.transaction ≡ Some t → own ≡ [] → IsQuiet owner (length events) events t) → IsForeignSeen owner events (body_of answer)
-  act_foreign s line act names left answer own (open_made refs made) fits calm = tt
-  act_foreign s line act names left answer own (open_none {answer = given} refusal) fits calm = other_foreign owner events given (λ key read now is. subst IsOpenRefusal is refusal)
+  act_foreign s line act names left answer own (open_made refs count known opened made) fits calm = tt
+  act_foreign s line act names left answer own (open_none {answer = given} told refusal) fits calm = other_foreign owner events given (λ key read now is. subst IsOpenRefusal is refusal)
   act_foreign s line act names left answer own view_made fits calm = tt
-  act_foreign s line act names left answer own (read_given words marked count) fits calm = tt
+  act_foreign s line act names left answer own (read_given words marked inside count) fits calm = tt
   act_foreign s line act names left answer own (read_cut shrunk) fits calm = tt
   act_foreign s line act names left answer own (read_spoilt {key = key} {cause = cause}) fits calm = spoilt_foreign owner events key cause
   act_foreign s line act names left answer own (read_failing before added fetched) fits calm = tt

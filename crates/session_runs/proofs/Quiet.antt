@@ -56,10 +56,10 @@ module _ (owner seen : ℕ) (events : History) where
   -- behind an act of the session's transaction, or outside of one
   act_quiet : (fixed : Fixed) (s : SessionState) (line : ℕ) (act : Act) (names : Names) (left : Option Transaction) (answer : old.Body) (own : List Numbered) → IsCausedAct fixed owner events s line act names left answer own → body_of answer ≢ Memory → s.seen ≡ seen
       → IsActIn s.transaction act → HasQuiet owner seen events s.transaction → IsQuietRow owner seen events left own
-  act_quiet fixed s line act names left answer own (open_made refs made) other at fits quiet = outside_quiet s.transaction _ fits
-  act_quiet fixed s line act names left answer own (open_none refusal) other at fits quiet = outside_quiet s.transaction _ fits
+  act_quiet fixed s line act names left answer own (open_made refs count known opened made) other at fits quiet = outside_quiet s.transaction _ fits
+  act_quiet fixed s line act names left answer own (open_none told refusal) other at fits quiet = outside_quiet s.transaction _ fits
   act_quiet fixed s line act names left answer own view_made other at fits quiet = still_quiet s.transaction [] quiet tt
-  act_quiet fixed s line act names left answer own (read_given {view = view} {marks = marks} words marked count) other at fits quiet =
+  act_quiet fixed s line act names left answer own (read_given {view = view} {marks = marks} words marked inside count) other at fits quiet =
       still_quiet left [] (subst (λ n. HasQuiet owner n events left) at (quiet_marked owner s.seen events line s.transaction view words marks marked (subst (λ n. HasQuiet owner n events s.transaction) (sym at) quiet))) tt
   act_quiet fixed s line act names left answer own (read_cut shrunk) other at fits quiet = still_quiet s.transaction [] quiet tt
   act_quiet fixed s line act names left answer own read_spoilt other at fits quiet = still_quiet s.transaction [] quiet tt

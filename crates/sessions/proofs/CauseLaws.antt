@@ -16,7 +16,7 @@ use Rattle.history.specs.History.{History}
 use Rattle.history.specs.Lines.{Downsampling, Line, committing, resizing}
 use Rattle.history.specs.Own.{Numbered, fault, fault_at, numbered, resized_event}
 use Rattle.history.specs.ReadRows.{IsFetched, IsShrunkBy, with_read}
-use Rattle.history.specs.Refusals.{HasTooManyCut, IsNotAtomicResize}
+use Rattle.history.specs.Refusals.{HasTooManyCut, IsNotAtomicResize, cells_outside}
 use Rattle.history.specs.ResizeRows.{MayResize}
 use Rattle.history.specs.Sessions.{Names, SessionState, plain_mode, reader}
 use Rattle.history.specs.Shown.{AreMarked, after_read}
@@ -148,7 +148,8 @@ module _ (book : BookView Opening) (old new : PassView Event Opening) (rested : 
           subst (IsCausedBy book old new state line asked names (transaction_in (behind st later))) (sym printed)
           (subst (λ left. IsCausedBy book old new state line asked names left (body_of (values_body v down is.words))) (left_of st reads_by)
           (read_by (with_read (transaction_in st) v is.words is.read.marks) (values_body v down is.words) [] (found_all v is.read.sound.targets) (none_read book old new rested is.passed)
-          (read_given is.words (subst (λ u. AreMarked new.seen (length old.seen) u v is.read.marks) (sym reads_by) is.read.marked) is.read.count)))
+          (read_given is.words (subst (λ u. AreMarked new.seen (length old.seen) u v is.read.marks) (sym reads_by) is.read.marked)
+          (subst (λ u. cells_outside new.seen is.read.marks u v ≡ []) (sym reads_by) is.read.inside) is.read.count)))
       by (inr wants) = subst (IsCausedBy book old new state line asked names (transaction_in (behind st later))) (sym wants) (read_wants (transaction_in (behind st later)) (none_read book old new rested is.passed))
 
   -- one that wasn't

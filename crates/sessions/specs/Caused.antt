@@ -1,6 +1,7 @@
 -- What a line of a session is answered over any store: a row of the history's session, less what that says of bytes, and of what an open line found.
 use Rattle.std.specs.Prelude.{◌≡◌, ◌≤◌, ℕ, ◌+◌, List, [], ◌∷◌, ◌++◌, length, take, Option, Some, None, Ok, Err}
 use Rattle.std.specs.FinMap as finmap
+use Rattle.std.specs.List.{AllByRecursion}
 use Rattle.chunk_forms.specs.declared.form.Damage.{Damage}
 use Rattle.history.specs.declared.event.Event.{Event}
 use Rattle.history.specs.declared.event.Mode.{Mode}
@@ -14,7 +15,8 @@ use Rattle.history.specs.Lines.{SpecLeaf, Build, Downsampling, Line}
 use Rattle.history.specs.Own.{Numbered, numbers_of, fault, fault_at, resized_event}
 use Rattle.history.specs.ReadRows.{IsFetched, IsOnMount, IsShrunkBy, with_read}
 use Rattle.history.specs.Reads.{Marks}
-use Rattle.history.specs.Refusals.{HasTooManyCut, IsNotAtomicResize}
+use Rattle.history.specs.Refs.{IsKnownRef}
+use Rattle.history.specs.Refusals.{HasTooManyCut, IsNotAtomicResize, cells_outside}
 use Rattle.history.specs.ResizeRows.{MayResize, shape_after}
 use Rattle.history.specs.Sessions.{Names, SessionState, bind, new_transaction, reader}
 use Rattle.history.specs.Shown.{AreMarked}
@@ -28,6 +30,7 @@ use Rattle.session_turns.specs.Answers.{fixed_by}
 use Rattle.session_turns.specs.Bodies.{body_of}
 use Rattle.session_turns.specs.CommitCauses.{IsCausedCommit}
 use Rattle.session_turns.specs.Turns.{added_by}
+use Rattle.sessions.specs.OpenEvents.{AreTold, IsArrayOpened}
 use Rattle.stack_driver.specs.declared.ComposeError.{ComposeError}
 use Rattle.stack_driver.specs.declared.error.RenewError.TheVariants.{Refused}
 use Rattle.stack_driver.specs.declared.view.View.{View}
@@ -51,15 +54,18 @@ IsOpenRefusal answer = ⊥
 
 -- what an act is answered, over the events that are seen in the end: the names and the transaction then, and the events that are added
 pub data IsCausedAct (fixed : Fixed) (owner : ℕ) (events : History) (s : SessionState) (line : ℕ) : Act → Names → Option Transaction → old.Body → List Numbered → Type 0 where
-  -- open, Opened: the view that the Spec builds of some arrays
-  open_made : {name : Text} {leaves : List SpecLeaf} {build : Build} {view : View} {own : List Numbered} (refs : List Reference) → build refs ≡ Ok view
+  -- open, Opened: the view that the Spec builds of known arrays, one for each leaf; the events are openings
+  open_made : {name : Text} {leaves : List SpecLeaf} {build : Build} {view : View} {own : List Numbered} (refs : List Reference) → length refs ≡ length leaves → AllByRecursion (IsKnownRef events) refs → AllByRecursion IsArrayOpened own
+      → build refs ≡ Ok view
       → IsCausedAct fixed owner events s line (opens name leaves build) (bind s.names name view) s.transaction (opened_body name view (numbers_of own)) own
-  -- open, refused or failed; what it found is not said
-  open_none : {name : Text} {leaves : List SpecLeaf} {build : Build} {answer : old.Body} {own : List Numbered} → IsOpenRefusal answer → IsCausedAct fixed owner events s line (opens name leaves build) s.names s.transaction answer own
+  -- open, refused or failed, which tells its events; what it found is not said
+  open_none : {name : Text} {leaves : List SpecLeaf} {build : Build} {answer : old.Body} {own : List Numbered} → AreTold own (body_of answer) → IsOpenRefusal answer
+      → IsCausedAct fixed owner events s line (opens name leaves build) s.names s.transaction answer own
   -- view, Viewed
   view_made : {name : Text} {view : View} → IsCausedAct fixed owner events s line (binds name view) (bind s.names name view) s.transaction (viewed_body name view) []
-  -- read, Values: a word for each cell, by marks that the read may have
-  read_given : {view : View} {down : Option Downsampling} {marks : Marks} (words : List ℕ) → AreMarked events s.seen (reader line s.transaction) view marks → count_answer (look_of view).dims ≡ Ok (length words)
+  -- read, Values: a word for each cell, by marks that the read may have, by which no cell was outside
+  read_given : {view : View} {down : Option Downsampling} {marks : Marks} (words : List ℕ) → AreMarked events s.seen (reader line s.transaction) view marks → cells_outside events marks (reader line s.transaction) view ≡ []
+      → count_answer (look_of view).dims ≡ Ok (length words)
       → IsCausedAct fixed owner events s line (reads view down) s.names (with_read s.transaction view words marks) (values_body view down words) []
   -- read, Shrunk
   read_cut : {view : View} {down : Option Downsampling} {key : Key} {now : ℕ} → IsShrunkBy events s.seen (reader line s.transaction) view key now

@@ -2,6 +2,7 @@ pub mod Bodies
 pub mod Commits
 pub mod Writes
 pub mod Reads
+pub mod OpenEvents
 pub mod Caused
 -- names of crates below, given on to those above
 pub use Rattle.session_turns.specs.Bodies as AnswerBodies

@@ -19,7 +19,7 @@ use Rattle.history.specs.Own.{fault}
 use Rattle.history.specs.ReadRows.{IsFetched, IsOnMount, IsShrunkBy}
 use Rattle.history.specs.Reads.{Marks, has_mark, mark_of, marked_world, unwritten, visible_values}
 use Rattle.history.specs.Refs.{HasKnownRefs}
-use Rattle.history.specs.Refusals.{IsDamagedRead, IsNeeded}
+use Rattle.history.specs.Refusals.{IsDamagedRead, IsNeeded, cells_outside}
 use Rattle.history.specs.Shown.{AreMarked, after_read}
 use Rattle.history.specs.Staged.{IsFound, IsStaged}
 use Rattle.history.specs.Writes.{put, puts_of, puts_of_op}
@@ -71,7 +71,7 @@ use Rattle.transactions.proofs.HadLaws.{at_one, had_all}
 use Rattle.transactions.proofs.KeepLaws.{flip, place_behind}
 use Rattle.transactions.proofs.PieceLaws.{known_pieces, new_chunks}
 use Rattle.transactions.proofs.ReadMarks.{IsNewTo, all_apart, are_marked, chunk_needed, each_needed, each_unmarked, news_are, of_news, sorted_apart}
-use Rattle.transactions.proofs.StrayLaws.{IsStrayIn, found_of, shrunk_read, stray_or_inside, strays_are}
+use Rattle.transactions.proofs.StrayLaws.{IsStrayIn, found_of, outside_stray, shrunk_read, stray_or_inside, strays_are}
 use Rattle.transactions.proofs.TellingLaws.{IsPieceOf, all_fit, all_sized, all_typed, pieces_are, told_at}
 use Rattle.transactions.proofs.TxnLaws.{all_with, txn_later}
 use Rattle.transactions.proofs.ViewCellLaws.{IsCellOf, cells_of_view, each_of, one_of}
@@ -273,6 +273,18 @@ module _ (opening : Opening) (seen : ℕ) (events : History) (t : TxnSeen) (v : 
         | inr stray ↦ let no : Contains [] stray.0 = subst (λ ss. Contains ss stray.0) none stray.1 in let lt = no.1 in absurd (omega (arith, lt))
       ])
 
+  -- so by the marks no cell that it reads did
+  pub none_outside : strays_by t cells fetched ≡ [] → cells_outside events read_marks (transaction_of t) v ≡ []
+  none_outside none =
+      empty_if (cells_outside events read_marks (transaction_of t) v) (λ x there.
+      let stray = outside_stray opening events v t read_marks r.of_view.txn.outline (leaves_are opening events t v cells r.of_view) r.of_view.sites r.of_view.txn.staged cells.pieces (had_by t cells fetched)
+      (needed_cells opening events t v cells r.of_view) (pieces_in opening events t v cells r.of_view) r.of_view.located.pieces.each have x there in
+      let no : Contains [] stray.0 = subst (λ ss. Contains ss stray.0) none stray.1 in let lt = no.1 in omega (arith, lt))
+    where
+      empty_if : (xs : List Cell) → ((x : Cell) → Contains xs x → ⊥) → xs ≡ []
+      empty_if [] never = refl
+      empty_if (x ∷ xs) never = absurd (never x (0, omega arith, refl))
+
   -- what is kept of it
   pub txn_read : (words : List ℕ) → IsTxnIn opening events (with_read t v words fetched)
   txn_read words = by t.mode.repeatable_read
@@ -295,11 +307,12 @@ module _ (opening : Opening) (seen : ℕ) (events : History) (t : TxnSeen) (v : 
       by true = λ i. record { line = t.line; mode = t.mode; ops = t.ops ++ Read v words ∷ []; marks = map-append (λ (k : Kept). (chunk_at k.id, k.mark)) t.kept fetched i }
 
   -- the read that it was
-  pub has_read : (new : TxnSeen) (words : List ℕ) → new ≡ with_read t v words fetched → length words ≡ length cells.leaves → AllByRecursion (IsWord (look_of v).dtype) words
+  pub has_read : (new : TxnSeen) (words : List ℕ) → new ≡ with_read t v words fetched → length words ≡ length cells.leaves → AllByRecursion (IsWord (look_of v).dtype) words → strays_by t cells fetched ≡ []
       → ((start : Contents) → opening.store.contents ≡ Some start → map Some words ≡ visible_values start events (mark_of read_marks) t.ops v) → HasRead opening seen events t new v words
-  has_read new words is count words_typed shown = record {
+  has_read new words is count words_typed none shown = record {
     marks = read_marks;
     marked = marked;
+    inside = none_outside none;
     shown = shown;
     count = r.of_view.count ∙ ap Ok (sym count);
     sound = record {

@@ -20,7 +20,7 @@ use Rattle.history.specs.Commit.{Fixed}
 use Rattle.history.specs.History.{History}
 use Rattle.history.specs.ReadRows.{IsFetched, IsShrunkBy}
 use Rattle.history.specs.Reads.{Marks, mark_of, visible_values}
-use Rattle.history.specs.Refusals.{IsDamagedRead}
+use Rattle.history.specs.Refusals.{IsDamagedRead, cells_outside}
 use Rattle.history.specs.Shown.{AreMarked, after_read}
 use Rattle.history.specs.Own.{fault}
 use Rattle.history.specs.Staged.{IsFound, IsStaged}
@@ -40,11 +40,12 @@ use Rattle.transactions.specs.declared.error.WriteError.{WriteError}
 use Rattle.transactions.specs.declared.error.WriteError.TheVariants as write
 use Rattle.chunk_fetches.specs.declared.error.ReadError.TheVariants as read
 
--- words of a read, by marks that it may have: one for each cell of the view, of its dtype, and where the store told its contents at the
--- start what the transaction sees by the marks. Under repeatable read the read and the marks are kept
+-- words of a read, by marks that it may have, by which no cell of it was outside: one for each cell of the view, of its dtype, and where the
+-- store told its contents at the start what the transaction sees by the marks. Under repeatable read the read and the marks are kept
 pub record HasRead (opening : Opening) (seen : ℕ) (events : History) (old new : TxnSeen) (v : View) (words : List ℕ) : Type 0 where
   pub marks : Marks
   pub marked : AreMarked events seen (transaction_of old) v marks
+  pub inside : cells_outside events marks (transaction_of old) v ≡ []
   pub shown : (start : Contents) → opening.store.contents ≡ Some start → map Some words ≡ visible_values start events (mark_of marks) old.ops v
   pub count : count_answer (look_of v).dims ≡ Ok (length words)
   pub sound : IsStaged (Read v words)

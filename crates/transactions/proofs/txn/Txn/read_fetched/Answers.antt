@@ -29,7 +29,7 @@ returns-in-Ok-clause-read g c =
     if_ok_four c.show.result c.show.ensures.ok c.show.ensures.count c.show.ensures.shown c.show.ensures.typed (λ words is count shown of_dtype seen r.
     subst (λ (p : PassView Event Opening). HasRead fixed seen p.seen t c.show.new.self v words) (sym c.in-Ok.ensures.ok)
     (has_read fixed seen events t v cells fetched r c.show.new.self words is count
-    (of_dtype events (leaves_are fixed events t v cells r.of_view) r.of_view.sites r.of_view.located r.of_view.txn.staged (typed fixed seen events t v cells fetched r)) (λ start told.
+    (of_dtype events (leaves_are fixed events t v cells r.of_view) r.of_view.sites r.of_view.located r.of_view.txn.staged (typed fixed seen events t v cells fetched r)) none (λ start told.
     shown events (marked_world start events (mark_of (read_marks fixed seen events t v cells fetched r))) (leaves_are fixed events t v cells r.of_view) r.of_view.sites r.of_view.located r.of_view.txn.staged
     (all_told fixed seen events t v cells fetched r start told none))))
 
