@@ -54,11 +54,11 @@ pub record IsRun (scripts : List (List ℕ)) (old new : List Part) (history : Hi
   -- the failed calls that a log tells are those among its session's events, each once and in order: none is told that didn't happen, and none is left out
   pub failed : (k : ℕ) (script : List ℕ) (log : List Answer) → slice_get scripts k ≡ Some script → slice_get logs k ≡ Some log
       → failures_by log ≡ failures_of (own_events k 1 history)
-  -- each line is answered from where the lines before it left its session: by its own refusal, by want of memory, or for a cause that the history has,
-  -- which for conflict, shrunk, not_atomic, too_many_chunks and store_failed is told
+  -- each line that is answered is so from where the lines before it left its session: by its own refusal, by want of memory, or for a cause that the
+  -- history has, which for conflict, shrunk, not_atomic, too_many_chunks and store_failed is told
   pub caused : (k : ℕ) (script : List ℕ) (log : List Answer) → slice_get scripts k ≡ Some script → slice_get logs k ≡ Some log
       → IsCausedLog (fixed_over old finmap.empty) (names_of old) history k script log
-  -- each conflict names a chunk that a later commit or resize of another session touched
+  -- each conflict names a chunk that a later commit, key of a commit, or resize of another session touched
   pub foreign : AreForeign history logs
   pub owners : AllByRecursion (λ (e : Event). e.owner < length scripts) history
   pub back : AreBack old new history unfinished

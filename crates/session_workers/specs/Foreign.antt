@@ -7,7 +7,7 @@ use Rattle.answer_text.specs.declared.answer.Body.TheVariants.{Conflict}
 use Rattle.history.specs.History.{History}
 use Rattle.serial_runs.specs.Foreign.{IsForeignConflict}
 
--- a conflict names the key of a chunk that event `now`, a commit or a resize of another session, touches, behind event `read`
+-- a conflict names the key of a chunk that event `now`, a commit, a key of one or a resize, of another session, touches; `read` is below `now`
 abbrev pub IsForeignAnswer : ℕ → History → Body → Type 0
 IsForeignAnswer owner history (Conflict key read now) = IsForeignConflict owner history key read now
 IsForeignAnswer owner history answer = Unit {0}

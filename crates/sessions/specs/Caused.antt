@@ -41,14 +41,14 @@ use Rattle.turn_book.specs.Passes.{BookView, PassView}
 
 -- an answer to an open line that binds no name: what it asks for or the view over it is refused, a call of a store failed, or memory was wanting
 abbrev pub IsOpenRefusal : old.Body → Type 0
-IsOpenRefusal (old.bad_spec path events) = Unit {0}
+IsOpenRefusal (old.bad_spec path (Some events)) = Unit {0}
 IsOpenRefusal (old.refused_spec path cause events) = Unit {0}
 IsOpenRefusal (old.not_found at path events) = Unit {0}
 IsOpenRefusal (old.exists at path events) = Unit {0}
 IsOpenRefusal (old.path_taken at path events) = Unit {0}
 IsOpenRefusal (old.mismatch at member path events) = Unit {0}
 IsOpenRefusal (old.bad_metadata key why events) = Unit {0}
-IsOpenRefusal (old.store_failed event done events) = Unit {0}
+IsOpenRefusal (old.store_failed event [] (Some events)) = Unit {0}
 IsOpenRefusal old.memory = Unit {0}
 IsOpenRefusal answer = ⊥
 
@@ -63,14 +63,14 @@ pub data IsCausedAct (fixed : Fixed) (owner : ℕ) (events : History) (s : Sessi
       → IsCausedAct fixed owner events s line (opens name leaves build) s.names s.transaction answer own
   -- view, Viewed
   view_made : {name : Text} {view : View} → IsCausedAct fixed owner events s line (binds name view) (bind s.names name view) s.transaction (viewed_body name view) []
-  -- read, Values: a word for each cell, by marks that the read may have, by which no cell was outside
+  -- read, Values: a word for each cell, by marks that the read may have, by which no cell was outside that the transaction hadn't written
   read_given : {view : View} {down : Option Downsampling} {marks : Marks} (words : List ℕ) → AreMarked events s.seen (reader line s.transaction) view marks → cells_outside events marks (reader line s.transaction) view ≡ []
       → count_answer (look_of view).dims ≡ Ok (length words)
       → IsCausedAct fixed owner events s line (reads view down) s.names (with_read s.transaction view words marks) (values_body view down words) []
   -- read, Shrunk
   read_cut : {view : View} {down : Option Downsampling} {key : Key} {now : ℕ} → IsShrunkBy events s.seen (reader line s.transaction) view key now
       → IsCausedAct fixed owner events s line (reads view down) s.names s.transaction (old.shrunk key now) []
-  -- read, Damaged; which bytes are is not said
+  -- read, Damaged; neither which chunk nor which bytes are is said
   read_spoilt : {view : View} {down : Option Downsampling} {key : Key} {cause : Damage} → IsCausedAct fixed owner events s line (reads view down) s.names s.transaction (old.damaged key cause) []
   -- read, StoreFailed: the failed call is the last event, of a mount of which the read fetches a chunk
   read_failing : {view : View} {down : Option Downsampling} {mount : Text} (before : History) → events ≡ before ++ fault owner mount ∷ [] → IsFetched before (reader line s.transaction) view mount
@@ -95,7 +95,7 @@ pub data IsCausedAct (fixed : Fixed) (owner : ℕ) (events : History) (s : Sessi
   -- resize, NotAtomic
   resize_apart : {array : Reference} {shape : List ℕ} {keys : ℕ} → ¬ HasTooManyCut (known_after events array.number) shape → IsNotAtomicResize fixed events array.number shape keys
       → IsCausedAct fixed owner events s line (resizes array shape) s.names s.transaction (old.not_atomic keys) []
-  -- resize, Damaged; which bytes are is not said
+  -- resize, Damaged; neither which chunk nor which bytes are is said
   resize_spoilt : {array : Reference} {shape : List ℕ} {key : Key} {cause : Damage} → MayResize fixed events array.number shape
       → IsCausedAct fixed owner events s line (resizes array shape) s.names s.transaction (old.damaged key cause) []
   -- resize, StoreFailed: the failed call is the last event, of the array's mount

@@ -40,8 +40,9 @@ use Rattle.transactions.specs.declared.error.WriteError.{WriteError}
 use Rattle.transactions.specs.declared.error.WriteError.TheVariants as write
 use Rattle.chunk_fetches.specs.declared.error.ReadError.TheVariants as read
 
--- words of a read, by marks that it may have, by which no cell of it was outside: one for each cell of the view, of its dtype, and where the
--- store told its contents at the start what the transaction sees by the marks. Under repeatable read the read and the marks are kept
+-- words of a read, by marks that it may have, by which no cell was outside that the transaction hadn't written: one for each cell of the view,
+-- of its dtype, and where the store told its contents at the start what the transaction sees by the marks. Under repeatable read the read and
+-- the marks are kept
 pub record HasRead (opening : Opening) (seen : ℕ) (events : History) (old new : TxnSeen) (v : View) (words : List ℕ) : Type 0 where
   pub marks : Marks
   pub marked : AreMarked events seen (transaction_of old) v marks
